@@ -66,6 +66,19 @@ fn finished(values: ValueBuilder) -> Result<Value, ReadError>
     }
 }
 
+// Nothing yet of the value of a document, with room for a node for each element, and for some more: a list of elements has a
+// node of its own, and so has an attribute. Where there is no memory for that, it begins without.
+fn room_for(alloc: Global, items: &Items) -> ValueBuilder
+    ensures { result ≡ nothing_of 1048576 }
+{
+    let count = items.root().element_hint();
+    let room = count.saturating_add(count / 8 + 16);
+    match ValueBuilder::with_capacity(alloc, MOST_NODES, room) {
+        Ok(values) => values,
+        Err(_) => ValueBuilder::new(alloc, MOST_NODES),
+    }
+}
+
 /// The value of a document that is valid against the global element with this number: in each map of the set, one of the
 /// root type of the element, and its items are the treated items of the document. No other value of the type has these
 /// items.
@@ -91,7 +104,7 @@ pub fn read_value<L: Ledger>(
     ensures later { steps.old ≤ steps.new }
 {
     see_simples(set);
-    let mut values = ValueBuilder::new(alloc, MOST_NODES);
+    let mut values = room_for(alloc, items);
     match walk_root(alloc, set, root, items, &mut values, steps) {
         Err(CheckError::Invalid { at, why }) => Err(ReadError::Invalid { at, why }),
         Err(CheckError::Memory) => Err(ReadError::Memory),

@@ -7,28 +7,28 @@ use Rattle.xer_read.proofs.Valuing.{value-allowed, of-counted, only-counted}
 use Rattle.xer_read.proofs.reading.read_value.Goals as goal
 
 pub walk_root-requires-clause-stands : goal.walk_root-requires-clause-stands
-walk_root-requires-clause-stands g c = ((nothing_of 0).kept, starts 1048576 c.new-values.result c.new-values.ensures)
+walk_root-requires-clause-stands g c = ((nothing_of 0).kept, starts 1048576 c.room_for-values.result c.room_for-values.ensures)
 
 pub finished-requires-clause-limit : goal.finished-requires-clause-limit
-finished-requires-clause-limit g c = c.in-Ok.ensures.limit ∙ ap (λ (b : Built). b.most) c.new-values.ensures
+finished-requires-clause-limit g c = c.in-Ok.ensures.limit ∙ ap (λ (b : Built). b.most) c.room_for-values.ensures
 
 pub finished-requires-clause-made : goal.finished-requires-clause-made
 finished-requires-clause-made g c =
-    let h = c.in-Ok.ensures.judged (nothing_of 0).kept (starts 1048576 c.new-values.result c.new-values.ensures) in
+    let h = c.in-Ok.ensures.judged (nothing_of 0).kept (starts 1048576 c.room_for-values.result c.room_for-values.ensures) in
     (h.value, h.stands, value-allowed c.args.set.now c.in-Ok.ensures.linked c.args.root c.requires.root c.args.items.now h.value h.holds)
 
 pub returns-clause-read : goal.returns-clause-read
 returns-clause-read g c = λ M is_map.
-    let h = c.in-Ok.ensures.judged (nothing_of 0).kept (starts 1048576 c.new-values.result c.new-values.ensures) in
+    let h = c.in-Ok.ensures.judged (nothing_of 0).kept (starts 1048576 c.room_for-values.result c.room_for-values.ensures) in
     of-counted c.args.set.now c.in-Ok.ensures.linked c.args.root c.requires.root c.args.items.now h.value h.holds M is_map c.finished.result (FirstFault (parts_of c.args.set.now) c.args.root c.args.items.now)
     (c.finished.ensures h.value h.stands)
 
 pub returns-clause-alone : goal.returns-clause-alone
 returns-clause-alone g c = λ M is_map.
-    let h = c.in-Ok.ensures.judged (nothing_of 0).kept (starts 1048576 c.new-values.result c.new-values.ensures) in
+    let h = c.in-Ok.ensures.judged (nothing_of 0).kept (starts 1048576 c.room_for-values.result c.room_for-values.ensures) in
     only-counted c.args.set.now c.in-Ok.ensures.linked c.args.root c.requires.root c.args.items.now h.value h.holds c.see_simples.ensures M is_map c.finished.result (c.finished.ensures h.value h.stands)
 
 pub returns-in-Err-Invalid-clause-read : goal.returns-in-Err-Invalid-clause-read
 returns-in-Err-Invalid-clause-read g c = λ M is_map.
-    let fault = rw c.in-Err-Invalid.field-0-is at (c.in-Err-Invalid.ensures.judged (nothing_of 0).kept (starts 1048576 c.new-values.result c.new-values.ensures)) in
+    let fault = rw c.in-Err-Invalid.field-0-is at (c.in-Err-Invalid.ensures.judged (nothing_of 0).kept (starts 1048576 c.room_for-values.result c.room_for-values.ensures)) in
     rw c.in-Err-Invalid.field-0-is fault
