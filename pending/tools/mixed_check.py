@@ -1,5 +1,4 @@
 import sys, os, filecmp
-print(open('/work/h/NOTE.md').read(),flush=True)
 sys.path.insert(0,'/opt/rattle/bin')
 import rtlib
 from rtlib import KIT
