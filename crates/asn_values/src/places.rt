@@ -128,7 +128,7 @@ fn places_by_form<'a>(
     match &label.form {
         Form::Bool => Ok(no_places(alloc, matches!(value, ValueLabel::Bool(_)))),
         Form::Int { lo, hi } => match value {
-            ValueLabel::Int(z) => Ok(no_places(alloc, is_within(*lo, *hi, *z))),
+            ValueLabel::Int(z) => Ok(no_places(alloc, is_within(*lo, *hi, z.get()))),
             _ => Ok(None),
         },
         Form::Numbers { numbers } => match value {

@@ -31,7 +31,7 @@ fn write_whole(out: &mut String, label: &ValueLabel) -> Result<(), Memory>
     ensures { OnOk result (string_bytes out.new ≡ string_bytes out.old ++ spelled_whole label.now) }
 {
     if let ValueLabel::Int(n) = label {
-        out.push_str(Buffer::new().format(*n))?;
+        out.push_str(Buffer::new().format(n.get()))?;
     }
     Ok(())
 }
@@ -80,7 +80,7 @@ fn whole_text(alloc: Global, label: &ValueLabel) -> Result<Text, Memory>
     ensures { IfOk result (λ text. text ≡ spelled_whole label.now) }
 {
     match label {
-        ValueLabel::Int(n) => Text::from_str(alloc, Buffer::new().format(*n)),
+        ValueLabel::Int(n) => Text::from_str(alloc, Buffer::new().format(n.get())),
         _ => Ok(Text::empty()),
     }
 }

@@ -12,7 +12,7 @@ use crate::wholes::whole;
 use asn_types::Form;
 use codecs::Spot;
 use der_fields::{Stop, Why};
-use simple_types::ValueLabel;
+use simple_types::{Integer, ValueLabel};
 use simple_values::{is_within, place_of};
 use std::alloc::Global;
 use xa_base::{Text, TextError};
@@ -53,7 +53,7 @@ fn integer(
 {
     let z = whole(octets, spot)?;
     if is_within(lo, hi, z) {
-        return Ok(ValueLabel::Int(z));
+        return Ok(ValueLabel::Int(Integer::of(z)));
     }
     Err(Stop {
         at: spot.at,

@@ -130,7 +130,7 @@ fn put_contents(
             back.push(bool_octet(*b))?;
             Ok(())
         }
-        ValueLabel::Int(number) => put_signed(back, *number),
+        ValueLabel::Int(number) => put_signed(back, number.get()),
         ValueLabel::Enum(i) => put_signed(back, item_number(&node.label().form, *i)),
         ValueLabel::Utf8(text) => put_text(back, text.bytes()),
         ValueLabel::Sequence { present } => {

@@ -31,7 +31,7 @@ fn write_whole(out: &mut Vec<u8>, label: &ValueLabel) -> Result<(), AllocError>
     ensures { OnOk result (out.new.items ≡ out.old.items ++ whole label.now) }
 {
     match label {
-        ValueLabel::Int(n) => write_number(out, *n),
+        ValueLabel::Int(n) => write_number(out, n.get()),
         _ => Ok(()),
     }
 }

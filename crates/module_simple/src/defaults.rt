@@ -359,7 +359,7 @@ fn is_number_told(label: &ValueLabel, written: &[u8]) -> bool
     ensures { result ≡ rule.is_number_told label.now written.now }
 {
     match label {
-        ValueLabel::Int(n) => Buffer::new().format(*n).as_bytes() == written,
+        ValueLabel::Int(n) => Buffer::new().format(n.get()).as_bytes() == written,
         _ => false,
     }
 }

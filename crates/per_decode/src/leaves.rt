@@ -19,7 +19,7 @@ use crate::run::{Origin, Run};
 use asn_types::Component;
 use flat_tree::Builder;
 use per_fields::Variant;
-use simple_types::{Flags, ValueLabel};
+use simple_types::{Flags, Integer, ValueLabel};
 use std::alloc::Global;
 use xa_base::Source;
 
@@ -75,7 +75,7 @@ pub(crate) fn integer<S: Source, K: Origin, V: Variant>(
     ensures failed { IsErrOf result Fault.Failed → HasRisen K.faults (S.faults run.new.bits.source.now) }
 {
     let z = run.whole(lo, hi)?;
-    put_leaf(ValueLabel::Int(z), values)
+    put_leaf(ValueLabel::Int(Integer::of(z)), values)
 }
 
 /// One of so many items of an ENUMERATED.

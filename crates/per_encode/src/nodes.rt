@@ -135,7 +135,7 @@ fn put_content<V: Variant>(
             _ => unreachable!(),
         },
         Form::Int { lo, hi } => match label {
-            ValueLabel::Int(number) => put_whole::<V>(sink, *lo, *hi, *number),
+            ValueLabel::Int(number) => put_whole::<V>(sink, *lo, *hi, number.get()),
             _ => unreachable!(),
         },
         Form::Numbers { numbers } => match label {

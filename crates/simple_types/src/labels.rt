@@ -2,6 +2,7 @@
 ghost use Rattle.std.specs.Prelude.{◌≡◌};
 ghost use Rattle.simple_types.specs.Labels.{MayHave, count_set};
 
+use crate::integers::Integer;
 use crate::lists::Flags;
 use flat_tree::Whole;
 use label_tree::Shape;
@@ -14,7 +15,7 @@ pub enum ValueLabel {
     /// BOOLEAN.
     Bool(bool),
     /// INTEGER.
-    Int(i128),
+    Int(Integer),
     /// ENUMERATED, by the number of the item from 0.
     Enum(u32),
     /// UTF8String.
@@ -56,7 +57,7 @@ impl Shape for ValueLabel {
     fn copy(&self, alloc: Global) -> Result<ValueLabel, Memory> {
         match self {
             ValueLabel::Bool(b) => Ok(ValueLabel::Bool(*b)),
-            ValueLabel::Int(n) => Ok(ValueLabel::Int(*n)),
+            ValueLabel::Int(n) => Ok(ValueLabel::Int(Integer::of(n.get()))),
             ValueLabel::Enum(i) => Ok(ValueLabel::Enum(*i)),
             ValueLabel::Utf8(text) => {
                 let text = text.copy(alloc)?;

@@ -7,6 +7,7 @@
 mod builtins;
 mod copying;
 mod facets;
+mod integers;
 mod labels;
 mod lists;
 mod simples;
@@ -15,6 +16,7 @@ mod standards;
 pub use builtins::builtin;
 pub use copying::{append_copies, copy};
 pub use facets::{Facet, Facets};
+pub use integers::Integer;
 pub use labels::{Value, ValueLabel};
 pub use lists::{Flags, NumberList, TextList};
 pub use simples::{Builtin, Class, Simple, SimpleList};

@@ -32,7 +32,7 @@ fn same_label(a: &ValueLabel, b: &ValueLabel) -> bool
 {
     match a {
         ValueLabel::Bool(x) => matches!(b, ValueLabel::Bool(y) if x == y),
-        ValueLabel::Int(x) => matches!(b, ValueLabel::Int(y) if x == y),
+        ValueLabel::Int(x) => matches!(b, ValueLabel::Int(y) if x.get() == y.get()),
         ValueLabel::Enum(x) => matches!(b, ValueLabel::Enum(y) if x == y),
         ValueLabel::Utf8(x) => matches!(b, ValueLabel::Utf8(y) if x == y),
         ValueLabel::Sequence { present: x } => {

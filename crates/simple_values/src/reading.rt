@@ -10,7 +10,7 @@ ghost use Rattle.simple_values.specs.Reading as rule;
 
 use crate::classes::has_characters;
 use crate::numbers::{Whole, collapsed_boolean, collapsed_number, only_word};
-use simple_types::{Class, ValueLabel};
+use simple_types::{Class, Integer, ValueLabel};
 use std::alloc::{AllocError, Global};
 use thiserror::Error;
 use xa_base::{Memory, Text, WhiteSpace, is_treated, treat};
@@ -94,7 +94,7 @@ pub(crate) fn read_whole(
         Some(Whole::Below) => Err(outside(lo)),
         Some(Whole::Within(n)) => {
             if is_within(lo, hi, n) {
-                Ok(ValueLabel::Int(n))
+                Ok(ValueLabel::Int(Integer::of(n)))
             } else {
                 Err(SimpleError::BadText)
             }

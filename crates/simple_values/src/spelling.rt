@@ -29,7 +29,7 @@ fn write_whole(out: &mut String, label: &ValueLabel) -> Result<(), Memory>
     ensures { OnOk result (string_bytes out.new ≡ string_bytes out.old ++ spelled_whole label.now) }
 {
     if let ValueLabel::Int(n) = label {
-        out.push_str(Buffer::new().format(*n))?;
+        out.push_str(Buffer::new().format(n.get()))?;
     }
     Ok(())
 }

@@ -29,7 +29,7 @@ use asn_values::{ordered_flags, spelling};
 use flat_tree::{Kids, Node};
 use itoa::Buffer;
 use label_tree::Tree;
-use simple_types::ValueLabel;
+use simple_types::{Integer, ValueLabel};
 use simple_values::is_at_most;
 use std::alloc::Global;
 use std::iter::Iterator;
@@ -103,14 +103,14 @@ fn add_spelled_element<'a>(
 // The same of a number.
 fn add_number_element<'a>(
     alloc: Global,
-    number: &i128,
+    number: &Integer,
     name: NameRef<'a>,
     out: &mut Contents<'a>,
 ) -> Result<(), Memory>
     ensures { OnOk result (Gains out.old out.new (given [] (more (element_of (name_seen name.entry) (given [] (text_before (spelled_whole (label.Int number.now)) none))) none))) }
 {
     let mut buffer = Buffer::new();
-    out.add_digits_element(alloc, name, buffer.format(*number))
+    out.add_digits_element(alloc, name, buffer.format(number.get()))
 }
 
 // Adds an element of this name with the text of a value. A UTF8String has its text and an INTEGER its digits at hand.
