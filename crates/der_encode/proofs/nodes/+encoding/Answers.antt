@@ -200,8 +200,8 @@ put_contents-returns-in-Int t c =
     let u = c.args.node.now in
     let v = c.args.value.now in
     let old = c.args.back.now.items in
-    let z = c.in-Int.number in
-    let is : label_of v ≡ value.Int z = sym c.label.ensures ∙ c.in-Int.is in
+    let z = c.get.result in
+    let is : label_of v ≡ value.Int z = sym c.label.ensures ∙ c.in-Int.is ∙ ap (λ n. value.Int n) (sym c.get.ensures) in
     let f : FitsSigned w128 z = search rules in
     on_ok c.put_signed.result
     (λ e. subst (λ n. c.put_signed.new.back.items ≡ old ++ reverse (signed_octets n)) (to_z-of_z w128 z f) e ∙ ap (λ octets. old ++ reverse octets) (sym (seen_as M u v (value.Int z) is)))
