@@ -1,6 +1,5 @@
 //! The global elements of schema documents, of which one is the root of a document.
-ghost use Rattle.std.specs.Prelude.{◌≡◌, ◌++◌, ◌≤◌, length, map, OnOk};
-ghost use Rattle.schema_parts.specs.Documents.{doc_of};
+ghost use Rattle.std.specs.Prelude.{◌≤◌, length};
 
 use doc_text::read_document;
 use schema_parts::RawDoc;

@@ -1,5 +1,5 @@
 //! A value from octets.
-ghost use Rattle.std.specs.Prelude.{◌≡◌, ◌<◌, ◌≤◌, ◌^◌, ℕ, IfOk, length, slice_index};
+ghost use Rattle.std.specs.Prelude.{◌≡◌, ◌<◌, ℕ, IfOk, length, slice_index};
 ghost use Rattle.asn_types.specs.Modules.{IsModule};
 ghost use Rattle.asn_types.specs.Refs.{IsOf};
 ghost use Rattle.asn_values.specs.Values.{In};

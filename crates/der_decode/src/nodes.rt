@@ -1,5 +1,5 @@
 //! The nodes of a value.
-ghost use Rattle.std.specs.Prelude.{◌≡◌, ℕ, [], ◌<◌, ◌≤◌, ◌+◌, IfOk, OnOk, MatchBool, length, false, drop, None};
+ghost use Rattle.std.specs.Prelude.{◌≡◌, [], ◌<◌, ◌≤◌, ◌+◌, IfOk, OnOk, MatchBool, length, false, drop, None};
 ghost use Rattle.label_tree.specs.Rose.{label_of, kids_of};
 ghost use Rattle.flat_tree.specs.Zips.{added};
 ghost use Rattle.asn_types.specs.declared.types.Form.TheVariants as form;

@@ -1,5 +1,5 @@
 //! The rule of a node, and the default or fixed value of a part.
-ghost use Rattle.std.specs.Prelude.{◌≡◌, ◌↔◌, [], ◌∷◌, ◌⊎◌, IfOk, IfErr, OnOk, IsTrue};
+ghost use Rattle.std.specs.Prelude.{◌≡◌, ◌↔◌, ◌⊎◌, IfOk, IfErr, OnOk, IsTrue};
 ghost use Rattle.label_tree.specs.Rose.{Rose, label_of};
 ghost use Rattle.flat_tree.specs.Zips.{added};
 ghost use Rattle.simple_types.specs.declared.labels.ValueLabel.{ValueLabel};

@@ -1,5 +1,5 @@
 //! The nodes of a value, each from its last octet to its first.
-ghost use Rattle.std.specs.Prelude.{◌≡◌, ◌++◌, ◌∷◌, [], OnOk, IfOk, reverse};
+ghost use Rattle.std.specs.Prelude.{◌≡◌, ◌++◌, OnOk, IfOk, reverse};
 ghost use Rattle.label_tree.specs.Rose.{kids_of};
 ghost use Rattle.der_form.specs.Encoding.{der, identifier, bool_octet, item_number, is_open};
 ghost use Rattle.der_encode.specs.Private.Kids.{HasItem, FitsSomewhere, PartsFit, parts_octets, ItemsFit, items_octets, KidsFit, resolved_octets};

@@ -2,7 +2,7 @@
 ghost use Rattle.std.specs.Prelude.{◌≡◌, IfOk};
 ghost use Rattle.link_names.specs.Order.{IsFirstSuch};
 ghost use Rattle.link_complex.specs.ElementTypes.{HasOther};
-ghost use Rattle.link_complex.specs.Private.Identities.{type_of, particle_of, particles_of, leader_of, leader_in};
+ghost use Rattle.link_complex.specs.Private.Identities.{particle_of, particles_of, leader_of, leader_in};
 ghost use Rattle.link_names.specs.Private.Tables.{lesser};
 ghost use Rattle.link_complex.specs.Private.Leading as told;
 

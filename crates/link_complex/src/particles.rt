@@ -2,7 +2,6 @@
 ghost use Rattle.std.specs.Prelude.{◌≡◌, ◌++◌, IfOk, OnOk};
 ghost use Rattle.std.specs.List.{flat_map};
 ghost use Rattle.schema_parts.specs.Seen.{local_of};
-ghost use Rattle.schema_parts.specs.Documents.{doc_of};
 ghost use Rattle.schema_walk.specs.Seen.{part_of, parts_of};
 ghost use Rattle.link_complex.specs.ElementTypes as told;
 ghost use Rattle.link_complex.specs.Private.Identities.{type_of, kept_in, type_in, types_in, particles_of};

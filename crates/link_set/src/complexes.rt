@@ -2,7 +2,7 @@
 ghost use Rattle.std.specs.Prelude.{◌≡◌, Some, map, IfOk, IfSome, if◌then◌else◌};
 ghost use Rattle.std.specs.List.{All};
 ghost use Rattle.std.specs.Option.{option_map};
-ghost use Rattle.label_tree.specs.Rose.{label_of, Allowed};
+ghost use Rattle.label_tree.specs.Rose.{Allowed};
 ghost use Rattle.content_models.specs.Kids.{MayHave};
 ghost use Rattle.simple_types.specs.declared.standards.Standard.TheVariants.{Free};
 ghost use Rattle.schema_parts.specs.Components.{model_of};

@@ -1,5 +1,5 @@
 //! The numbers of components, by their names and by the places where they were written.
-ghost use Rattle.std.specs.Prelude.{◌≡◌, ◌+◌, ◌≤◌, Some, cond, length, map, IfOk, OnOk};
+ghost use Rattle.std.specs.Prelude.{◌≡◌, ◌+◌, ◌≤◌, Some, cond, length, IfOk, OnOk};
 ghost use Rattle.xa_base.specs.declared.texts.Name.{Name as NameOf};
 ghost use Rattle.simple_types.specs.declared.simples.Builtin.{Builtin as BuiltinOf};
 ghost use Rattle.link_names.specs.declared.places.Place.{Place as PlaceOf};

@@ -1,15 +1,12 @@
 //! What is left of a simple type whose parts are made.
-ghost use Rattle.std.specs.Prelude.{◌≡◌, ◌<◌, ◌↔◌, IfOk, IsTrue, true, Some, Ok, length};
+ghost use Rattle.std.specs.Prelude.{◌≡◌, ◌<◌, IfOk, true, Some, Ok};
 ghost use Rattle.schema_parts.specs.Seen.{base_of, how_of, bases_in};
 ghost use Rattle.schema_parts.specs.Varieties.{has_few_enumerations, has_member, how_varied};
 ghost use Rattle.simple_types.specs.Seen.{space_of};
 ghost use Rattle.simple_types.specs.Sound.{Sound};
-ghost use Rattle.simple_types.specs.Joining.{flattened};
-ghost use Rattle.facet_rules.specs.Making.{AreEachSound, AreWithinLimits};
-ghost use Rattle.link_cycles.specs.Seen.{definition_of};
 ghost use Rattle.link_cycles.specs.Tables.{told_by};
 ghost use Rattle.link_simple.specs.Making.{IsRestriction, IsList, IsUnion, IsLeft, part_space, part_spaces};
-ghost use Rattle.link_simple.specs.Private.Parts.{entries_of, AreEntriesSound, seen_all};
+ghost use Rattle.link_simple.specs.Private.Parts.{entries_of, AreEntriesSound};
 ghost use Rattle.link_simple.specs.Private.Leaving.{LeftBy};
 
 use crate::parts::{part_of, parts_of};

@@ -4,7 +4,7 @@ ghost use Rattle.std.specs.List.{filter_map};
 ghost use Rattle.std.specs.Option.{option_map};
 ghost use Rattle.schema_parts.specs.Documents.{doc_of};
 ghost use Rattle.schema_parts.specs.Seen.{base_of, use_of};
-ghost use Rattle.schema_walk.specs.Seen.{what_of, part_of, parts_of};
+ghost use Rattle.schema_walk.specs.Seen.{what_of, parts_of};
 ghost use Rattle.link_names.specs.Order.{IsFirstOf, IsFirstSuch};
 ghost use Rattle.link_cycles.specs.Cycles.{IsCircular};
 ghost use Rattle.link_cycles.specs.SimpleTypes.{simple_types as definitions};

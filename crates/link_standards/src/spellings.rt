@@ -1,5 +1,5 @@
 //! Default and fixed values in canonical spelling.
-ghost use Rattle.std.specs.Prelude.{◌≡◌, Some, IfOk, MatchOption};
+ghost use Rattle.std.specs.Prelude.{◌≡◌, Some, IfOk};
 ghost use Rattle.simple_types.specs.Seen.{space_of};
 ghost use Rattle.simple_types.specs.Sound.{Sound};
 ghost use Rattle.link_standards.specs.Spellings as rule;

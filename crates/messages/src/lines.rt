@@ -1,5 +1,5 @@
 //! The line of an outcome, in a room that never grows.
-ghost use Rattle.std.specs.Prelude.{◌≡◌, ◌⊎◌, [], Some, None};
+ghost use Rattle.std.specs.Prelude.{Some, None};
 ghost use Rattle.messages.specs.Messages.{IsLine};
 
 use arrayvec::ArrayVec;

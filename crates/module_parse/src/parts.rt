@@ -1,5 +1,5 @@
 //! Labels, and lines.
-ghost use Rattle.std.specs.Prelude.{◌++◌, ◌+◌, ◌*◌, ◌≤◌, length};
+ghost use Rattle.std.specs.Prelude.{◌++◌, ◌+◌, ◌≤◌, length};
 ghost use Rattle.module_print.specs.Notation.{new_line};
 ghost use Rattle.module_grammar.specs.TypeReading.{label_at, item_label_at, closing};
 ghost use Rattle.module_parse.specs.Reads.{Reads, ReadsWord, PassesMoving, Stays, Moves};

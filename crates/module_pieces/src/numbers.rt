@@ -1,6 +1,5 @@
 //! Numbers as they are written.
-ghost use Rattle.std.specs.Prelude.{◌≡◌, ◌-◌, bytes_eq, drop};
-ghost use Rattle.std.specs.Fmt.{signed_decimal};
+ghost use Rattle.std.specs.Prelude.{◌≡◌, ◌-◌};
 ghost use Rattle.std.specs.Str.Parse.{without_leading_sign, starts_with_minus};
 ghost use Rattle.simple_values.specs.Lexical.{whole_number};
 ghost use Rattle.module_faults.specs.Told as told;

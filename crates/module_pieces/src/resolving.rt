@@ -1,5 +1,5 @@
 //! References, and the roles of parts.
-ghost use Rattle.std.specs.Prelude.{◌≡◌, ◌<◌, length, MatchOption, None, Some};
+ghost use Rattle.std.specs.Prelude.{◌≡◌, ◌<◌, length};
 ghost use Rattle.module_text.specs.Texts.{parts_of};
 ghost use Rattle.module_faults.specs.Resolving as rule;
 

@@ -1,7 +1,7 @@
 //! The whole text of a module.
 ghost use Rattle.std.specs.Prelude.{◌≡◌, ◌++◌, OnOk, IfOk};
 ghost use Rattle.asn_types.specs.Modules.{AreWellFormed};
-ghost use Rattle.module_print.specs.Printed.{printed_assignment, opening, closing, printed};
+ghost use Rattle.module_print.specs.Printed.{printed_assignment, printed};
 
 use crate::types::write_type;
 use asn_types::{Assignment, Module};

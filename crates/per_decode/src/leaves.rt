@@ -1,5 +1,5 @@
 //! The fields of nodes without kids.
-ghost use Rattle.std.specs.Prelude.{◌≡◌, ℕ, [], ◌∷◌, ◌++◌, ◌<◌, ◌≤◌, ◌+◌, ◌-◌, ◌*◌, ◌^◌, ℤ, Bool, true, false, List, IfOk, IfErr, OnOk, IsErrOf, IsTrue};
+ghost use Rattle.std.specs.Prelude.{◌≡◌, ℕ, [], ◌<◌, ◌≤◌, ◌-◌, ◌^◌, ℤ, Bool, true, false, IfOk, IfErr, OnOk, IsErrOf, IsTrue};
 ghost use Rattle.label_tree.specs.Rose.{node, none};
 ghost use Rattle.flat_tree.specs.Zips.{added};
 ghost use Rattle.bit_cursor.specs.Cursors.{IsInStep};

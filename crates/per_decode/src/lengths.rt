@@ -1,5 +1,5 @@
 //! General lengths (X.691, clause 11.9), and texts behind them.
-ghost use Rattle.std.specs.Prelude.{◌≡◌, ℕ, ◌<◌, ◌≤◌, ◌+◌, ◌-◌, ◌*◌, ◌^◌, ◌++◌, false, IfOk, IfErr, length, take};
+ghost use Rattle.std.specs.Prelude.{◌≡◌, ◌<◌, ◌≤◌, ◌+◌, ◌-◌, ◌*◌, ◌^◌, ◌++◌, false, IfOk, IfErr, length, take};
 ghost use Rattle.per_fields.specs.Fields.{is_out};
 ghost use Rattle.per_decode.specs.Private.Pieces.{piece_of, IsPiece};
 ghost use Rattle.per_decode.specs.Private.Kept.{octets_more, octets_behind};
@@ -43,7 +43,7 @@ fn is_out(least: u32, most: Option<u32>, total: usize, piece: Piece) -> bool
 }
 
 impl<'a, S: Source, K: Origin, V: Variant> Run<'a, S, K, V> {
-    ghost use Rattle.std.specs.Prelude.{true, ◌++◌, ◌%◌, IfOk, OnOk, OnErr, Err, IsErrOf, IsTrue, length};
+    ghost use Rattle.std.specs.Prelude.{true, ◌++◌, ◌%◌, IfOk, OnOk, Err, IsErrOf, IsTrue, length};
     ghost use Rattle.bit_cursor.specs.Cursors.{IsInStep};
     ghost use Rattle.xa_base.specs.Faults.{HasRisen};
     ghost use Rattle.per_decode.specs.Private.Standing.{GoesOn};

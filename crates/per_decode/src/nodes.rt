@@ -1,5 +1,5 @@
 //! The nodes of a value.
-ghost use Rattle.std.specs.Prelude.{◌≡◌, ℕ, [], ◌∷◌, ◌++◌, ◌<◌, ◌≤◌, ◌+◌, ◌-◌, ◌*◌, ◌^◌, IfOk, IfErr, OnOk, IsErrOf, IsTrue, IfSome, slice_get, length, true, false, ◌⊎◌};
+ghost use Rattle.std.specs.Prelude.{◌≡◌, [], ◌<◌, ◌≤◌, ◌+◌, ◌-◌, ◌*◌, IfOk, IfErr, OnOk, IsErrOf, IsTrue, IfSome, slice_get, length, true, false, ◌⊎◌};
 ghost use Rattle.simple_types.specs.declared.labels.ValueLabel.{ValueLabel};
 ghost use Rattle.asn_types.specs.Modules.{AreWellFormed};
 ghost use Rattle.label_tree.specs.Rose.{Rose, label_of, kids_of, roses_of, node_count, count_all};

@@ -1,6 +1,6 @@
 //! Numbers of 0 up to a greatest one (X.691, clause 11.5).
-ghost use Rattle.std.specs.Prelude.{◌≡◌, ℕ, ◌<◌, ◌≤◌, ◌+◌, ◌-◌, ◌*◌, ◌^◌, length};
-ghost use Rattle.bit_cursor.specs.Bits.{bits, octet_bits};
+ghost use Rattle.std.specs.Prelude.{◌≡◌, ◌<◌, ◌≤◌, ◌+◌, ◌-◌, ◌*◌, ◌^◌, length};
+ghost use Rattle.bit_cursor.specs.Bits.{bits};
 ghost use Rattle.per_fields.specs.Widths.{width_of, more_of};
 
 use crate::faults::Fault;
@@ -25,7 +25,7 @@ pub(crate) fn more_of(x: u128) -> u32
 }
 
 impl<'a, S: Source, K: Origin, V: Variant> Run<'a, S, K, V> {
-    ghost use Rattle.std.specs.Prelude.{true, ◌++◌, ◌%◌, IfOk, OnOk, OnErr, Err, IsErrOf, IsTrue, length};
+    ghost use Rattle.std.specs.Prelude.{true, IfOk, OnOk, Err, IsErrOf, IsTrue, length};
     ghost use Rattle.bit_cursor.specs.Cursors.{IsInStep};
     ghost use Rattle.xa_base.specs.Faults.{HasRisen};
     ghost use Rattle.per_fields.specs.Reading.{bits_at};

@@ -52,7 +52,7 @@ pub(crate) struct Run<'a, S: Source, K: Origin, V: Variant> {
 }
 
 impl<'a, S: Source, K: Origin, V: Variant> Run<'a, S, K, V> {
-    ghost use Rattle.std.specs.Prelude.{true, ◌++◌, ◌%◌, IfOk, OnOk, OnErr, Err, IsErrOf, length};
+    ghost use Rattle.std.specs.Prelude.{true, ◌%◌, IfOk, OnOk, Err, IsErrOf, length};
     ghost use Rattle.bit_cursor.specs.Cursors.{IsInStep};
     ghost use Rattle.xa_base.specs.Faults.{HasRisen};
     ghost use Rattle.per_fields.specs.Reading.{bits_at, align_at, octets_at};

@@ -1,5 +1,5 @@
 //! Nodes of text.
-ghost use Rattle.std.specs.Prelude.{◌≡◌, ℕ, true, [], ◌∷◌, ◌++◌, ◌<◌, ◌≤◌, ◌+◌, ◌-◌, ◌*◌, ◌^◌, List, None, IsUtf8, take, ◌⊎◌, ◌%◌, IfErr, OnOk, IsErrOf, IsTrue};
+ghost use Rattle.std.specs.Prelude.{◌≡◌, ℕ, true, ◌<◌, ◌≤◌, ◌-◌, ◌*◌, List, None, IsUtf8, take, ◌⊎◌, ◌%◌, IfErr, OnOk, IsErrOf, IsTrue};
 ghost use Rattle.flat_tree.specs.Zips.{added};
 ghost use Rattle.label_tree.specs.Rose.{label_of};
 ghost use Rattle.bit_cursor.specs.Cursors.{IsInStep};

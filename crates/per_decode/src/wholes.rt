@@ -1,5 +1,5 @@
 //! Whole numbers (X.691, clauses 13.2 and 11.4 to 11.8).
-ghost use Rattle.std.specs.Prelude.{◌≡◌, ℕ, ◌<◌, ◌≤◌, ◌+◌, ◌-◌, ◌*◌, ◌^◌, true, false, Some, None, MatchOption};
+ghost use Rattle.std.specs.Prelude.{◌≡◌, ◌<◌, ◌≤◌, ◌+◌, ◌-◌, ◌*◌, ◌^◌, true, false, Some, None, MatchOption};
 ghost use Rattle.simple_values.specs.Lexical.{is_128_bits, is_from};
 ghost use Rattle.simple_types.specs.Sound.{AreBounds};
 ghost use Rattle.per_fields.specs.Widths.{distance, raised, magnitude, more_signed, signed_of};
@@ -48,7 +48,7 @@ fn more_signed(z: i128) -> u32
 }
 
 impl<'a, S: Source, K: Origin, V: Variant> Run<'a, S, K, V> {
-    ghost use Rattle.std.specs.Prelude.{◌++◌, ◌%◌, IfOk, OnOk, OnErr, Err, IsErrOf, IsTrue, length};
+    ghost use Rattle.std.specs.Prelude.{IfOk, OnOk, Err, IsErrOf, IsTrue};
     ghost use Rattle.bit_cursor.specs.Cursors.{IsInStep};
     ghost use Rattle.xa_base.specs.Faults.{HasRisen};
     ghost use Rattle.per_decode.specs.Private.Standing.{GoesOn};

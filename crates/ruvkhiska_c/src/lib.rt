@@ -3,7 +3,7 @@
 //! Read first: `specs/Statuses`, then the calls below; `src/slots.rt` has what C holds between them.
 #![tactic(auto)]
 
-ghost use Rattle.std.specs.Prelude.{◌≡◌, ◌≢◌, ◌↔◌, ◌⊎◌, ◌<◌, ◌++◌, [], ◌∷◌, pos, take, length, IsUtf8, IfSome, IfErr, IfOk, IsSomeAnd, MatchResult, None, Some, Ok};
+ghost use Rattle.std.specs.Prelude.{◌≡◌, ◌≢◌, ◌↔◌, ◌⊎◌, ◌<◌, ◌++◌, [], ◌∷◌, pos, take, length, IsUtf8, IfSome, IfErr, IsSomeAnd, MatchResult, None, Some, Ok};
 ghost use Rattle.command_line.specs.Answers.{Answers, NoMemory, IsRefusal};
 ghost use Rattle.command_line.specs.Status.{status};
 ghost use Rattle.transcode_core.specs.Preparing.{prepared_seen};

@@ -1,6 +1,6 @@
 //! The first reason against an element whose name may stand where it stands.
 ghost use Rattle.std.specs.Prelude.{◌≡◌, IfOk};
-ghost use Rattle.std.specs.List.{list_all, list_any};
+ghost use Rattle.std.specs.List.{list_any};
 ghost use Rattle.label_tree.specs.Rose.{label_of};
 ghost use Rattle.xa_base.specs.Entries.{first_true};
 ghost use Rattle.xa_base.specs.WhiteSpace.{words_of};

@@ -1,5 +1,5 @@
 //! The passes of linking, in their order.
-ghost use Rattle.std.specs.Prelude.{◌≡◌, ◌∷◌, [], Ok, Err, map, MatchOption, IfOk};
+ghost use Rattle.std.specs.Prelude.{◌∷◌, [], Ok, Err, map, IfOk};
 ghost use Rattle.schema_parts.specs.Documents.{doc_of};
 ghost use Rattle.link_names.specs.Order.{IsFirstSuch};
 ghost use Rattle.link_cycles.specs.SimpleTypes.{simple_types};

@@ -1,5 +1,5 @@
 //! Complex type definitions, elements and content models.
-ghost use Rattle.std.specs.Prelude.{◌≡◌, ◌+◌, ◌<◌, ◌^◌, [], ◌++◌, IfOk, OnOk, length, map, option_map};
+ghost use Rattle.std.specs.Prelude.{◌≡◌, ◌+◌, ◌<◌, ◌^◌, ◌++◌, IfOk, OnOk, length, map, option_map};
 ghost use Rattle.label_tree.specs.Rose.{roses_of};
 ghost use Rattle.schema_parts.specs.Seen as seen;
 ghost use Rattle.schema_rules.specs.Scopes.{bindings_in};
@@ -7,7 +7,7 @@ ghost use Rattle.schema_read.specs.Attributes as attributes;
 ghost use Rattle.schema_read.specs.Names as names;
 ghost use Rattle.schema_read.specs.Settings.{said};
 ghost use Rattle.schema_read.specs.Particles as parts;
-ghost use Rattle.schema_read.specs.Particles.{Makes, made, made_some};
+ghost use Rattle.schema_read.specs.Particles.{Makes, made};
 ghost use Rattle.schema_read.specs.Private.Held.{BodyHeld, ElementHeld, FoundHeld, HasRoom, IsHeld, KindHeld};
 
 use crate::contents::{complex_with, is_named, is_true, simple_content};

@@ -1,6 +1,6 @@
 //! The global declarations of a document.
 ghost use Rattle.std.specs.Prelude.{[], IfOk, OnOk, length};
-ghost use Rattle.label_tree.specs.Rose.{roses_of, label_of, kids_of};
+ghost use Rattle.label_tree.specs.Rose.{label_of, kids_of};
 ghost use Rattle.schema_rules.specs.Scopes.{bindings_in};
 ghost use Rattle.schema_read.specs.Attributes as attributes;
 ghost use Rattle.schema_read.specs.Names.{declared_name};

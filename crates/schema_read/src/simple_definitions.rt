@@ -36,19 +36,15 @@ fn facet_of(name: &str, value: Text) -> Option<Facet>
     }
 }
 
-// A facet with a copy of its value.
-fn facet_with(alloc: Global, name: &str, value: &Text) -> Result<Option<Facet>, Memory>
-    ensures { IfOk result (λ found. found ≡ simple.facet_of name.now value.now) }
-{
-    let value = value.copy(alloc)?;
-    Ok(facet_of(name, value))
-}
-
+// The facet of this name that these attributes tell, with a copy of its value.
 fn facet_by(alloc: Global, name: &str, own: &[(Text, Text)]) -> Result<Option<Facet>, Memory>
     ensures { IfOk result (λ found. found ≡ simple.facet_by name.now own.now) }
 {
     match value_of("value", own) {
-        Some(value) => facet_with(alloc, name, value),
+        Some(value) => {
+            let value = value.copy(alloc)?;
+            Ok(facet_of(name, value))
+        }
         None => Ok(None),
     }
 }

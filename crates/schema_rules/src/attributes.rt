@@ -1,5 +1,5 @@
 //! The attributes of elements of schema documents.
-ghost use Rattle.std.specs.Prelude.{◌≡◌, ◌||◌, not, bytes_eq, IfOk, option_map};
+ghost use Rattle.std.specs.Prelude.{◌≡◌, ◌||◌, bytes_eq, IfOk, option_map};
 ghost use Rattle.std.specs.List.{list_any};
 ghost use Rattle.xa_base.specs.Entries.{beside};
 ghost use Rattle.schema_rules.specs.Attributes as table;

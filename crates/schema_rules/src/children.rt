@@ -1,7 +1,6 @@
 //! The children of an element that a rule counts or asks for.
-ghost use Rattle.std.specs.Prelude.{◌≡◌, bytes_eq, count_by};
+ghost use Rattle.std.specs.Prelude.{◌≡◌, bytes_eq};
 ghost use Rattle.std.specs.List.{list_any};
-ghost use Rattle.label_tree.specs.Rose.{label_of};
 ghost use Rattle.schema_rules.specs.Children as children;
 
 use crate::elements::is_schema_name;

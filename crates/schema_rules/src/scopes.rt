@@ -1,7 +1,6 @@
 //! The namespaces in scope at an element.
 ghost use Rattle.std.specs.Prelude.{◌≡◌, ◌++◌, IfOk, option_map};
 ghost use Rattle.xa_base.specs.Entries.{beside};
-ghost use Rattle.xa_base.specs.Namespaces.{xml_space};
 ghost use Rattle.schema_rules.specs.Private.Finding.{Finds};
 ghost use Rattle.schema_rules.specs.Scopes.{bindings_in};
 

@@ -1,6 +1,6 @@
 //! The path from the root of a document to a place in it.
-ghost use Rattle.std.specs.Prelude.{◌≡◌, ◌≤◌, ◌++◌, ◌∷◌, [], List, length, count_by, IfOk, OnOk, MatchOption, string_bytes, codes, decimal};
-ghost use Rattle.label_tree.specs.Rose.{Rose, kids_of, label_of};
+ghost use Rattle.std.specs.Prelude.{◌≡◌, ◌++◌, List, count_by, IfOk, OnOk, MatchOption, string_bytes};
+ghost use Rattle.label_tree.specs.Rose.{Rose};
 ghost use Rattle.item_tree.specs.declared.label.ItemLabel.{ItemLabel as Label};
 ghost use Rattle.item_tree.specs.Seen.{item_seen};
 ghost use Rattle.text_places.specs.Paths as rule;

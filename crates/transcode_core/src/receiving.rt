@@ -1,5 +1,5 @@
 //! From the octets of an encoding to the text of its value's document.
-ghost use Rattle.std.specs.Prelude.{◌≡◌, ◌<◌, ◌≤◌, IsTrue, IsFalse, List, [], ℕ, Some, length, IsErr, OnOk, IfOk, IfErr};
+ghost use Rattle.std.specs.Prelude.{◌≡◌, ◌<◌, ◌≤◌, IsTrue, IsFalse, List, ℕ, Some, length, IsErr, OnOk, IfOk, IfErr};
 ghost use Rattle.std.specs.Io.KnownBytes.{IsAtEnd};
 ghost use Rattle.xa_base.specs.Faults.{Counts};
 ghost use Rattle.asn_values.specs.Values.{In};

@@ -1,7 +1,6 @@
 //! From the items of a document to the encoding of its value.
-ghost use Rattle.std.specs.Prelude.{◌≡◌, ◌+◌, ◌*◌, ◌≤◌, IfOk, OnOk, IfErr};
+ghost use Rattle.std.specs.Prelude.{◌+◌, ◌*◌, ◌≤◌, IfOk, OnOk, IfErr};
 ghost use Rattle.item_tree.specs.Counts.{element_count};
-ghost use Rattle.schema_parts.specs.SetParts.{parts_of};
 ghost use Rattle.asn_values.specs.Values.{In};
 ghost use Rattle.transcode_core.specs.Private.Seen.{opened_seen, type_seen};
 ghost use Rattle.transcode_core.specs.Steps.{RootType, IsTypeOf, ValueIn, Encoding};

@@ -1,5 +1,5 @@
 //! The trial document, and the line that tells how long its encoding is.
-ghost use Rattle.std.specs.Prelude.{◌≡◌, ◌++◌, ◌+◌, ◌%◌, ◌<◌, ◌≤◌, [], ◌∷◌, codes, decimal, OnOk, IfOk};
+ghost use Rattle.std.specs.Prelude.{◌≡◌, ◌++◌, ◌+◌, ◌%◌, ◌<◌, ◌≤◌, [], ◌∷◌, decimal, OnOk, IfOk};
 ghost use Rattle.transcode_core.specs.Trial as trial;
 
 use command_line::Root;
