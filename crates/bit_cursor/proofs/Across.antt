@@ -1,6 +1,5 @@
 -- Octets that stand across two others.
-use Rattle.std.proofs.Common.{◌≡◌, ℕ, ◌+◌, ◌-◌, ◌*◌, ◌/◌, ◌%◌, ◌<◌, ◌≤◌, ◌^◌, Bool, List, [], ◌∷◌, ◌++◌, length, refl, sym, ap, ◌∙◌, arith, append_assoc, take, drop, get_or, set, Option, Some, Result, Ok, Err, is_ok, IsOk}
-use Rattle.std.specs.Prelude.{if◌then◌else◌}
+use Rattle.std.proofs.Common.{◌≡◌, ℕ, ◌+◌, ◌-◌, ◌*◌, ◌/◌, ◌%◌, ◌<◌, ◌≤◌, ◌^◌, Bool, List, [], ◌∷◌, ◌++◌, length, sym, ap, ◌∙◌, arith, append_assoc, take, drop, get_or, set, Option, Some}
 use Rattle.std.proofs.lemmas.Nat.{pow_pos, mod_below}
 use Rattle.std.proofs.lemmas.List.{append-nil, take_more, take_more_set, drop_more, drop-set-lt, take_all}
 use Rattle.std.proofs.lemmas.Grind.{drop_more_same}
@@ -50,15 +49,6 @@ carried u left x i base xs orig here there is small rest so_far =
     let heads : get_or xs i 0 ∷ drop (i + 1) xs ≡ get_or orig i 0 ∷ drop (i + 1) orig = sym (drop_more xs i 0 here) ∙ rest ∙ drop_more orig i 0 there in
     let same : get_or xs i 0 ≡ get_or orig i 0 = cc in
     (drop-set-lt (i + 1) xs i v (omega arith) ∙ drop_more_same xs orig i rest, appended u left x i base (take i xs) _ orig there (is ∙ same) small (take_more_set xs i v here) so_far)
-
--- what a push with room for it does
-pub put_item : {T E : Type 0} (r : Result T E) (old new : List ℕ) (v : ℕ) → IsOk r → new ≡ (if is_ok r then old ++ v ∷ [] else old) → new ≡ old ++ v ∷ []
-put_item (Ok t) old new v ok is = is
-put_item (Err e) old new v ok is = cc
-
-pub put_one : {T E : Type 0} (r : Result T E) (m n : ℕ) → IsOk r → n ≡ (if is_ok r then m + 1 else m) → n ≡ m + 1
-put_one (Ok t) m n ok is = is
-put_one (Err e) m n ok is = cc
 
 -- the bits ahead, where octets came from a source that tells what it has left, and each stands across two
 pub fills : (position taken limit held left_over k position' : ℕ) (came filled octets : List ℕ) (old new : Option (List ℕ))
