@@ -1,5 +1,6 @@
 -- From a leaf that is a particle of a sequence itself to the next that is one.
-use Rattle.std.proofs.Common.{◌≡◌, ℕ, ◌+◌, ◌-◌, ◌<◌, ◌≤◌, ◌⊎◌, inl, inr, Bool, true, false, ◌&&◌, List, [], ◌∷◌, length, get_or, take, drop, Some, refl, sym, ◌∙◌, ap, arith}
+use Rattle.std.proofs.Common.{◌≡◌, ℕ, ◌+◌, ◌-◌, ◌<◌, ◌≤◌, ◌⊎◌, inl, inr, Bool, true, false, ◌&&◌, List, [], ◌∷◌, length, get_or, take, drop, Some, refl, sym, ◌∙◌, ap, subst, arith}
+use Rattle.std.proofs.lemmas.List.{drop_all}
 use Rattle.std.specs.Prelude.{slice_index_or}
 use Rattle.label_tree.specs.Rose.{Rose, label_of}
 use Rattle.flat_tree.specs.Zips.{Zip}
@@ -8,7 +9,7 @@ use Rattle.simple_types.specs.declared.labels.ValueLabel.{ValueLabel}
 use Rattle.content_models.specs.declared.particles.ParticleLabel.{ParticleLabel}
 use Rattle.content_models.specs.Seen.{seen}
 use Rattle.content_models.specs.Particle.{Term, element, sequence, choice, all, Particles}
-use Rattle.content_spots.specs.Spots.{at, Inner, here, inside, among_picked, unmarked, pick, enter, enter_term, finishes, finishes_term, next, next_term, next_order}
+use Rattle.content_spots.specs.Spots.{at, Inner, here, inside, among_picked, unmarked, pick, enter, enter_term, enter_order, finishes, finishes_term, finishes_order, next, next_term, next_order}
 use Rattle.content_spots.proofs.Entering.{both_true}
 use Rattle.content_spots.proofs.Options.{over_some}
 use Rattle.content_match.specs.Private.Standing.{spot_of}
@@ -17,9 +18,9 @@ use Rattle.value_builder.specs.Built.{flagged}
 use Rattle.value_builder.proofs.Parts.{parts-none}
 use Rattle.content_values.specs.Bounds.{is_single}
 use Rattle.content_values.specs.Private.Empty.{term_of, emptied}
-use Rattle.content_values.specs.Private.Moves.{inner_in, items_opened, items_closed, entered, entered_term, ended, ended_term, moved, moved_order}
+use Rattle.content_values.specs.Private.Moves.{inner_in, items_opened, items_closed, entered, entered_term, entered_order, ended, ended_term, ended_order, moved, moved_order}
 use Rattle.content_values.proofs.Inverting as invert
-use Rattle.content_values.proofs.Kids.{kids_seen, entered-seen, enter-seen, ended-seen, finishes-seen, next-seen, moved-goes, order-moves-within, order-stays-at, order-stayed-at, over-leaves, over-left, kid-there, no-order-here, no-one-here}
+use Rattle.content_values.proofs.Kids.{kids_seen, entered-seen, enter-seen, ended-seen, finishes-seen, next-seen, moved-goes, order-within, order-enters-at, order-entered-at, order-ends-within, order-ends-at, order-ended-at, order-moves-within, order-stays-at, order-stayed-at, over-leaves, over-left, kid-there, no-order-here, no-one-here}
 
 -- ---- the ways
 
@@ -77,6 +78,51 @@ beside-given ts a us ks vs ls n h = beside-by ts a us ks vs ls (slice_index_or k
 
 pub beside-within : (ts : List (Rose ParticleLabel)) (from to : Inner) (j k : ℕ) → Beside ts from to j k → (j ≤ k) × (k < length ts)
 beside-within ts from to j k b = order-moves-within ts b.name j k (at b.turn here) (at b.next_turn here) b.leads
+
+-- the way to the first leaf, which is a particle itself
+pub record First (ts : List (Rose ParticleLabel)) (to : Inner) (k : ℕ) : Type 0 where
+  pub name : Name
+  pub turn : ℕ
+  pub to_is : to ≡ inside k (at turn here)
+  pub leads : enter_order (kids_seen ts) name ≡ Some (inside k (at turn here))
+
+pub first-given : (ts : List (Rose ParticleLabel)) (a : Name) (vs : List Turn) (ls : List ℕ) → length ls ≡ 1 → enter_order (kids_seen ts) a ≡ Some (inner_in (spot_of vs ls)) → First ts (inner_in (spot_of vs ls)) (slice_index_or ls 0 0)
+first-given ts a vs ls n h = go (one-kid vs ls k (alone ls n))
+  where
+    k : ℕ
+    k = slice_index_or ls 0 0
+
+    to : Inner
+    to = inner_in (spot_of vs ls)
+
+    go : (to ≡ here) ⊎ ((i : ℕ) × (to ≡ inside k (at i here))) → First ts to k
+    go (inl y) = absurd (invert.enter_order-here (kids_seen ts) a (h ∙ ap Some y))
+    go (inr y) = record { name = a; turn = y.0; to_is = y.1; leads = h ∙ ap Some y.1 }
+
+pub first-within : (ts : List (Rose ParticleLabel)) (to : Inner) (k : ℕ) → First ts to k → k < length ts
+first-within ts to k b = order-within ts b.name k (at b.turn here) b.leads
+
+-- a leaf behind which none is needed, which is a particle itself
+pub record Last (ts : List (Rose ParticleLabel)) (from : Inner) (j : ℕ) : Type 0 where
+  pub turn : ℕ
+  pub from_is : from ≡ inside j (at turn here)
+  pub ends : finishes_order (kids_seen ts) (inside j (at turn here)) ≡ true
+
+pub last-given : (ts : List (Rose ParticleLabel)) (us : List Turn) (ks : List ℕ) → length ks ≡ 1 → finishes_order (kids_seen ts) (inner_in (spot_of us ks)) ≡ true → Last ts (inner_in (spot_of us ks)) (slice_index_or ks 0 0)
+last-given ts us ks n h = go (one-kid us ks j (alone ks n))
+  where
+    j : ℕ
+    j = slice_index_or ks 0 0
+
+    from : Inner
+    from = inner_in (spot_of us ks)
+
+    go : (from ≡ here) ⊎ ((i : ℕ) × (from ≡ inside j (at i here))) → Last ts from j
+    go (inl x) = absurd (no-order-here (kids_seen ts) (subst (λ i. finishes_order (kids_seen ts) i ≡ true) x h))
+    go (inr x) = record { turn = x.0; from_is = x.1; ends = subst (λ i. finishes_order (kids_seen ts) i ≡ true) x.1 h }
+
+pub last-within : (ts : List (Rose ParticleLabel)) (from : Inner) (j : ℕ) → Last ts from j → j < length ts
+last-within ts from j b = order-ends-within ts j (at b.turn here) b.ends
 
 -- ---- a leaf is an element
 
@@ -156,3 +202,28 @@ module _ (ts : List (Rose ParticleLabel)) (from to : Inner) (j k : ℕ) (b : Bes
       ∙ entered-single new b.name b.next_turn _ x.2 one.1
       ∙ ap (λ m. flagged true (emptied (kids_seen (take m (drop (j + 1) ts))) (ended false (seen old) s z))) none
       ∙ ap (flagged true) (parts-none (ended false (seen old) s z) ∙ ended-single old b.turn z x.0 one.0))
+
+pub one-single : (t : Rose ParticleLabel) (l : ParticleLabel) → l ≡ label_of t → (b : Bool) → b ≡ is_single false l.min l.max → b ≡ true → single t ≡ true
+one-single t l e b is h = sym (ap (λ (x : ParticleLabel). is_single false x.min x.max) e) ∙ sym is ∙ h
+
+-- into the first, which is single
+pub first-put : (ts : List (Rose ParticleLabel)) (to : Inner) (k : ℕ) → First ts to k → (kid : Rose ParticleLabel) → k ≡ 0 → kid ≡ get_or ts k kid → single kid ≡ true → (z : Zip ValueLabel)
+    → flagged true z ≡ entered_order (kids_seen ts) to z
+first-put ts to k b kid first there one z =
+    let u = at b.turn here in
+    let within = first-within ts to k b in
+    sym (ap (λ y. entered_order (kids_seen ts) y z) b.to_is ∙ order-entered-at ts k kid within there u z
+    ∙ entered-single kid b.name b.turn _ (order-enters-at ts k kid within there b.name u b.leads).1 one
+    ∙ ap (λ m. flagged true (emptied (kids_seen (take m ts)) z)) first
+    ∙ ap (flagged true) (parts-none z))
+
+-- behind the last, which is single
+pub last-put : (ts : List (Rose ParticleLabel)) (from : Inner) (j : ℕ) → Last ts from j → (kid : Rose ParticleLabel) → length ts - j ≡ 1 → kid ≡ get_or ts j kid → single kid ≡ true → (z : Zip ValueLabel)
+    → z ≡ ended_order (kids_seen ts) from z
+last-put ts from j b kid last there one z =
+    let s = at b.turn here in
+    let within = last-within ts from j b in
+    let past : length ts ≤ j + 1 = omega arith in
+    sym (ap (λ y. ended_order (kids_seen ts) y z) b.from_is ∙ order-ended-at ts j kid within there s z
+    ∙ ap (λ us. emptied (kids_seen us) (ended false (seen kid) s z)) (drop_all (j + 1) ts past)
+    ∙ parts-none (ended false (seen kid) s z) ∙ ended-single kid b.turn z (order-ends-at ts j kid within there s b.ends).0 one)

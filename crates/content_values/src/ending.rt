@@ -1,5 +1,5 @@
 //! What is open behind a leaf.
-ghost use Rattle.std.specs.Prelude.{◌≡◌, ◌^◌, ◌<◌, true, OnOk};
+ghost use Rattle.std.specs.Prelude.{◌≡◌, ◌^◌, ◌<◌, length, true, OnOk};
 ghost use Rattle.label_tree.specs.Rose.{node_count, count_all, roses_of};
 ghost use Rattle.content_models.specs.Seen.{seen, all_seen};
 ghost use Rattle.content_spots.specs.Spots.{finishes_term, finishes_order};
@@ -97,4 +97,42 @@ pub(crate) fn end_order(
             put_empty_parts(&particles[kid + 1..], values)
         }
     }
+}
+
+// The same. Most often the leaf is the last particle itself, which is single: then nothing is put.
+#[inline(always)]
+pub(crate) fn end_parts(
+    particles: &[Tree<ParticleLabel>],
+    from: Path<'_>,
+    values: &mut ValueBuilder,
+) -> Result<(), Memory>
+    requires few { count_all (roses_of particles.now) < 2 ^ 31 }
+    requires done { finishes_order (all_seen (roses_of particles.now)) (inner_in (spot_of from.turns.now from.kids.now)) ≡ true }
+    ensures { OnOk result (Puts (ended_order (all_seen (roses_of particles.now)) (inner_in (spot_of from.entry.turns.now from.entry.kids.now))) values.old values.new) }
+{
+    if from.kids.len() == 1 {
+        end_beside(particles, from, values)
+    } else {
+        end_order(particles, from, values)
+    }
+}
+
+// The leaf is a particle of a sequence itself.
+#[inline(always)]
+fn end_beside(
+    particles: &[Tree<ParticleLabel>],
+    from: Path<'_>,
+    values: &mut ValueBuilder,
+) -> Result<(), Memory>
+    requires few { count_all (roses_of particles.now) < 2 ^ 31 }
+    requires done { finishes_order (all_seen (roses_of particles.now)) (inner_in (spot_of from.turns.now from.kids.now)) ≡ true }
+    requires beside { length from.kids.now ≡ 1 }
+    ensures { OnOk result (Puts (ended_order (all_seen (roses_of particles.now)) (inner_in (spot_of from.entry.turns.now from.entry.kids.now))) values.old values.new) }
+{
+    let kid = from.kids[0] as usize;
+    let behind = particles.len() - kid;
+    if behind == 1 && is_single(particles[kid].label(), false) {
+        return Ok(());
+    }
+    end_order(particles, from, values)
 }

@@ -1,5 +1,5 @@
 //! The way into a particle.
-ghost use Rattle.std.specs.Prelude.{◌≡◌, ◌^◌, ◌<◌, Some, OnOk};
+ghost use Rattle.std.specs.Prelude.{◌≡◌, ◌^◌, ◌<◌, length, Some, OnOk};
 ghost use Rattle.label_tree.specs.Rose.{node_count, count_all, roses_of};
 ghost use Rattle.xa_base.specs.declared.texts.Name.{Name};
 ghost use Rattle.content_models.specs.Seen.{seen, all_seen};
@@ -104,4 +104,41 @@ pub(crate) fn enter_order(
             enter(&particles[kid], false, lower.path, values)
         }
     }
+}
+
+// The same. Most often the leaf is the first particle itself, which is single: then a flag alone is put.
+#[inline(always)]
+pub(crate) fn enter_parts(
+    particles: &[Tree<ParticleLabel>],
+    to: Path<'_>,
+    values: &mut ValueBuilder,
+) -> Result<(), Memory>
+    requires few { count_all (roses_of particles.now) < 2 ^ 31 }
+    requires leads { (a : Name) × (spots.enter_order (all_seen (roses_of particles.now)) a ≡ Some (inner_in (spot_of to.turns.now to.kids.now))) }
+    ensures { OnOk result (Puts (entered_order (all_seen (roses_of particles.now)) (inner_in (spot_of to.entry.turns.now to.entry.kids.now))) values.old values.new) }
+{
+    if to.kids.len() == 1 {
+        enter_beside(particles, to, values)
+    } else {
+        enter_order(particles, to, values)
+    }
+}
+
+// The leaf is a particle of a sequence itself.
+#[inline(always)]
+fn enter_beside(
+    particles: &[Tree<ParticleLabel>],
+    to: Path<'_>,
+    values: &mut ValueBuilder,
+) -> Result<(), Memory>
+    requires few { count_all (roses_of particles.now) < 2 ^ 31 }
+    requires leads { (a : Name) × (spots.enter_order (all_seen (roses_of particles.now)) a ≡ Some (inner_in (spot_of to.turns.now to.kids.now))) }
+    requires beside { length to.kids.now ≡ 1 }
+    ensures { OnOk result (Puts (entered_order (all_seen (roses_of particles.now)) (inner_in (spot_of to.entry.turns.now to.entry.kids.now))) values.old values.new) }
+{
+    let kid = to.kids[0] as usize;
+    if kid == 0 && is_single(particles[kid].label(), false) {
+        return values.part(true);
+    }
+    enter_order(particles, to, values)
 }

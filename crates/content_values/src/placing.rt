@@ -18,8 +18,8 @@ ghost use Rattle.content_values.specs.Made.{Child, TopMade};
 ghost use Rattle.content_values.specs.Reached.{IsFillable, TopReached, Put};
 
 use crate::emptying::{put_empty_part, put_empty_parts};
-use crate::ending::{end, end_order};
-use crate::entering::{enter, enter_order};
+use crate::ending::{end, end_parts};
+use crate::entering::{enter, enter_parts};
 use crate::kinds::is_parted;
 use crate::moving::{step, step_parts};
 use crate::paths::Path;
@@ -82,7 +82,7 @@ fn put_first(
         return Ok(());
     }
     if is_parted(top.label()) {
-        return enter_order(top.kids(), to, values);
+        return enter_parts(top.kids(), to, values);
     }
     values.part(true)?;
     enter(top, false, to, values)
@@ -126,7 +126,7 @@ fn put_last(
         return Ok(());
     }
     if is_parted(top.label()) {
-        end_order(top.kids(), from, values)
+        end_parts(top.kids(), from, values)
     } else {
         end(top, false, from, values)
     }

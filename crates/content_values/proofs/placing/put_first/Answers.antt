@@ -9,14 +9,14 @@ use Rattle.content_values.proofs.Kids.{kids_seen, enter-seen, on-ok}
 use Rattle.content_values.proofs.Tops.{parted-known, parted-term, parted-enters, parted-entered, whole-entered}
 use Rattle.content_values.proofs.placing.put_first.Goals as goal
 
-pub enter_order-requires-clause-few : goal.enter_order-requires-clause-few
-enter_order-requires-clause-few c =
+pub enter_parts-requires-clause-few : goal.enter_parts-requires-clause-few
+enter_parts-requires-clause-few c =
     let few = c.requires.few in
     let k = node_count-kids c.args.top.now in
     rw c.kids.ensures (omega (arith, few, k))
 
-pub enter_order-requires-clause-leads : goal.enter_order-requires-clause-leads
-enter_order-requires-clause-leads c =
+pub enter_parts-requires-clause-leads : goal.enter_parts-requires-clause-leads
+enter_parts-requires-clause-leads c =
     let top = c.args.top.now in
     let kids = c.kids.result.now in
     let once = parted-known top c.label.result.now true c.label.ensures (λ ps. sym c.if-is_parted.true ∙ c.is_parted.ensures ps) in
@@ -30,7 +30,7 @@ returns-then-is_parted c =
     let u = spot_of c.args.to.turns.now c.args.to.kids.now in
     let once = parted-known top c.label.result.now true c.label.ensures (λ ps. sym c.if-is_parted.true ∙ c.is_parted.ensures ps) in
     let is = parted-term top kids c.kids.ensures c.requires.no_all once in
-    on-ok c.enter_order.result _ _ (λ put. puts-as (entered_order (kids_seen kids) (inner_in u)) (top_entered (seen top) u) _ _ (λ z. parted-entered top (kids_seen kids) is once u z) put) c.enter_order.ensures
+    on-ok c.enter_parts.result _ _ (λ put. puts-as (entered_order (kids_seen kids) (inner_in u)) (top_entered (seen top) u) _ _ (λ z. parted-entered top (kids_seen kids) is once u z) put) c.enter_parts.ensures
 
 pub enter-requires-clause-leads : goal.enter-requires-clause-leads
 enter-requires-clause-leads c =

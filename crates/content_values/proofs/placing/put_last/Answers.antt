@@ -8,14 +8,14 @@ use Rattle.content_values.proofs.Kids.{kids_seen, finishes-seen, on-ok}
 use Rattle.content_values.proofs.Tops.{parted-known, parted-term, parted-finishes, parted-ended, whole-ended}
 use Rattle.content_values.proofs.placing.put_last.Goals as goal
 
-pub end_order-requires-clause-few : goal.end_order-requires-clause-few
-end_order-requires-clause-few c =
+pub end_parts-requires-clause-few : goal.end_parts-requires-clause-few
+end_parts-requires-clause-few c =
     let few = c.requires.few in
     let k = node_count-kids c.args.top.now in
     rw c.kids.ensures (omega (arith, few, k))
 
-pub end_order-requires-clause-done : goal.end_order-requires-clause-done
-end_order-requires-clause-done c =
+pub end_parts-requires-clause-done : goal.end_parts-requires-clause-done
+end_parts-requires-clause-done c =
     let top = c.args.top.now in
     let kids = c.kids.result.now in
     let once = parted-known top c.label.result.now true c.label.ensures (λ ps. sym c.if-is_parted.true ∙ c.is_parted.ensures ps) in
@@ -29,7 +29,7 @@ returns-then-is_parted c =
     let s = spot_of c.args.from.turns.now c.args.from.kids.now in
     let once = parted-known top c.label.result.now true c.label.ensures (λ ps. sym c.if-is_parted.true ∙ c.is_parted.ensures ps) in
     let is = parted-term top kids c.kids.ensures c.requires.no_all once in
-    on-ok c.end_order.result _ _ (λ put. puts-as (ended_order (kids_seen kids) (inner_in s)) (top_ended (seen top) s) _ _ (λ z. parted-ended top (kids_seen kids) is once s z) put) c.end_order.ensures
+    on-ok c.end_parts.result _ _ (λ put. puts-as (ended_order (kids_seen kids) (inner_in s)) (top_ended (seen top) s) _ _ (λ z. parted-ended top (kids_seen kids) is once s z) put) c.end_parts.ensures
 
 pub end-requires-clause-done : goal.end-requires-clause-done
 end-requires-clause-done c = finishes-seen c.args.top.now (spot_of c.args.from.turns.now c.args.from.kids.now) c.requires.done
