@@ -4,7 +4,7 @@ ghost use Rattle.label_tree.specs.Rose.{node, none};
 ghost use Rattle.item_tree.specs.declared.label.ItemLabel.TheVariants as item;
 ghost use Rattle.doc_write.specs.Private.Binding.{qualifier_text};
 
-use crate::elements::{write_end_tag, write_start_tag, write_text_element};
+use crate::elements::{write_byte, write_end_tag, write_start_tag, write_text_element};
 use crate::prefixes::{Prefixes, Qualifier};
 use crate::root::{declarations, front_len};
 use crate::splicing::insert;
@@ -55,7 +55,7 @@ impl<'a> TextBuilder<'a> {
         ensures { OnOk result (EndsTag self.old self.new) }
     {
         if self.in_tag {
-            self.text.push(b'>')?;
+            write_byte(&mut self.text, b'>')?;
             self.in_tag = false;
         }
         Ok(())

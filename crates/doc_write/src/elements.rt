@@ -15,15 +15,66 @@ use std::mem;
 // of them.
 const FEW: usize = 32;
 
-// Appends bytes for which there is room.
+// Appends at most three bytes for which there is room.
+#[inline(always)]
+fn put_last(out: &mut Vec<u8>, bytes: &[u8])
+    requires few { length bytes.now ≤ 3 }
+    requires room { HasRoom out.old (length bytes.now) }
+    ensures { Puts out.old out.new bytes.now }
+{
+    match bytes {
+        [first, second, third] => {
+            let (first, second, third) = (*first, *second, *third);
+            out.push_reserved(first);
+            out.push_reserved(second);
+            out.push_reserved(third);
+        }
+        [first, second] => {
+            let (first, second) = (*first, *second);
+            out.push_reserved(first);
+            out.push_reserved(second);
+        }
+        [first] => out.push_reserved(*first),
+        _ => {}
+    }
+}
+
+// Appends four bytes for which there is room.
+#[inline(always)]
+fn put_four(out: &mut Vec<u8>, first: u8, second: u8, third: u8, fourth: u8)
+    requires { HasRoom out.old 4 }
+    ensures { Puts out.old out.new (first ∷ second ∷ third ∷ fourth ∷ []) }
+{
+    out.push_reserved(first);
+    out.push_reserved(second);
+    out.push_reserved(third);
+    out.push_reserved(fourth);
+}
+
+// Appends bytes for which there is room, four at once.
 #[inline(always)]
 fn put_all(out: &mut Vec<u8>, bytes: &[u8])
     requires { HasRoom out.old (length bytes.now) }
     ensures { Puts out.old out.new bytes.now }
 {
-    'bytes: for byte in bytes {
-        out.push_reserved(*byte);
+    let mut rest = bytes;
+    'fours: while let [first, second, third, fourth, behind @ ..] = rest {
+        put_four(out, *first, *second, *third, *fourth);
+        rest = behind;
     }
+    put_last(out, rest);
+}
+
+// Makes room for so many bytes, where there is none.
+#[inline(always)]
+fn make_room(out: &mut Vec<u8>, count: usize) -> Result<(), AllocError>
+    ensures items { OnOk result (out.new.items ≡ out.old.items) }
+    ensures room { OnOk result (HasRoom out.new count) }
+{
+    if count <= out.capacity() - out.len() {
+        return Ok(());
+    }
+    out.reserve(count)
 }
 
 // Appends a start tag without its end, of a name with a prefix of one digit.
@@ -66,6 +117,16 @@ fn put_element(out: &mut Vec<u8>, digit: u8, local: &[u8], text: &[u8])
     put_end(out, digit, local);
 }
 
+// Appends a byte.
+#[inline(always)]
+pub(crate) fn write_byte(out: &mut Vec<u8>, byte: u8) -> Result<(), AllocError>
+    ensures { OnOk result (out.new.items ≡ out.old.items ++ byte ∷ []) }
+{
+    make_room(out, 1)?;
+    out.push_reserved(byte);
+    Ok(())
+}
+
 // Makes room for such a start tag without its end, and appends it. The list is taken out meanwhile, so that its length
 // isn't written at each byte.
 #[inline(always)]
@@ -78,7 +139,7 @@ fn write_few_start(
     requires { length local.now ≤ 32 }
     ensures { OnOk result (out.new.items ≡ out.old.items ++ 60 ∷ 110 ∷ digit ∷ 58 ∷ local.now) }
 {
-    out.reserve(4 + local.len())?;
+    make_room(out, 4 + local.len())?;
     let mut told = mem::replace(out, Vec::new(alloc));
     put_start(&mut told, digit, local);
     *out = told;
@@ -96,7 +157,7 @@ fn write_few_end(
     requires { length local.now ≤ 32 }
     ensures { OnOk result (out.new.items ≡ out.old.items ++ 60 ∷ 47 ∷ (110 ∷ digit ∷ 58 ∷ local.now) ++ 62 ∷ []) }
 {
-    out.reserve(6 + local.len())?;
+    make_room(out, 6 + local.len())?;
     let mut told = mem::replace(out, Vec::new(alloc));
     put_end(&mut told, digit, local);
     *out = told;
@@ -116,7 +177,7 @@ fn write_few(
     requires text { length text.now ≤ 32 }
     ensures { OnOk result (out.new.items ≡ out.old.items ++ element_text (110 ∷ digit ∷ 58 ∷ local.now) text.now) }
 {
-    out.reserve(11 + local.len() + local.len() + text.len())?;
+    make_room(out, 11 + local.len() + local.len() + text.len())?;
     let mut told = mem::replace(out, Vec::new(alloc));
     put_element(&mut told, digit, local, text);
     *out = told;
