@@ -22,7 +22,7 @@ returns-then-is_within-clause-reads c =
     let z = c.in_ok-z.z in
     let fits : FitsSigned w128 z = search rules in
     int_is c.args.lo c.args.hi c.args.octets.now c.args.spot z c.in_ok-z.ensures.ok (sym (ap (λ y. is_from c.args.lo y && is_to c.args.hi y) (to_z-of_z w128 z fits)) ∙ sym c.is_within.ensures ∙ c.if-is_within.true)
-    ∙ ap (λ y. Ok (leaf_of (value.Int y), end_of c.args.octets.now c.args.spot)) (sym (to_z-of_z w128 z fits))
+    ∙ ap (λ y. Ok (leaf_of (value.Int y), end_of c.args.octets.now c.args.spot)) (sym (to_z-of_z w128 z fits) ∙ sym c.of.ensures)
 
 pub returns-clause-reads : goal.returns-clause-reads
 returns-clause-reads c =
