@@ -28,5 +28,8 @@ pub(crate) fn put_flags(
             count += 1;
         }
     }
+    if count == 0 {
+        return Ok(());
+    }
     sink.put_bits(held, count)
 }

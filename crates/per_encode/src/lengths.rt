@@ -10,6 +10,7 @@ use xa_base::Memory;
 pub(crate) const UNIT: usize = 16_384;
 
 /// A length of up to 127 in one octet, and a greater one in two.
+#[inline(always)]
 pub(crate) fn put_length(sink: &mut BitSink, n: usize) -> Result<(), Memory>
     requires { n < 16384 }
     ensures { OnOk result (sink.new ≡ sink.old ++ length_bits n) }
@@ -22,6 +23,7 @@ pub(crate) fn put_length(sink: &mut BitSink, n: usize) -> Result<(), Memory>
 }
 
 /// What is before a field that begins at an octet in the aligned variant.
+#[inline(always)]
 pub(crate) fn put_gap<V: Variant>(sink: &mut BitSink) -> Result<(), Memory>
     ensures { OnOk result (sink.new ≡ sink.old ++ gap_bits V.ALIGNED (length sink.old)) }
 {
@@ -32,6 +34,7 @@ pub(crate) fn put_gap<V: Variant>(sink: &mut BitSink) -> Result<(), Memory>
 }
 
 /// The last length, behind what is before it.
+#[inline(always)]
 pub(crate) fn put_last_length<V: Variant>(sink: &mut BitSink, n: usize) -> Result<(), Memory>
     requires { n < 16384 }
     ensures { OnOk result (sink.new ≡ sink.old ++ head_bits V.ALIGNED (Last n) (length sink.old)) }
@@ -41,6 +44,7 @@ pub(crate) fn put_last_length<V: Variant>(sink: &mut BitSink, n: usize) -> Resul
 }
 
 /// The head of a fragment of so many units, behind what is before it.
+#[inline(never)]
 pub(crate) fn put_units<V: Variant>(sink: &mut BitSink, units: usize) -> Result<(), Memory>
     requires { units ≤ 4 }
     ensures { OnOk result (sink.new ≡ sink.old ++ head_bits V.ALIGNED (Units units) (length sink.old)) }

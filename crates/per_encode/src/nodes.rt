@@ -20,6 +20,7 @@ use simple_types::ValueLabel;
 use xa_base::Memory;
 
 // The components of a SEQUENCE that are present.
+#[inline(never)]
 #[cycle(encoding)]
 fn put_parts<V: Variant>(
     sink: &mut BitSink,
@@ -68,6 +69,7 @@ fn put_items<V: Variant>(
 }
 
 // Items behind general lengths, in fragments (clause 11.9).
+#[inline(never)]
 #[cycle(encoding)]
 fn put_fragments<V: Variant>(
     sink: &mut BitSink,
@@ -92,6 +94,7 @@ fn put_fragments<V: Variant>(
 
 // The items of a SEQUENCE OF behind their count (clause 20).
 #[tactic(auto, unfolding(per_fields::specs::Fields::list_bits))]
+#[inline(never)]
 #[cycle(encoding)]
 fn put_list<V: Variant>(
     sink: &mut BitSink,

@@ -8,7 +8,20 @@ use bit_cursor::BitSink;
 use per_fields::Variant;
 use xa_base::Memory;
 
+// A number of more bits than one call of the sink takes.
+#[inline(never)]
+fn put_halves(sink: &mut BitSink, number: u128, n: u32) -> Result<(), Memory>
+    requires many { 64 < n }
+    requires few { n ≤ 128 }
+    requires fits { number < 2 ^ n }
+    ensures { OnOk result (sink.new ≡ sink.old ++ bits n number) }
+{
+    sink.put_bits((number >> 64) as u64, n - 64)?;
+    sink.put_bits((number % (1u128 << 64)) as u64, 64)
+}
+
 /// The number in so many bits.
+#[inline(always)]
 pub(crate) fn put_wide(sink: &mut BitSink, number: u128, n: u32) -> Result<(), Memory>
     requires few { n ≤ 128 }
     requires fits { number < 2 ^ n }
@@ -17,8 +30,7 @@ pub(crate) fn put_wide(sink: &mut BitSink, number: u128, n: u32) -> Result<(), M
     if n <= 64 {
         return sink.put_bits(number as u64, n);
     }
-    sink.put_bits((number >> 64) as u64, n - 64)?;
-    sink.put_bits((number % (1u128 << 64)) as u64, 64)
+    put_halves(sink, number, n)
 }
 
 /// The least bits that hold the number; none for 0.
@@ -40,6 +52,7 @@ pub(crate) fn octets_behind(number: u128) -> u32
 }
 
 // The number in so many bits, behind the padding.
+#[inline(never)]
 fn put_aligned(sink: &mut BitSink, number: u128, n: u32) -> Result<(), Memory>
     requires few { n ≤ 128 }
     requires fits { number < 2 ^ n }
@@ -50,6 +63,7 @@ fn put_aligned(sink: &mut BitSink, number: u128, n: u32) -> Result<(), Memory>
 }
 
 // The octet count, and the number in the least octets (clause 11.5.7.4).
+#[inline(never)]
 fn put_large(sink: &mut BitSink, top: u128, number: u128) -> Result<(), Memory>
     requires { number ≤ top }
     ensures { OnOk result (sink.new ≡ sink.old ++ large_bits top number (length sink.old)) }

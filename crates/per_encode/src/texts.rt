@@ -8,8 +8,9 @@ use bit_cursor::BitSink;
 use per_fields::Variant;
 use xa_base::Memory;
 
-/// The octets of a text behind their lengths, in fragments (X.691, clause 11.9).
-pub(crate) fn put_text<V: Variant>(sink: &mut BitSink, text: &[u8]) -> Result<(), Memory>
+// The octets of a text behind their lengths, in fragments (X.691, clause 11.9).
+#[inline(never)]
+fn put_fragments<V: Variant>(sink: &mut BitSink, text: &[u8]) -> Result<(), Memory>
     ensures { OnOk result (sink.new ≡ sink.old ++ counted_bits V.ALIGNED (map octet_writer text.now) (length sink.old)) }
 {
     let mut at: usize = 0;
@@ -21,4 +22,16 @@ pub(crate) fn put_text<V: Variant>(sink: &mut BitSink, text: &[u8]) -> Result<()
     }
     put_last_length::<V>(sink, text.len() - at)?;
     sink.put_octets(&text[at..])
+}
+
+/// The octets of a text behind their lengths (X.691, clause 11.9).
+#[inline(never)]
+pub(crate) fn put_text<V: Variant>(sink: &mut BitSink, text: &[u8]) -> Result<(), Memory>
+    ensures { OnOk result (sink.new ≡ sink.old ++ counted_bits V.ALIGNED (map octet_writer text.now) (length sink.old)) }
+{
+    if UNIT <= text.len() {
+        return put_fragments::<V>(sink, text);
+    }
+    put_last_length::<V>(sink, text.len())?;
+    sink.put_octets(text)
 }

@@ -1,4 +1,5 @@
-use Rattle.std.proofs.Common.{◌≡◌, ◌++◌, ◌+◌, ◌*◌, ◌<◌, ◌^◌, ◌∷◌, length, drop, get_or, false, sym, ap, ◌∙◌, subst, arith}
+use Rattle.std.proofs.Common.{◌≡◌, ◌++◌, ◌+◌, ◌*◌, ◌<◌, ◌^◌, ◌∷◌, length, drop, get_or, false, [], sym, ap, ◌∙◌, subst, arith}
+use Rattle.std.proofs.lemmas.List.{append-nil, drop_all}
 use Rattle.asn_types.specs.declared.types.Component.{Component}
 use Rattle.bit_cursor.specs.Bits.{bits, bit}
 use Rattle.per_fields.specs.Encoding.{flag_bits}
@@ -63,3 +64,17 @@ parts-preserved c =
                 ∙ ap (λ h. (sink ++ bits c.parts.count h) ++ rest) w.held-is ∙ sym (ap (λ fs. (sink ++ bits c.parts.count c.parts.held) ++ fs) left) ∙ c.parts.invariant.whole;
           })
     ]
+
+pub returns-then-count-eq0 : goal.returns-then-count-eq0
+returns-then-count-eq0 c =
+    let sink = c.parts.sink in
+    let count = c.parts.count in
+    let held = c.parts.held in
+    let i = c.parts.i in
+    let p : drop i c.args.parts.now ≡ [] = drop_all i c.args.parts.now (omega (arith, c.parts-test.false)) in
+    let q : drop i c.args.present.now ≡ [] = drop_all i c.args.present.now (omega (arith, c.parts-test.false, c.requires)) in
+    let none : flag_bits (drop i c.args.parts.now) (drop i c.args.present.now) ≡ [] = ap (λ cs. flag_bits cs (drop i c.args.present.now)) p ∙ ap (λ fs. flag_bits [] fs) q in
+    let fits : held < 2 ^ 0 = subst (λ n. held < 2 ^ n) c.if-count-eq0.true c.parts.invariant.fits in
+    let nothing : held ≡ 0 = omega (arith, fits) in
+    let same : sink ++ bits count held ≡ sink = ap (λ n. sink ++ bits n held) c.if-count-eq0.true ∙ ap (λ h. sink ++ bits 0 h) nothing ∙ none_held sink in
+    sym (append-nil sink) ∙ ap (λ bs. bs ++ []) (sym same) ∙ ap (λ fs. (sink ++ bits count held) ++ fs) (sym none) ∙ c.parts.invariant.whole

@@ -3,7 +3,7 @@ use Rattle.per_fields.specs.Fields.{counted_bits}
 use Rattle.per_fields.specs.Encoding.{octet_writer}
 use Rattle.per_fields.proofs.Fragments.{run_octets}
 use Rattle.per_encode.proofs.Puts.{on_ok, fragment_put, last_put}
-use Rattle.per_encode.proofs.texts.put_text.Goals as goal
+use Rattle.per_encode.proofs.texts.put_fragments.Goals as goal
 
 pub fragments-preserved : goal.fragments-preserved
 fragments-preserved g c =

@@ -1,7 +1,7 @@
 use Rattle.std.proofs.Common.{◌≡◌, ◌≤◌, ◌-◌, ◌++◌, length, drop, map}
 use Rattle.per_fields.specs.Fields.{counted_bits}
 use Rattle.per_fields.specs.Encoding.{octet_writer}
-use Rattle.per_encode.proofs.texts.put_text.Given as goal
+use Rattle.per_encode.proofs.texts.put_fragments.Given as goal
 
 abbrev pub invariant-fragments : goal.invariant-fragments
 invariant-fragments g l = record {
