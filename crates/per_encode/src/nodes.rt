@@ -1,5 +1,7 @@
 //! The nodes of a value.
 ghost use Rattle.std.specs.Prelude.{◌≡◌, ◌≤◌, ◌++◌, OnOk, map, length, take, drop, true};
+ghost use Rattle.label_tree.specs.Rose.{kids_of, label_of};
+ghost use Rattle.asn_types.specs.declared.types.Form.TheVariants.{Sequence, Choice};
 ghost use Rattle.simple_values.specs.Lexical.{is_at_most};
 ghost use Rattle.per_fields.specs.Codec.{AllOf};
 ghost use Rattle.per_fields.specs.Fields.{in_turn, counted_bits, list_bits};
@@ -11,7 +13,7 @@ use crate::lengths::{UNIT, put_last_length, put_units};
 use crate::numbers::{put_index, put_number};
 use crate::texts::put_text;
 use crate::whole_numbers::put_whole;
-use asn_types::{Form, Module, TypeLabel, resolve};
+use asn_types::{Components, Form, Module, TypeLabel, resolve};
 use bit_cursor::BitSink;
 use flat_tree::{Kids, Node};
 use label_tree::Tree;
@@ -20,7 +22,6 @@ use simple_types::ValueLabel;
 use xa_base::Memory;
 
 // The components of a SEQUENCE that are present.
-#[inline(never)]
 #[cycle(encoding)]
 fn put_parts<V: Variant>(
     sink: &mut BitSink,
@@ -69,7 +70,6 @@ fn put_items<V: Variant>(
 }
 
 // Items behind general lengths, in fragments (clause 11.9).
-#[inline(never)]
 #[cycle(encoding)]
 fn put_fragments<V: Variant>(
     sink: &mut BitSink,
@@ -102,13 +102,14 @@ fn put_list<V: Variant>(
     node: &Tree<TypeLabel>,
     min: u32,
     max: Option<u32>,
-    values: &Kids<'_, ValueLabel>,
+    value: &Node<'_, ValueLabel>,
 ) -> Result<(), Memory>
-    requires least { min ≤ length values.now }
-    requires most { is_at_most (length values.now) max ≡ true }
-    requires fit { AllOf (FitsSomewhere module.now node.now) values.now }
-    ensures { OnOk result (sink.new ≡ sink.old ++ list_bits V.ALIGNED min max (map (per V.ALIGNED module.now node.now) values.now) (length sink.old)) }
+    requires least { min ≤ length (kids_of value.now) }
+    requires most { is_at_most (length (kids_of value.now)) max ≡ true }
+    requires fit { AllOf (FitsSomewhere module.now node.now) (kids_of value.now) }
+    ensures { OnOk result (sink.new ≡ sink.old ++ list_bits V.ALIGNED min max (map (per V.ALIGNED module.now node.now) (kids_of value.now)) (length sink.old)) }
 {
+    let values = value.kids();
     match max {
         Some(max) if max < 65_536 => {
             let count = values.len();
@@ -116,7 +117,60 @@ fn put_list<V: Variant>(
             let mut left = values.again();
             put_items::<V>(sink, module, node, &mut left, count)
         }
-        _ => put_fragments::<V>(sink, module, node, values),
+        _ => put_fragments::<V>(sink, module, node, &values),
+    }
+}
+
+// A value of a SEQUENCE: a flag for each optional component, and the components that are present (clause 19).
+#[inline(never)]
+#[cycle(encoding)]
+fn put_sequence<V: Variant>(
+    sink: &mut BitSink,
+    module: &Module,
+    node: &Tree<TypeLabel>,
+    parts: &Components,
+    value: &Node<'_, ValueLabel>,
+) -> Result<(), Memory>
+    requires form { (label_of node.now).form ≡ Sequence parts.now }
+    requires fit { KidsFit module.now node.now value.now }
+    ensures { OnOk result (sink.new ≡ sink.old ++ resolved_bits V.ALIGNED module.now node.now value.now (length sink.old)) }
+{
+    match value.label() {
+        ValueLabel::Sequence { present } => {
+            let components = parts.items();
+            let present = present.items();
+            let types = node.kids();
+            let values = value.kids();
+            put_flags(sink, components, present)?;
+            put_parts::<V>(sink, module, types, present, &values)
+        }
+        _ => unreachable!(),
+    }
+}
+
+// A value of a CHOICE: the number of the alternative, and its value (clause 23).
+#[inline(never)]
+#[cycle(encoding)]
+fn put_choice<V: Variant>(
+    sink: &mut BitSink,
+    module: &Module,
+    node: &Tree<TypeLabel>,
+    parts: &Components,
+    value: &Node<'_, ValueLabel>,
+) -> Result<(), Memory>
+    requires form { (label_of node.now).form ≡ Choice parts.now }
+    requires fit { KidsFit module.now node.now value.now }
+    ensures { OnOk result (sink.new ≡ sink.old ++ resolved_bits V.ALIGNED module.now node.now value.now (length sink.old)) }
+{
+    match value.label() {
+        ValueLabel::Choice(i) => {
+            let alternatives = parts.items();
+            put_index::<V>(sink, alternatives.len(), *i)?;
+            let alternative = node.kid(*i as usize);
+            let inner = value.kid(0);
+            put_node::<V>(sink, module, alternative, &inner)
+        }
+        _ => unreachable!(),
     }
 }
 
@@ -157,32 +211,12 @@ fn put_content<V: Variant>(
             ValueLabel::Utf8(text) => put_text::<V>(sink, text.bytes()),
             _ => unreachable!(),
         },
-        Form::Sequence { parts } => match label {
-            ValueLabel::Sequence { present } => {
-                let components = parts.items();
-                let present = present.items();
-                let types = node.kids();
-                let values = value.kids();
-                put_flags(sink, components, present)?;
-                put_parts::<V>(sink, module, types, present, &values)
-            }
-            _ => unreachable!(),
-        },
-        Form::Choice { parts } => match label {
-            ValueLabel::Choice(i) => {
-                let alternatives = parts.items();
-                put_index::<V>(sink, alternatives.len(), *i)?;
-                let alternative = node.kid(*i as usize);
-                let inner = value.kid(0);
-                put_node::<V>(sink, module, alternative, &inner)
-            }
-            _ => unreachable!(),
-        },
+        Form::Sequence { parts } => put_sequence::<V>(sink, module, node, parts, value),
+        Form::Choice { parts } => put_choice::<V>(sink, module, node, parts, value),
         Form::SequenceOf { min, max, .. } => match label {
             ValueLabel::SequenceOf => {
                 let item = node.kid(0);
-                let items = value.kids();
-                put_list::<V>(sink, module, item, *min, *max, &items)
+                put_list::<V>(sink, module, item, *min, *max, value)
             }
             _ => unreachable!(),
         },

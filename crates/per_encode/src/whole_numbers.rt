@@ -48,6 +48,7 @@ fn complement(width: u32, number: i128) -> u128
 }
 
 // A number from a least one, without a greatest: the length of its octets, and these (clause 11.7).
+#[inline(never)]
 fn put_from<V: Variant>(sink: &mut BitSink, least: i128, number: i128) -> Result<(), Memory>
     requires { int_le least number ≡ true }
     ensures { OnOk result (sink.new ≡ sink.old ++ from_bits V.ALIGNED least number (length sink.old)) }
@@ -69,6 +70,7 @@ fn signed_octets_behind(number: i128) -> u32
 }
 
 // A number without a least one, in two's complement (clause 11.8).
+#[inline(never)]
 fn put_signed<V: Variant>(sink: &mut BitSink, number: i128) -> Result<(), Memory>
     ensures { OnOk result (sink.new ≡ sink.old ++ signed_bits V.ALIGNED number (length sink.old)) }
 {

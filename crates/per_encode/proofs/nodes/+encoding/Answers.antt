@@ -12,7 +12,7 @@ use Rattle.simple_types.specs.declared.labels.ValueLabel.TheVariants as value
 use Rattle.simple_values.specs.Lexical.{is_at_most}
 use Rattle.asn_types.specs.declared.types.Form.TheVariants as form
 use Rattle.per_fields.specs.Codec.{AllOf}
-use Rattle.per_fields.specs.Fields.{Last, head_bits, units_of, in_turn, number_bits, whole_bits, counted_bits, list_bits}
+use Rattle.per_fields.specs.Fields.{Last, head_bits, units_of, in_turn, number_bits, whole_bits, counted_bits}
 use Rattle.per_fields.specs.Encoding.{octet_writer, flag_bits, per}
 use Rattle.per_encode.specs.Private.Kids.{FitsSomewhere, AllFit, KidsFit, chosen, writers, resolved_bits}
 use Rattle.per_encode.proofs.Puts.{on_ok, then_written, turn_taken, nothing_left, fragment_taken, last_taken}
@@ -36,61 +36,61 @@ put_node-returns g t c =
     (λ e. e ∙ ap (λ u. sink ++ resolved_bits g.V.Variant.ALIGNED M u v (length sink)) c.resolve.ensures ∙ ap (λ bs. sink ++ bs) (sym (per-resolved g.V.Variant.ALIGNED M c.args.node.now v (length sink))))
     c.put_content.ensures
 
-pub put_content-put_flags-requires : goal.put_content-put_flags-requires
-put_content-put_flags-requires g t c =
+pub put_sequence-put_flags-requires : goal.put_sequence-put_flags-requires
+put_sequence-put_flags-requires g t c =
     let M = c.args.module.now in
     let u = c.args.node.now in
     let v = c.args.value.now in
-    let parts = c.in-Sequence.parts in
-    let flags = c.in-Sequence-label.present in
-    let is : Is g.V.Variant.ALIGNED M u v (form.Sequence parts) (value.Sequence flags) = (ap (λ l. l.form) (sym c.label.ensures) ∙ c.in-Sequence.is, sym c.label-label.ensures ∙ c.in-Sequence-label.is) in
-    ap length c.items-components.ensures ∙ (sequence_here g.V.Variant.ALIGNED M u v parts flags is c.requires).counted ∙ sym (ap length c.items-present.ensures)
+    let parts = c.args.parts.now in
+    let flags = c.in-Sequence.present in
+    let is : Is g.V.Variant.ALIGNED M u v (form.Sequence parts) (value.Sequence flags) = (c.requires.form, sym c.label.ensures ∙ c.in-Sequence.is) in
+    ap length c.items-components.ensures ∙ (sequence_here g.V.Variant.ALIGNED M u v parts flags is c.requires.fit).counted ∙ sym (ap length c.items-present.ensures)
 
-pub put_content-put_parts-requires : goal.put_content-put_parts-requires
-put_content-put_parts-requires g t c =
+pub put_sequence-put_parts-requires : goal.put_sequence-put_parts-requires
+put_sequence-put_parts-requires g t c =
     let M = c.args.module.now in
     let u = c.args.node.now in
     let v = c.args.value.now in
-    let parts = c.in-Sequence.parts in
-    let flags = c.in-Sequence-label.present in
-    let is : Is g.V.Variant.ALIGNED M u v (form.Sequence parts) (value.Sequence flags) = (ap (λ l. l.form) (sym c.label.ensures) ∙ c.in-Sequence.is, sym c.label-label.ensures ∙ c.in-Sequence-label.is) in
-    let s = sequence_here g.V.Variant.ALIGNED M u v parts flags is c.requires in
+    let parts = c.args.parts.now in
+    let flags = c.in-Sequence.present in
+    let is : Is g.V.Variant.ALIGNED M u v (form.Sequence parts) (value.Sequence flags) = (c.requires.form, sym c.label.ensures ∙ c.in-Sequence.is) in
+    let s = sequence_here g.V.Variant.ALIGNED M u v parts flags is c.requires.fit in
     let d = c.decreases in
     let n = node_count-kids v in (λ κs h. (rw c.kids-values.ensures (omega (arith, d, n)), (h, (rw (c.items-present.ensures, c.kids-types.ensures) s.typed, rw (c.items-present.ensures, c.kids-types.ensures, c.kids-values.ensures) s.fit))))
 
-pub put_content-put_index-requires-in-Choice-label : goal.put_content-put_index-requires-in-Choice-label
-put_content-put_index-requires-in-Choice-label g t c =
+pub put_choice-put_index-requires : goal.put_choice-put_index-requires
+put_choice-put_index-requires g t c =
     let M = c.args.module.now in
     let u = c.args.node.now in
     let v = c.args.value.now in
-    let parts = c.in-Choice.parts in
-    let i = c.in-Choice-label.i in
-    let is : Is g.V.Variant.ALIGNED M u v (form.Choice parts) (value.Choice i) = (ap (λ l. l.form) (sym c.label.ensures) ∙ c.in-Choice.is, sym c.label-label.ensures ∙ c.in-Choice-label.is) in
-    let h = choice_here g.V.Variant.ALIGNED M u v parts i is c.requires in
+    let parts = c.args.parts.now in
+    let i = c.in-Choice.i in
+    let is : Is g.V.Variant.ALIGNED M u v (form.Choice parts) (value.Choice i) = (c.requires.form, sym c.label.ensures ∙ c.in-Choice.is) in
+    let h = choice_here g.V.Variant.ALIGNED M u v parts i is c.requires.fit in
     rw c.items-alternatives.ensures (slice_get_within parts i h.part h.part_is)
 
-pub put_content-kid-alternative-requires : goal.put_content-kid-alternative-requires
-put_content-kid-alternative-requires g t c =
+pub put_choice-kid-alternative-requires : goal.put_choice-kid-alternative-requires
+put_choice-kid-alternative-requires g t c =
     let M = c.args.module.now in
     let u = c.args.node.now in
     let v = c.args.value.now in
-    let parts = c.in-Choice.parts in
-    let i = c.in-Choice-label.i in
-    let is : Is g.V.Variant.ALIGNED M u v (form.Choice parts) (value.Choice i) = (ap (λ l. l.form) (sym c.label.ensures) ∙ c.in-Choice.is, sym c.label-label.ensures ∙ c.in-Choice-label.is) in
-    let h = choice_here g.V.Variant.ALIGNED M u v parts i is c.requires in
+    let parts = c.args.parts.now in
+    let i = c.in-Choice.i in
+    let is : Is g.V.Variant.ALIGNED M u v (form.Choice parts) (value.Choice i) = (c.requires.form, sym c.label.ensures ∙ c.in-Choice.is) in
+    let h = choice_here g.V.Variant.ALIGNED M u v parts i is c.requires.fit in
     slice_get_within (kids_of u) i h.type h.type_is
 
-pub put_content-put_node-requires : goal.put_content-put_node-requires
-put_content-put_node-requires g t c =
+pub put_choice-put_node-requires : goal.put_choice-put_node-requires
+put_choice-put_node-requires g t c =
     let M = c.args.module.now in
     let u = c.args.node.now in
     let v = c.args.value.now in
-    let parts = c.in-Choice.parts in
-    let i = c.in-Choice-label.i in
-    let is : Is g.V.Variant.ALIGNED M u v (form.Choice parts) (value.Choice i) = (ap (λ l. l.form) (sym c.label.ensures) ∙ c.in-Choice.is, sym c.label-label.ensures ∙ c.in-Choice-label.is) in
+    let parts = c.args.parts.now in
+    let i = c.in-Choice.i in
+    let is : Is g.V.Variant.ALIGNED M u v (form.Choice parts) (value.Choice i) = (c.requires.form, sym c.label.ensures ∙ c.in-Choice.is) in
     let d = c.decreases in
     let n = node_count-got v 0 c.kid-inner.result c.kid-inner.ensures in
-    (λ κs h. (omega (arith, d, n), (h, (choice_kid g.V.Variant.ALIGNED M u v parts i c.kid-alternative.result.now c.kid-inner.result (choice_here g.V.Variant.ALIGNED M u v parts i is c.requires) c.kid-alternative.ensures c.kid-inner.ensures).0)))
+    (λ κs h. (omega (arith, d, n), (h, (choice_kid g.V.Variant.ALIGNED M u v parts i c.kid-alternative.result.now c.kid-inner.result (choice_here g.V.Variant.ALIGNED M u v parts i is c.requires.fit) c.kid-alternative.ensures c.kid-inner.ensures).0)))
 
 pub put_content-put_list-requires : goal.put_content-put_list-requires
 put_content-put_list-requires g t c =
@@ -104,16 +104,7 @@ put_content-put_list-requires g t c =
     let l = list_here g.V.Variant.ALIGNED M u v part least most is c.requires in
     let size = both (leb least (length (kids_of v))) (is_at_most (length (kids_of v)) most) l.size in
     let d = c.decreases in
-    let n = node_count-kids v in (λ κs h. (
-      rw c.kids-items.ensures (omega (arith, d, n)),
-      (
-        h,
-        (
-          rw c.kids-items.ensures (leb-true least (length (kids_of v)) size.0),
-          (rw c.kids-items.ensures size.1, rw c.kids-items.ensures (list_item g.V.Variant.ALIGNED M u v part least most c.kid-item.result.now l c.kid-item.ensures)),
-        ),
-      ),
-    ))
+    (λ κs h. (omega (arith, d), (h, (leb-true least (length (kids_of v)) size.0, (size.1, list_item g.V.Variant.ALIGNED M u v part least most c.kid-item.result.now l c.kid-item.ensures)))))
 
 pub put_content-returns-in-Bool-label : goal.put_content-returns-in-Bool-label
 put_content-returns-in-Bool-label g t c =
@@ -182,17 +173,17 @@ put_content-returns-in-Utf8-label g t c =
     let p = length sink in
     on_ok c.put_text.result (λ e. e ∙ ap (λ xs. sink ++ counted_bits g.V.Variant.ALIGNED (map octet_writer xs) p) c.bytes.ensures.bytes ∙ ap (λ bs. sink ++ bs) (sym (text-bits g.V.Variant.ALIGNED M u v c.in-Utf8.min c.in-Utf8.max c.in-Utf8.class text is p))) c.put_text.ensures
 
-pub put_content-returns-in_ok-put_flags-in-Sequence-label : goal.put_content-returns-in_ok-put_flags-in-Sequence-label
-put_content-returns-in_ok-put_flags-in-Sequence-label g t c =
+pub put_sequence-returns : goal.put_sequence-returns
+put_sequence-returns g t c =
     let M = c.args.module.now in
     let u = c.args.node.now in
     let v = c.args.value.now in
-    let parts = c.in-Sequence.parts in
-    let flags = c.in-Sequence-label.present in
-    let is : Is g.V.Variant.ALIGNED M u v (form.Sequence parts) (value.Sequence flags) = (ap (λ l. l.form) (sym c.label.ensures) ∙ c.in-Sequence.is, sym c.label-label.ensures ∙ c.in-Sequence-label.is) in
+    let parts = c.args.parts.now in
+    let flags = c.in-Sequence.present in
+    let is : Is g.V.Variant.ALIGNED M u v (form.Sequence parts) (value.Sequence flags) = (c.requires.form, sym c.label.ensures ∙ c.in-Sequence.is) in
     let mid = c.put_flags.new.sink in
     let put : mid ≡ c.args.sink.now ++ flag_bits parts flags =
-    c.in_ok-put_flags-in-Sequence-label.ensures ∙ ap (λ cs. c.args.sink.now ++ flag_bits cs c.items-present.result.now) c.items-components.ensures
+    c.in_ok-put_flags-in-Sequence.ensures ∙ ap (λ cs. c.args.sink.now ++ flag_bits cs c.items-present.result.now) c.items-components.ensures
     ∙ ap (λ fs. c.args.sink.now ++ flag_bits parts fs) c.items-present.ensures in
     let kept : chosen c.kids-types.result.now c.items-present.result.now ≡ chosen (kids_of u) flags =
     ap (λ ts. chosen ts c.items-present.result.now) c.kids-types.ensures ∙ ap (λ fs. chosen (kids_of u) fs) c.items-present.ensures in
@@ -200,24 +191,24 @@ put_content-returns-in_ok-put_flags-in-Sequence-label g t c =
     let p = length sink in
     on_ok c.put_parts.result (λ e. then_written sink mid c.put_parts.new.sink (flag_bits parts flags) (in_turn (writers g.V.Variant.ALIGNED M (chosen (kids_of u) flags) (kids_of v))) put
     (e ∙ ap (λ ts. mid ++ in_turn (writers g.V.Variant.ALIGNED M ts c.kids-values.result) (length mid)) kept ∙ ap (λ vs. mid ++ in_turn (writers g.V.Variant.ALIGNED M (chosen (kids_of u) flags) vs) (length mid)) c.kids-values.ensures)
-    ∙ ap (λ bs. sink ++ bs) (sym (sequence-bits g.V.Variant.ALIGNED M u v parts flags is c.requires p))) c.put_parts.ensures
+    ∙ ap (λ bs. sink ++ bs) (sym (sequence-bits g.V.Variant.ALIGNED M u v parts flags is c.requires.fit p))) c.put_parts.ensures
 
-pub put_content-returns-in_ok-put_index-in-Choice-label : goal.put_content-returns-in_ok-put_index-in-Choice-label
-put_content-returns-in_ok-put_index-in-Choice-label g t c =
+pub put_choice-returns : goal.put_choice-returns
+put_choice-returns g t c =
     let M = c.args.module.now in
     let u = c.args.node.now in
     let v = c.args.value.now in
-    let parts = c.in-Choice.parts in
-    let i = c.in-Choice-label.i in
-    let is : Is g.V.Variant.ALIGNED M u v (form.Choice parts) (value.Choice i) = (ap (λ l. l.form) (sym c.label.ensures) ∙ c.in-Choice.is, sym c.label-label.ensures ∙ c.in-Choice-label.is) in
-    let mid = c.put_index-in-Choice-label.new.sink in
+    let parts = c.args.parts.now in
+    let i = c.in-Choice.i in
+    let is : Is g.V.Variant.ALIGNED M u v (form.Choice parts) (value.Choice i) = (c.requires.form, sym c.label.ensures ∙ c.in-Choice.is) in
+    let mid = c.put_index.new.sink in
     let a = c.kid-alternative.result.now in
     let w = c.kid-inner.result in
     let n = number_bits g.V.Variant.ALIGNED (length parts - 1) i (length c.args.sink.now) in
-    let put : mid ≡ c.args.sink.now ++ n = c.in_ok-put_index-in-Choice-label.ensures ∙ ap (λ cs. c.args.sink.now ++ number_bits g.V.Variant.ALIGNED (length cs - 1) i (length c.args.sink.now)) c.items-alternatives.ensures in
+    let put : mid ≡ c.args.sink.now ++ n = c.in_ok-put_index-in-Choice.ensures ∙ ap (λ cs. c.args.sink.now ++ number_bits g.V.Variant.ALIGNED (length cs - 1) i (length c.args.sink.now)) c.items-alternatives.ensures in
     let sink = c.args.sink.now in
     let p = length sink in
-    on_ok c.put_node.result (λ e. then_written sink mid c.put_node.new.sink n (per g.V.Variant.ALIGNED M a w) put e ∙ ap (λ bs. sink ++ bs) (sym (choice-bits g.V.Variant.ALIGNED M u v parts i a w is c.requires c.kid-alternative.ensures c.kid-inner.ensures p))) c.put_node.ensures
+    on_ok c.put_node.result (λ e. then_written sink mid c.put_node.new.sink n (per g.V.Variant.ALIGNED M a w) put e ∙ ap (λ bs. sink ++ bs) (sym (choice-bits g.V.Variant.ALIGNED M u v parts i a w is c.requires.fit c.kid-alternative.ensures c.kid-inner.ensures p))) c.put_node.ensures
 
 pub put_content-returns-in-SequenceOf-label : goal.put_content-returns-in-SequenceOf-label
 put_content-returns-in-SequenceOf-label g t c =
@@ -231,7 +222,7 @@ put_content-returns-in-SequenceOf-label g t c =
     let item = c.kid-item.result.now in
     let sink = c.args.sink.now in
     let p = length sink in
-    on_ok c.put_list.result (λ e. e ∙ ap (λ vs. sink ++ list_bits g.V.Variant.ALIGNED least most (map (per g.V.Variant.ALIGNED M item) vs) p) c.kids-items.ensures ∙ ap (λ bs. sink ++ bs) (sym (list-bits g.V.Variant.ALIGNED M u v part least most item is c.requires c.kid-item.ensures p))) c.put_list.ensures
+    on_ok c.put_list.result (λ e. e ∙ ap (λ bs. sink ++ bs) (sym (list-bits g.V.Variant.ALIGNED M u v part least most item is c.requires c.kid-item.ensures p))) c.put_list.ensures
 
 pub put_items-put_node-requires : goal.put_items-put_node-requires
 put_items-put_node-requires g t c =
@@ -382,3 +373,33 @@ put_parts-returns g t c =
     let sink = c.parts.sink in
     let none = none_left g.V.Variant.ALIGNED M ts flags c.parts.i c.parts.left c.parts-test.false in
     sym (nothing_left sink (length sink)) ∙ sym (ap (λ ws. sink ++ in_turn ws (length sink)) none) ∙ c.parts.invariant.whole
+
+pub put_content-put_sequence-requires : goal.put_content-put_sequence-requires
+put_content-put_sequence-requires g t c =
+    let d = c.decreases in
+    (λ κs h. (omega (arith, d), (h, (ap (λ l. l.form) (sym c.label.ensures) ∙ c.in-Sequence.is, c.requires))))
+
+pub put_content-put_choice-requires : goal.put_content-put_choice-requires
+put_content-put_choice-requires g t c =
+    let d = c.decreases in
+    (λ κs h. (omega (arith, d), (h, (ap (λ l. l.form) (sym c.label.ensures) ∙ c.in-Choice.is, c.requires))))
+
+pub put_list-put_items-requires : goal.put_list-put_items-requires
+put_list-put_items-requires g t c =
+    let v = c.args.value.now in
+    let all = c.again-left.ensures ∙ c.kids-values.ensures in
+    let d = c.decreases in
+    let n = node_count-kids v in (λ κs h. (
+      omega (arith, d, n, ap (λ vs. count_all (roses_of vs)) all),
+      (h, (omega (arith, c.len-count.ensures, ap length c.again-left.ensures), subst (AllOf (FitsSomewhere c.args.module.now c.args.node.now)) (sym all) c.requires.fit)),
+    ))
+
+pub put_list-put_fragments-requires : goal.put_list-put_fragments-requires
+put_list-put_fragments-requires g t c =
+    let v = c.args.value.now in
+    let all = c.kids-values.ensures in
+    let d = c.decreases in
+    let n = node_count-kids v in (λ κs h. (
+      omega (arith, d, n, ap (λ vs. count_all (roses_of vs)) all),
+      (h, subst (AllOf (FitsSomewhere c.args.module.now c.args.node.now)) (sym all) c.requires.fit),
+    ))

@@ -13,7 +13,13 @@ abbrev pub decreases-put_content : goal.decreases-put_content
 decreases-put_content g l = 6 * node_count l.value.now + 4
 
 abbrev pub decreases-put_list : goal.decreases-put_list
-decreases-put_list g l = 6 * count_all (roses_of l.values.now) + 9
+decreases-put_list g l = 6 * node_count l.value.now + 3
+
+abbrev pub decreases-put_sequence : goal.decreases-put_sequence
+decreases-put_sequence g l = 6 * node_count l.value.now + 3
+
+abbrev pub decreases-put_choice : goal.decreases-put_choice
+decreases-put_choice g l = 6 * node_count l.value.now + 3
 
 abbrev pub decreases-put_fragments : goal.decreases-put_fragments
 decreases-put_fragments g l = 6 * count_all (roses_of l.values.now) + 8
