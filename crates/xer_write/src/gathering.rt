@@ -54,6 +54,7 @@ fn texts_of<'a>(value: &Node<'a, ValueLabel>) -> Option<Kids<'a, ValueLabel>>
 }
 
 // Adds `xsi:nil` where the content is absent of a type with USE-NIL.
+#[inline(always)]
 fn add_nil_if(
     alloc: Global,
     label: &TypeLabel,
@@ -70,6 +71,7 @@ fn add_nil_if(
 }
 
 // Adds an attribute with the text of a value.
+#[inline(never)]
 fn add_attribute_at<'a>(
     alloc: Global,
     module: &'a Module,
@@ -86,6 +88,7 @@ fn add_attribute_at<'a>(
 }
 
 // Adds an element of this name with the text of a value, which is spelled first.
+#[inline(never)]
 fn add_spelled_element<'a>(
     alloc: Global,
     found: &Tree<TypeLabel>,
@@ -101,6 +104,7 @@ fn add_spelled_element<'a>(
 }
 
 // The same of a number.
+#[inline(always)]
 fn add_number_element<'a>(
     alloc: Global,
     number: &Integer,
@@ -114,6 +118,7 @@ fn add_number_element<'a>(
 }
 
 // Adds an element of this name with the text of a value. A UTF8String has its text and an INTEGER its digits at hand.
+#[inline(always)]
 fn add_leaf_element<'a>(
     alloc: Global,
     found: &Tree<TypeLabel>,
@@ -221,6 +226,7 @@ fn gather_children<'a>(
 
 // Adds what the value of a USE-ORDER type gives: its attributes, and then its child elements in their order.
 #[cycle(gathering)]
+#[inline(never)]
 fn gather_ordered<'a>(
     alloc: Global,
     module: &'a Module,
@@ -257,6 +263,7 @@ fn gather_ordered<'a>(
 
 // Adds what the value of a SEQUENCE gives, in the order of its type.
 #[cycle(gathering)]
+#[inline(always)]
 fn gather_sequence<'a>(
     alloc: Global,
     module: &'a Module,
@@ -286,6 +293,7 @@ fn gather_sequence<'a>(
 
 // Adds what the chosen value of a CHOICE gives.
 #[cycle(gathering)]
+#[inline(never)]
 fn gather_choice<'a>(
     alloc: Global,
     module: &'a Module,
@@ -335,6 +343,7 @@ fn gather_items<'a>(
 
 // Adds what the value of a SEQUENCE OF gives.
 #[cycle(gathering)]
+#[inline(never)]
 fn gather_sequence_of<'a>(
     alloc: Global,
     module: &'a Module,
@@ -367,6 +376,7 @@ fn gather_sequence_of<'a>(
 
 // Adds what the kids of a value give, whose type is no reference. It is nothing where the value isn't of the type.
 #[cycle(gathering)]
+#[inline(always)]
 fn gather_kids<'a>(
     alloc: Global,
     module: &'a Module,
@@ -392,6 +402,7 @@ fn gather_kids<'a>(
 
 // Adds what the kids of a value give, with these texts before, between and behind them.
 #[cycle(gathering)]
+#[inline(never)]
 fn gather_mixed<'a>(
     alloc: Global,
     module: &'a Module,
@@ -411,6 +422,7 @@ fn gather_mixed<'a>(
 
 // Adds what a value gives whose type is no reference and no text, by the instructions on the type.
 #[cycle(gathering)]
+#[inline(always)]
 fn gather_parts<'a>(
     alloc: Global,
     module: &'a Module,

@@ -201,6 +201,7 @@ impl<'a> Receiver<'a> {
     }
 
     // Builds an element of this name in which a text stands, or nothing, where it is empty.
+    #[inline(never)]
     fn build_text_element(
         &mut self,
         alloc: Global,
@@ -236,6 +237,7 @@ impl<'a> Receiver<'a> {
     }
 
     // Builds an element of this name in which these bytes stand.
+    #[inline(never)]
     fn build_digits_element(
         &mut self,
         alloc: Global,
