@@ -1,7 +1,8 @@
 -- What stands in an element, one thing after another.
 use Rattle.std.proofs.Common.{◌≡◌, ℕ, zero, suc, ◌+◌, Bool, true, false, List, [], ◌∷◌, ◌++◌, length, drop, refl, sym, ◌∙◌, ap, subst, append_assoc, length-append, arith, IsUtf8, rules}
 use Rattle.std.proofs.lemmas.Str.{IsUtf8-from_ascii}
-use Rattle.std.specs.Prelude.{◌==◌, map, codes, Result, Ok, Err, OnOk}
+use Rattle.std.specs.Prelude.{◌==◌, map, codes, Result, Ok, Err, OnOk, IfOk}
+use Rattle.std.specs.Bool.{OnTrue}
 use Rattle.std.proofs.lemmas.Bool.{eqb-true}
 use Rattle.std.proofs.lemmas.List.{append-nil, drop-map, length-map, length_push, same_from_push}
 use Rattle.xa_base.specs.declared.texts.Name.{Name}
@@ -18,9 +19,11 @@ use Rattle.xer_write.specs.declared.contents.Outer.{Outer}
 use Rattle.plain_items.specs.Unplaced.{unplaced, all_unplaced}
 use Rattle.xer_write.specs.Private.Utf8.{AreUtf8, ItemIsUtf8, ItemsAreUtf8}
 use Rattle.xer_write.specs.declared.receiver.Receiver.{Receiver}
+use Rattle.xer_write.specs.declared.receiver.Open.TheVariants as open_element
+use Rattle.doc_write.specs.declared.builder.OpenTag.{OpenTag}
 use Rattle.xer_write.specs.Private.Receiving.{Tells, Opens, IsOpen, Closes}
 use Rattle.xer_write.proofs.Receiving.{tells-none, tells-both, tells-element, still-open}
-use Rattle.xer_write.specs.Private.Gaining.{items_in, value_text, levels, Puts, GainsIn, Gains, MakesRoom, TakesElement, Begins, text_item, text_at, first_text, with_texts_before, through, left_behind}
+use Rattle.xer_write.specs.Private.Gaining.{items_in, value_text, levels, Puts, GainsIn, Gains, MakesRoom, TakesElement, Begins, IsPlain, outer_of, text_item, text_at, first_text, with_texts_before, through, left_behind}
 use Rattle.xer_write.specs.Private.Giving.{mixed_gives}
 
 pub items_in-joined : (a b : Roses Plain) → items_in (joined a b) ≡ items_in a ++ items_in b
@@ -336,6 +339,23 @@ element-open old begun mid outer name g begins gains =
     let inner = inner-puts old begun mid outer name g begins gains in
     still-open begins.outside begun.receiver mid.receiver name outer.tag g.attributes (items_in g.kids) begins.opens inner.told
 
+-- ---- elements that are written where no text waits
+
+pub plain-is : (b : Bool) (c : Contents) → OnTrue b (IsPlain c) → b ≡ true → IsPlain c
+plain-is true c is e = is
+plain-is false c is e = absurd (cc)
+
+pub plain-begun : (old new : Contents) (tag : OpenTag) (name : Name) → IsPlain old → new.texts.items ≡ old.texts.items → Opens old.receiver new.receiver name (open_element.Text tag)
+    → Begins old new name (outer_of old tag)
+plain-begun old new tag name plain same opens = begun old old new (outer_of old tag) name (room-empty old (ap (λ s. length s == 0) plain.1)) refl (same ∙ plain.1) opens
+
+none-in : (xs : List (List (Rose ValueLabel))) → length xs ≡ 0 → xs ≡ []
+none-in [] e = refl
+none-in (x ∷ xs) e = absurd (omega (arith, e))
+
+pub none-left : (begun mid : Contents) (g : Given) → begun.texts.items ≡ [] → Gains begun mid g → mid.texts.items ≡ []
+none-left begun mid g none_begun gains = none-in mid.texts.items (gains-length begun mid g gains ∙ ap length none_begun)
+
 -- ---- mixed types
 
 pub mixed-ended : (old popped new : Contents) (texts : List (Rose ValueLabel)) → old.texts.items ≡ popped.texts.items ++ texts ∷ [] → popped.receiver ≡ old.receiver
@@ -391,3 +411,7 @@ on_ok (Err e) P Q f h = tt
 pub on_ok-two : {A E : Type 0} (r : Result A E) (P Q S : Type 0) → (P → Q → S) → OnOk r P → OnOk r Q → OnOk r S
 on_ok-two (Ok a) P Q S f p q = f p q
 on_ok-two (Err e) P Q S f p q = tt
+
+pub if_ok : {A E : Type 0} (r : Result A E) (P Q : A → Type 0) → ((a : A) → P a → Q a) → IfOk r P → IfOk r Q
+if_ok (Ok a) P Q f h = f a h
+if_ok (Err e) P Q f h = tt

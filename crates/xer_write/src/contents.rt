@@ -1,13 +1,16 @@
 //! Items as they are told, and what stands in the innermost element so far.
 ghost use Rattle.std.specs.Prelude.{◌≡◌, ◌∷◌, [], ◌++◌, ℕ, List, IfOk, OnOk, codes, drop, map};
+ghost use Rattle.std.specs.Bool.{OnTrue};
 ghost use Rattle.label_tree.specs.Rose.{none, more, roses_of};
 ghost use Rattle.plain_items.specs.Mixing.{text_before};
 ghost use Rattle.xer_items.specs.Items.{given, nil_name, element_of};
+ghost use Rattle.xer_write.specs.declared.receiver.Open.TheVariants as open_element;
 ghost use Rattle.xer_write.specs.Private.Receiving.{name_seen, IsBegun, IsTree, items_built, IsWholeOf, IsOpen, Tells, Closes};
-ghost use Rattle.xer_write.specs.Private.Gaining.{Gains, GainsIn, MakesRoom, Begins, first_text, levels, value_text};
+ghost use Rattle.xer_write.specs.Private.Gaining.{Gains, GainsIn, MakesRoom, Begins, IsPlain, first_text, levels, outer_of, value_text};
 
 use crate::receiver::{NameRef, Open, Receiver};
 use crate::spelling::value_text;
+use doc_write::OpenTag;
 use flat_tree::Kids;
 use item_tree::ItemTree;
 use simple_types::ValueLabel;
@@ -143,10 +146,10 @@ impl<'a> Contents<'a> {
     pub(crate) fn add_text_element(
         &mut self,
         alloc: Global,
-        name: NameRef<'a>,
+        name: &NameRef<'a>,
         text: &Text,
     ) -> Result<(), Memory>
-        ensures { OnOk result (Gains self.old self.new (given [] (more (element_of (name_seen name.entry) (given [] (text_before text.now none))) none))) }
+        ensures { OnOk result (Gains self.old self.new (given [] (more (element_of (name_seen name.now) (given [] (text_before text.now none))) none))) }
     {
         // A text is UTF-8, as is known once it was read.
         let _ = text.as_str();
@@ -159,10 +162,10 @@ impl<'a> Contents<'a> {
     pub(crate) fn add_digits_element(
         &mut self,
         alloc: Global,
-        name: NameRef<'a>,
+        name: &NameRef<'a>,
         digits: &str,
     ) -> Result<(), Memory>
-        ensures { OnOk result (Gains self.old self.new (given [] (more (element_of (name_seen name.entry) (given [] (text_before digits.now none))) none))) }
+        ensures { OnOk result (Gains self.old self.new (given [] (more (element_of (name_seen name.now) (given [] (text_before digits.now none))) none))) }
     {
         self.make_room_for_one(alloc)?;
         self.receiver.put_digits_element(alloc, name, digits)
@@ -173,14 +176,35 @@ impl<'a> Contents<'a> {
     pub(crate) fn begin_element(
         &mut self,
         alloc: Global,
-        name: NameRef<'a>,
+        name: &NameRef<'a>,
     ) -> Result<Outer<'a>, Memory>
-        ensures { IfOk result (λ outer. Begins self.old self.new (name_seen name.entry) outer) }
+        ensures { IfOk result (λ outer. Begins self.old self.new (name_seen name.now) outer) }
     {
         self.make_room_for_one(alloc)?;
         let tag = self.receiver.open(alloc, name)?;
         let texts = mem::replace(&mut self.texts, Vec::new(alloc));
         Ok(Outer { tag, texts })
+    }
+
+    /// Whether items are written, and no text is to stand before the next of them.
+    #[inline(always)]
+    pub(crate) fn is_plain(&self) -> bool
+        ensures { OnTrue result (IsPlain self.now) }
+    {
+        self.receiver.is_written() && self.texts.as_slice().is_empty()
+    }
+
+    /// Begins an element of this name there: nothing is handed back but its tag.
+    #[inline(always)]
+    pub(crate) fn begin_plain(
+        &mut self,
+        alloc: Global,
+        name: &NameRef<'a>,
+    ) -> Result<OpenTag<'a>, Memory>
+        requires { IsPlain self.old }
+        ensures { IfOk result (λ tag. Begins self.old self.new (name_seen name.now) (outer_of self.old tag)) }
+    {
+        self.receiver.open_tag(alloc, name)
     }
 
     /// Ends the innermost open element.
@@ -193,6 +217,16 @@ impl<'a> Contents<'a> {
         let Outer { tag, texts } = outer;
         self.texts = texts;
         self.receiver.close(alloc, tag)
+    }
+
+    /// Ends the innermost open element, which is written.
+    #[inline(always)]
+    pub(crate) fn end_plain(&mut self, alloc: Global, tag: OpenTag<'a>) -> Result<(), Memory>
+        requires { IsOpen self.old.receiver (open_element.Text tag) }
+        ensures receiver { OnOk result (Closes (open_element.Text tag.entry) self.old.receiver self.new.receiver) }
+        ensures texts { OnOk result (self.new.texts.items ≡ self.old.texts.items) }
+    {
+        self.receiver.close_tag(alloc, tag)
     }
 
     /// Has these texts stand before the next items that are added, each before one, until `end_mixed`.

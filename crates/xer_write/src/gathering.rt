@@ -15,7 +15,7 @@ ghost use Rattle.xer_items.specs.Children.{Child, elements_of};
 ghost use Rattle.xer_items.specs.Spelling.{is_textual};
 ghost use Rattle.xer_write.specs.Private.Receiving.{name_seen};
 ghost use Rattle.xer_write.specs.Private.Gaining.{Gains, value_text};
-ghost use Rattle.xer_write.specs.Private.Giving.{IsTypeIn, may_be_present, place_seen, place_gives, places_give, parts_give, ordered_give, mixed_gives, type_gives};
+ghost use Rattle.xer_write.specs.Private.Giving.{IsTypeIn, may_be_present, place_seen, element_at, place_gives, places_give, parts_give, ordered_give, mixed_gives, type_gives};
 ghost use Rattle.xer_write.specs.Private.Keeping.{AreWithin, children_seen};
 
 use crate::contents::Contents;
@@ -75,16 +75,16 @@ fn add_nil_if(
 fn add_attribute_at<'a>(
     alloc: Global,
     module: &'a Module,
-    place: &Place<'a>,
+    part: &'a Component,
+    node: &'a Tree<TypeLabel>,
     value: &Node<'a, ValueLabel>,
     out: &mut Contents<'a>,
 ) -> Result<(), Memory>
-    requires node { IsTypeIn module.now place.now.node.now }
-    requires role { place.now.role ≡ role.Attribute }
-    ensures { OnOk result (Gains out.old out.new (place_gives module.now (place_seen place.now) value.now)) }
+    requires { IsTypeIn module.now node.now }
+    ensures { OnOk result (Gains out.old out.new (place_gives module.now (record { role = role.Attribute; part = part.now; type = node.now }) value.now)) }
 {
-    let text = spelling(alloc, resolve(module, place.node), value)?;
-    out.add_attribute(alloc, NameRef::of_part(place.part), text)
+    let text = spelling(alloc, resolve(module, node), value)?;
+    out.add_attribute(alloc, NameRef::of_part(part), text)
 }
 
 // Adds an element of this name with the text of a value, which is spelled first.
@@ -93,11 +93,11 @@ fn add_spelled_element<'a>(
     alloc: Global,
     found: &Tree<TypeLabel>,
     value: &Node<'_, ValueLabel>,
-    name: NameRef<'a>,
+    name: &NameRef<'a>,
     out: &mut Contents<'a>,
 ) -> Result<(), Memory>
     requires { Allowed MayHave found.now }
-    ensures { OnOk result (Gains out.old out.new (given [] (more (element_of (name_seen name.entry) (given [] (text_before (spelled (space_at found.now) value.now) none))) none))) }
+    ensures { OnOk result (Gains out.old out.new (given [] (more (element_of (name_seen name.now) (given [] (text_before (spelled (space_at found.now) value.now) none))) none))) }
 {
     let text = spelling(alloc, found, value)?;
     out.add_text_element(alloc, name, &text)
@@ -108,10 +108,10 @@ fn add_spelled_element<'a>(
 fn add_number_element<'a>(
     alloc: Global,
     number: &Integer,
-    name: NameRef<'a>,
+    name: &NameRef<'a>,
     out: &mut Contents<'a>,
 ) -> Result<(), Memory>
-    ensures { OnOk result (Gains out.old out.new (given [] (more (element_of (name_seen name.entry) (given [] (text_before (spelled_whole (label.Int number.now)) none))) none))) }
+    ensures { OnOk result (Gains out.old out.new (given [] (more (element_of (name_seen name.now) (given [] (text_before (spelled_whole (label.Int number.now)) none))) none))) }
 {
     let mut buffer = Buffer::new();
     out.add_digits_element(alloc, name, buffer.format(number.get()))
@@ -123,11 +123,11 @@ fn add_leaf_element<'a>(
     alloc: Global,
     found: &Tree<TypeLabel>,
     value: &Node<'_, ValueLabel>,
-    name: NameRef<'a>,
+    name: &NameRef<'a>,
     out: &mut Contents<'a>,
 ) -> Result<(), Memory>
     requires { Allowed MayHave found.now }
-    ensures { OnOk result (Gains out.old out.new (given [] (more (element_of (name_seen name.entry) (given [] (text_before (spelled (space_at found.now) value.now) none))) none))) }
+    ensures { OnOk result (Gains out.old out.new (given [] (more (element_of (name_seen name.now) (given [] (text_before (spelled (space_at found.now) value.now) none))) none))) }
 {
     match &found.label().form {
         Form::Utf8 { .. } => match value.label() {
@@ -156,10 +156,10 @@ fn gather_at<'a>(
     ensures { OnOk result (Gains out.old out.new (place_gives module.now (place_seen place.now) value.now)) }
 {
     match place.role {
-        Role::Attribute => add_attribute_at(alloc, module, place, value, out),
+        Role::Attribute => add_attribute_at(alloc, module, place.part, place.node, value, out),
         Role::Element => {
             let name = NameRef::of_part(place.part);
-            gather_element(alloc, module, place.node, value, name, out)
+            gather_element(alloc, module, place.node, value, &name, out)
         }
         Role::Group => gather(alloc, module, place.node, value, out),
         Role::Content => gather(alloc, module, place.node, value, out),
@@ -219,7 +219,7 @@ fn gather_children<'a>(
         let Some(child) = children.get(*i) else {
             return Ok(());
         };
-        gather_element(alloc, module, child.node, &child.value, child.name, out)?;
+        gather_element(alloc, module, child.node, &child.value, &child.name, out)?;
     }
     Ok(())
 }
@@ -323,6 +323,27 @@ fn gather_choice<'a>(
     gather_at(alloc, module, &place, &chosen, out)
 }
 
+// Adds the items of a SEQUENCE OF, which are elements of one name.
+#[cycle(gathering)]
+#[inline(always)]
+fn gather_elements<'a>(
+    alloc: Global,
+    module: &'a Module,
+    part: &'a Component,
+    node: &'a Tree<TypeLabel>,
+    values: &Kids<'a, ValueLabel>,
+    out: &mut Contents<'a>,
+) -> Result<(), Memory>
+    requires { IsTypeIn module.now node.now }
+    ensures { OnOk result (Gains out.old out.new (gathered module.now (replicate (length values.now) (element_at part.now node.now)) (roses_of values.now))) }
+{
+    let name = NameRef::of_part(part);
+    'values: for value in values.again() {
+        gather_element(alloc, module, node, &value, &name, out)?;
+    }
+    Ok(())
+}
+
 // Adds what the items of a SEQUENCE OF give, which all stand at one place.
 #[cycle(gathering)]
 fn gather_items<'a>(
@@ -335,6 +356,9 @@ fn gather_items<'a>(
     requires { IsTypeIn module.now place.now.node.now }
     ensures { OnOk result (Gains out.old out.new (gathered module.now (replicate (length values.now) (place_seen place.now)) (roses_of values.now))) }
 {
+    if let Role::Element = place.role {
+        return gather_elements(alloc, module, place.part, place.node, values, out);
+    }
     'values: for value in values.again() {
         gather_at(alloc, module, place, &value, out)?;
     }
@@ -466,23 +490,48 @@ fn gather<'a>(
     }
 }
 
-// Adds an element of this name, in which stands what a value gives whose type is no reference and no text.
+// Adds an element of this name, in which stands what a value gives whose type is no reference and no text, and sets aside
+// meanwhile what the element around it has.
+#[cycle(gathering)]
+#[inline(never)]
+fn gather_apart<'a>(
+    alloc: Global,
+    module: &'a Module,
+    node: &'a Tree<TypeLabel>,
+    value: &Node<'a, ValueLabel>,
+    name: &NameRef<'a>,
+    out: &mut Contents<'a>,
+) -> Result<(), Memory>
+    requires node { IsTypeIn module.now node.now }
+    requires parts { is_textual (label_of node.now) ≡ false }
+    ensures { OnOk result (Gains out.old out.new (given [] (more (element_of (name_seen name.now) (type_gives module.now node.now value.now)) none))) }
+{
+    let outer = out.begin_element(alloc, name)?;
+    gather_parts(alloc, module, node, value, out)?;
+    out.end_element(alloc, outer)
+}
+
+// Adds an element of this name, in which stands what a value gives whose type is no reference and no text. Where
+// items are written and no text waits, as mostly, nothing is set aside but the tag.
 #[cycle(gathering)]
 fn gather_complex<'a>(
     alloc: Global,
     module: &'a Module,
     node: &'a Tree<TypeLabel>,
     value: &Node<'a, ValueLabel>,
-    name: NameRef<'a>,
+    name: &NameRef<'a>,
     out: &mut Contents<'a>,
 ) -> Result<(), Memory>
     requires node { IsTypeIn module.now node.now }
     requires parts { is_textual (label_of node.now) ≡ false }
-    ensures { OnOk result (Gains out.old out.new (given [] (more (element_of (name_seen name.entry) (type_gives module.now node.now value.now)) none))) }
+    ensures { OnOk result (Gains out.old out.new (given [] (more (element_of (name_seen name.now) (type_gives module.now node.now value.now)) none))) }
 {
-    let outer = out.begin_element(alloc, name)?;
+    if !out.is_plain() {
+        return gather_apart(alloc, module, node, value, name, out);
+    }
+    let tag = out.begin_plain(alloc, name)?;
     gather_parts(alloc, module, node, value, out)?;
-    out.end_element(alloc, outer)
+    out.end_plain(alloc, tag)
 }
 
 /// Adds an element of this name, in which stands what a value of the type gives.
@@ -493,11 +542,11 @@ pub(crate) fn gather_element<'a>(
     module: &'a Module,
     node: &'a Tree<TypeLabel>,
     value: &Node<'a, ValueLabel>,
-    name: NameRef<'a>,
+    name: &NameRef<'a>,
     out: &mut Contents<'a>,
 ) -> Result<(), Memory>
     requires { IsTypeIn module.now node.now }
-    ensures { OnOk result (Gains out.old out.new (given [] (more (element_of (name_seen name.entry) (inside module.now node.now value.now)) none))) }
+    ensures { OnOk result (Gains out.old out.new (given [] (more (element_of (name_seen name.now) (inside module.now node.now value.now)) none))) }
 {
     let found = resolve(module, node);
     if is_textual(found.label()) {

@@ -38,7 +38,7 @@ fn told<'a>(
         module,
         assignment.body.root(),
         &value.root(),
-        name,
+        &name,
         &mut out,
     )?;
     Ok(out)

@@ -1,5 +1,6 @@
 //! What takes the items of a value as they are told: they are built, or written as text at once.
 ghost use Rattle.std.specs.Prelude.{◌≡◌, ◌∷◌, [], codes, IfOk, OnOk, IfSome};
+ghost use Rattle.std.specs.Bool.{OnTrue};
 ghost use Rattle.label_tree.specs.Rose.{node, none};
 ghost use Rattle.item_tree.specs.declared.label.ItemLabel.TheVariants as item;
 ghost use Rattle.asn_types.specs.Names as names;
@@ -44,8 +45,8 @@ impl<'a> NameRef<'a> {
     }
 
     #[inline(always)]
-    fn space(self) -> &'a [u8]
-        ensures { result.now ≡ (name_seen self.entry).space }
+    fn space(&self) -> &'a [u8]
+        ensures { result.now ≡ (name_seen self.now).space }
     {
         match self.space {
             Some(space) => space.bytes(),
@@ -54,14 +55,14 @@ impl<'a> NameRef<'a> {
     }
 
     #[inline(always)]
-    fn local(self) -> &'a [u8]
-        ensures { result.now ≡ (name_seen self.entry).local }
+    fn local(&self) -> &'a [u8]
+        ensures { result.now ≡ (name_seen self.now).local }
     {
         self.local.bytes()
     }
 
-    fn to_name(self, alloc: Global) -> Result<Name, Memory>
-        ensures { IfOk result (λ name. name ≡ name_seen self.entry) }
+    fn to_name(&self, alloc: Global) -> Result<Name, Memory>
+        ensures { IfOk result (λ name. name ≡ name_seen self.now) }
     {
         let space = match self.space {
             Some(space) => space.copy(alloc)?,
@@ -94,7 +95,8 @@ pub(crate) enum Open<'a> {
 }
 
 impl<'a> Receiver<'a> {
-    ghost use Rattle.xer_write.specs.Private.Receiving.{name_seen, IsBegun, IsBuilder, IsTree, items_built, IsWholeOf, Tells, Opens, IsOpen, Closes};
+    ghost use Rattle.xer_write.specs.declared.receiver.Open.TheVariants as open_element;
+    ghost use Rattle.xer_write.specs.Private.Receiving.{name_seen, IsBegun, IsBuilder, IsTree, IsWritten, items_built, IsWholeOf, Tells, Opens, IsOpen, Closes};
     ghost use Rattle.xer_write.specs.Private.Gaining.{TakesElement, text_item};
 
     /// Takes items to build them.
@@ -139,6 +141,17 @@ impl<'a> Receiver<'a> {
         match self {
             Receiver::Items(_) => Ok(None),
             Receiver::Text(text) => text.finish(alloc, name.space(), name.local()),
+        }
+    }
+
+    /// Whether items are written.
+    #[inline(always)]
+    pub(crate) fn is_written(&self) -> bool
+        ensures { OnTrue result (IsWritten self.now) }
+    {
+        match self {
+            Receiver::Items(_) => false,
+            Receiver::Text(_) => true,
         }
     }
 
@@ -205,10 +218,10 @@ impl<'a> Receiver<'a> {
     fn build_text_element(
         &mut self,
         alloc: Global,
-        name: NameRef<'a>,
+        name: &NameRef<'a>,
         text: &Text,
     ) -> Result<(), Memory>
-        ensures { OnOk result (TakesElement self.old self.new (name_seen name.entry) [] (text_item text.now)) }
+        ensures { OnOk result (TakesElement self.old self.new (name_seen name.now) [] (text_item text.now)) }
     {
         let tag = self.open(alloc, name)?;
         if !text.bytes().is_empty() {
@@ -222,10 +235,10 @@ impl<'a> Receiver<'a> {
     pub(crate) fn put_text_element(
         &mut self,
         alloc: Global,
-        name: NameRef<'a>,
+        name: &NameRef<'a>,
         text: &Text,
     ) -> Result<(), Memory>
-        ensures { OnOk result (TakesElement self.old self.new (name_seen name.entry) [] (text_item text.now)) }
+        ensures { OnOk result (TakesElement self.old self.new (name_seen name.now) [] (text_item text.now)) }
     {
         match self {
             Receiver::Items(_) => self.build_text_element(alloc, name, text),
@@ -241,10 +254,10 @@ impl<'a> Receiver<'a> {
     fn build_digits_element(
         &mut self,
         alloc: Global,
-        name: NameRef<'a>,
+        name: &NameRef<'a>,
         digits: &str,
     ) -> Result<(), Memory>
-        ensures { OnOk result (TakesElement self.old self.new (name_seen name.entry) [] (text_item digits.now)) }
+        ensures { OnOk result (TakesElement self.old self.new (name_seen name.now) [] (text_item digits.now)) }
     {
         let text = Text::from_str(alloc, digits)?;
         self.build_text_element(alloc, name, &text)
@@ -255,10 +268,10 @@ impl<'a> Receiver<'a> {
     pub(crate) fn put_digits_element(
         &mut self,
         alloc: Global,
-        name: NameRef<'a>,
+        name: &NameRef<'a>,
         digits: &str,
     ) -> Result<(), Memory>
-        ensures { OnOk result (TakesElement self.old self.new (name_seen name.entry) [] (text_item digits.now)) }
+        ensures { OnOk result (TakesElement self.old self.new (name_seen name.now) [] (text_item digits.now)) }
     {
         match self {
             Receiver::Items(_) => self.build_digits_element(alloc, name, digits),
@@ -271,8 +284,8 @@ impl<'a> Receiver<'a> {
 
     /// Begins an element of this name.
     #[inline(always)]
-    pub(crate) fn open(&mut self, alloc: Global, name: NameRef<'a>) -> Result<Open<'a>, Memory>
-        ensures { IfOk result (λ tag. Opens self.old self.new (name_seen name.entry) tag) }
+    pub(crate) fn open(&mut self, alloc: Global, name: &NameRef<'a>) -> Result<Open<'a>, Memory>
+        ensures { IfOk result (λ tag. Opens self.old self.new (name_seen name.now) tag) }
     {
         match self {
             Receiver::Items(built) => {
@@ -286,6 +299,25 @@ impl<'a> Receiver<'a> {
             Receiver::Text(out) => {
                 let tag = out.open(alloc, name.space, name.local())?;
                 Ok(Open::Text(tag))
+            }
+        }
+    }
+
+    /// The same where items are written.
+    #[inline(always)]
+    pub(crate) fn open_tag(
+        &mut self,
+        alloc: Global,
+        name: &NameRef<'a>,
+    ) -> Result<OpenTag<'a>, Memory>
+        requires { IsWritten self.old }
+        ensures { IfOk result (λ tag. Opens self.old self.new (name_seen name.now) (open_element.Text tag)) }
+    {
+        match self {
+            Receiver::Items(_) => unreachable!(),
+            Receiver::Text(out) => {
+                let opened = out.open(alloc, name.space, name.local())?;
+                Ok(opened)
             }
         }
     }
@@ -308,6 +340,21 @@ impl<'a> Receiver<'a> {
                 Ok(())
             }
             _ => unreachable!(),
+        }
+    }
+
+    /// The same where items are written.
+    #[inline(always)]
+    pub(crate) fn close_tag(&mut self, alloc: Global, tag: OpenTag<'a>) -> Result<(), Memory>
+        requires { IsOpen self.old (open_element.Text tag) }
+        ensures { OnOk result (Closes (open_element.Text tag.entry) self.old self.new) }
+    {
+        match self {
+            Receiver::Items(_) => unreachable!(),
+            Receiver::Text(out) => {
+                out.close(alloc, tag)?;
+                Ok(())
+            }
         }
     }
 }

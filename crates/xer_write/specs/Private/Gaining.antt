@@ -10,7 +10,9 @@ use Rattle.plain_items.specs.Plain.{Plain}
 use Rattle.plain_items.specs.Mixing.{text_before}
 use Rattle.xer_items.specs.Items.{Given}
 use Rattle.xer_write.specs.declared.receiver.Receiver.{Receiver}
-use Rattle.xer_write.specs.Private.Receiving.{Tells, Opens}
+use Rattle.xer_write.specs.Private.Receiving.{Tells, Opens, IsWritten}
+use Rattle.xer_write.specs.declared.receiver.Open.TheVariants as open_element
+use Rattle.doc_write.specs.declared.builder.OpenTag.{OpenTag}
 use Rattle.xer_write.specs.declared.contents.Contents.{Contents}
 use Rattle.xer_write.specs.declared.contents.Outer.{Outer}
 use Rattle.plain_items.specs.Unplaced.{all_unplaced}
@@ -91,3 +93,11 @@ pub record Begins (old new : Contents) (name : Name) (outer : Outer) : Type 0 wh
   pub opens : Opens outside new.receiver name outer.tag
   pub puts : (after : Receiver) (item : Rose ItemLabel) → ItemIsUtf8 item → Tells outside after [] (item ∷ [])
       → Puts (levels old) (map (λ texts. map value_text texts) outer.texts.items) old.receiver after [] (item ∷ [])
+
+-- items are written, and no text is to stand before the next of them
+abbrev pub IsPlain : Contents → Type 0
+IsPlain c = IsWritten c.receiver × (c.texts.items ≡ [])
+
+-- an element that is written there, while one in it is open
+abbrev pub outer_of : Contents → OpenTag → Outer
+outer_of c tag = record { tag = open_element.Text tag; texts = c.texts }

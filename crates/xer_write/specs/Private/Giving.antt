@@ -5,6 +5,7 @@ use Rattle.simple_types.specs.declared.labels.ValueLabel.{ValueLabel}
 use Rattle.asn_types.specs.declared.types.Component.{Component}
 use Rattle.asn_types.specs.declared.types.TypeLabel.{TypeLabel}
 use Rattle.asn_types.specs.declared.modules.Assignment.{Assignment}
+use Rattle.asn_types.specs.declared.roles.Role.TheVariants as role
 use Rattle.asn_types.specs.Modules.{IsModule}
 use Rattle.asn_types.specs.Refs.{IsOf}
 use Rattle.asn_types.specs.Marks.{has_use_order}
@@ -26,6 +27,10 @@ may_be_present _ _ = false
 
 abbrev pub place_seen : Place → ComponentPlace
 place_seen place = record { role = place.role; part = place.part.now; type = place.node.now }
+
+-- an element stands there
+abbrev pub element_at : Component → Rose TypeLabel → ComponentPlace
+element_at part t = record { role = role.Element; part = part; type = t }
 
 -- the type stands in the module
 abbrev pub IsTypeIn : List Assignment → Rose TypeLabel → Type 0

@@ -29,6 +29,11 @@ abbrev pub IsBuilder : Receiver → Type 0
 IsBuilder (receiver.Items built) = Unit {0}
 IsBuilder (receiver.Text text) = ⊥
 
+-- the items are written
+abbrev pub IsWritten : Receiver → Type 0
+IsWritten (receiver.Items built) = ⊥
+IsWritten (receiver.Text text) = Unit {0}
+
 -- one item was built, and no element is open
 abbrev pub IsTree : Receiver → Type 0
 IsTree (receiver.Items built) = (built.builder.zip.above ≡ []) × (length built.builder.zip.kids ≡ 1)

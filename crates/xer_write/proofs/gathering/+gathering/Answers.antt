@@ -20,9 +20,9 @@ use Rattle.plain_items.specs.Mixing.{text_before}
 use Rattle.xer_items.specs.Items.{given, nothing, both, element_of, inside, gathered, texts_of, with_texts}
 use Rattle.xer_items.specs.Spelling.{is_textual}
 use Rattle.xer_write.specs.Private.Receiving.{name_seen}
-use Rattle.xer_write.specs.Private.Gaining.{Gains}
-use Rattle.xer_write.specs.Private.Giving.{IsTypeIn, may_be_present, place_seen, place_gives, places_give, parts_give, ordered_give, mixed_gives, type_gives}
-use Rattle.xer_write.proofs.Gaining.{gains-nothing, gains-both, mixed-gained, element-gained, element-open, on_ok, on_ok-two}
+use Rattle.xer_write.specs.Private.Gaining.{Gains, outer_of}
+use Rattle.xer_write.specs.Private.Giving.{IsTypeIn, may_be_present, place_seen, element_at, place_gives, places_give, parts_give, ordered_give, mixed_gives, type_gives}
+use Rattle.xer_write.proofs.Gaining.{gains-nothing, gains-both, mixed-gained, element-gained, element-open, plain-is, none-left, on_ok, on_ok-two}
 use Rattle.xer_write.proofs.Giving.{found-in, kid-in, have-kids, allowed-of, inside-text, inside-parts, sequence-give, sequence-other, choice-other, items-other, reference-other, order-absent, order-nothing, no-order, present-some, fit-length, fit-step, give-present, found-absent, give-end, found_from, items_give, items-step, items-end, at-element, at-group, at-content, at-other}
 use Rattle.xer_write.proofs.Parts.{nil-then, with-embed, without-embed, some-at, slice-at, kid-count, flag-at, role-is, give-short, give-missing, choice-made, choice-missed, choice-empty, items-made, items-missed, too-few, too-many}
 use Rattle.asn_values.proofs.Counting.{drop-past}
@@ -73,8 +73,13 @@ gather-returns-else-is_textual t c =
 
 -- ---- at a place
 
-pub gather_at-add_attribute_at-requires : goal.gather_at-add_attribute_at-requires
-gather_at-add_attribute_at-requires t c = record { node = c.requires; role = c.in-Attribute.is }
+pub gather_at-returns-in-Attribute : goal.gather_at-returns-in-Attribute
+gather_at-returns-in-Attribute t c =
+    let m = c.args.module.now in
+    let place = c.args.place.now in
+    let v = c.args.value.now in
+    let same = ap (λ r. place_gives m (record { role = r; part = place.part.now; type = place.node.now }) v) (sym c.in-Attribute.is) in
+    subst (λ g. OnOk c.add_attribute_at.result (Gains c.args.out.now c.add_attribute_at.new.out g)) same c.add_attribute_at.ensures
 
 pub gather_at-gather_element-requires : goal.gather_at-gather_element-requires
 gather_at-gather_element-requires t c = let d = c.decreases in (omega (arith, d), c.requires)
@@ -145,6 +150,57 @@ pub gather_items-returns : goal.gather_items-returns
 gather_items-returns t c =
     let o = c.values.out in
     c.values.invariant.gains o (subst (Gains o o) (sym (items-end c.args.module.now (place_seen c.args.place.now) c.values.value-iterator c.in-None.ensures.steps.0)) (gains-nothing o))
+
+pub gather_items-gather_elements-requires : goal.gather_items-gather_elements-requires
+gather_items-gather_elements-requires t c = let d = c.decreases in (omega (arith, d), c.requires)
+
+pub gather_items-returns-in-Element : goal.gather_items-returns-in-Element
+gather_items-returns-in-Element t c =
+    let m = c.args.module.now in
+    let place = c.args.place.now in
+    let vs = c.args.values.now in
+    let same = ap (λ r. gathered m (replicate (length vs) (record { role = r; part = place.part.now; type = place.node.now })) (roses_of vs)) (sym c.in-Element.is) in
+    subst (λ g. OnOk c.gather_elements.result (Gains c.args.out.now c.gather_elements.new.out g)) same c.gather_elements.ensures
+
+-- ---- the items of a SEQUENCE OF that are elements of one name
+
+pub gather_elements-values-init : goal.gather_elements-values-init
+gather_elements-values-init t c =
+    let m = c.args.module.now in
+    let p = element_at c.args.part.now c.args.node.now in
+    let o = c.args.out.now in
+    let same : c.into_iter-value-iterator.result ≡ c.args.values.now = cc (c.into_iter-value-iterator.ensures.into_iter_gives, c.again-value-items.ensures) in
+    let count = ap (λ vs. count_all (roses_of vs)) same in
+    record { small = omega (arith, count); gains = λ new h. subst (λ vs. Gains o new (items_give m p vs)) same h }
+
+pub gather_elements-gather_element-requires : goal.gather_elements-gather_element-requires
+gather_elements-gather_element-requires t c =
+    let d = c.decreases in
+    let count = ap (λ vs. count_all (roses_of vs)) c.in-Some.ensures.steps in
+    let small = c.values.invariant.small in
+    (omega (arith, d, count, small), c.requires)
+
+pub gather_elements-values-preserved : goal.gather_elements-values-preserved
+gather_elements-values-preserved t c =
+    let m = c.args.module.now in
+    let p = element_at c.args.part.now c.args.node.now in
+    let v = c.in-Some.value in
+    let later = c.next.new.self in
+    let count = ap (λ vs. count_all (roses_of vs)) c.in-Some.ensures.steps in
+    let small = c.values.invariant.small in
+    let same = at-element m p v refl (name_seen c.of_part-name.result) c.of_part-name.ensures in
+    let gains = subst (Gains c.values.out c.gather_element.new.out) same c.in_ok-gather_element.ensures in
+    record {
+      small = omega (arith, count, small);
+      gains = λ new h. c.values.invariant.gains new
+          (subst (Gains c.values.out new) (sym (items-step m p c.values.value-iterator v later c.in-Some.ensures.steps))
+          (gains-both c.values.out c.gather_element.new.out new (place_gives m p v) (items_give m p later) gains h));
+    }
+
+pub gather_elements-returns : goal.gather_elements-returns
+gather_elements-returns t c =
+    let o = c.values.out in
+    c.values.invariant.gains o (subst (Gains o o) (sym (items-end c.args.module.now (element_at c.args.part.now c.args.node.now) c.values.value-iterator c.in-None.ensures.steps.0)) (gains-nothing o))
 
 -- ---- CHOICE
 
@@ -305,21 +361,50 @@ gather_mixed-returns t c =
     (λ ends. mixed-gained c.args.out.now c.begin_mixed.new.self c.gather_kids.new.out c.end_mixed.new.self c.args.texts g begun.receiver begun.texts c.in_ok-gather_kids.ensures ends)
     c.end_mixed.ensures
 
-pub gather_complex-gather_parts-requires : goal.gather_complex-gather_parts-requires
-gather_complex-gather_parts-requires t c = let d = c.decreases in (omega (arith, d), (c.requires.node, c.requires.parts))
+pub gather_apart-gather_parts-requires : goal.gather_apart-gather_parts-requires
+gather_apart-gather_parts-requires t c = let d = c.decreases in (omega (arith, d), (c.requires.node, c.requires.parts))
 
-pub gather_complex-end_element-requires : goal.gather_complex-end_element-requires
-gather_complex-end_element-requires t c =
+pub gather_apart-end_element-requires : goal.gather_apart-end_element-requires
+gather_apart-end_element-requires t c =
     let g = type_gives c.args.module.now c.args.node.now c.args.value.now in
-    element-open c.args.out.now c.begin_element.new.self c.gather_parts.new.out c.in_ok-outer.outer (name_seen c.args.name) g c.in_ok-outer.ensures c.in_ok-gather_parts.ensures
+    element-open c.args.out.now c.begin_element.new.self c.gather_parts.new.out c.in_ok-outer.outer (name_seen c.args.name.now) g c.in_ok-outer.ensures c.in_ok-gather_parts.ensures
 
-pub gather_complex-returns : goal.gather_complex-returns
-gather_complex-returns t c =
+pub gather_apart-returns : goal.gather_apart-returns
+gather_apart-returns t c =
     let g = type_gives c.args.module.now c.args.node.now c.args.value.now in
     on_ok-two c.end_element.result _ _ _
     (λ closes texts.
-    element-gained c.args.out.now c.begin_element.new.self c.gather_parts.new.out c.end_element.new.self c.in_ok-outer.outer (name_seen c.args.name) g c.in_ok-outer.ensures c.in_ok-gather_parts.ensures closes texts)
+    element-gained c.args.out.now c.begin_element.new.self c.gather_parts.new.out c.end_element.new.self c.in_ok-outer.outer (name_seen c.args.name.now) g c.in_ok-outer.ensures c.in_ok-gather_parts.ensures closes texts)
     c.end_element.ensures.receiver c.end_element.ensures.texts
+
+pub gather_complex-gather_apart-requires : goal.gather_complex-gather_apart-requires
+gather_complex-gather_apart-requires t c = let d = c.decreases in (omega (arith, d), (c.requires.node, c.requires.parts))
+
+pub gather_complex-begin_plain-requires : goal.gather_complex-begin_plain-requires
+gather_complex-begin_plain-requires t c = plain-is c.is_plain.result c.args.out.now c.is_plain.ensures c.if-not-is_plain.false
+
+pub gather_complex-gather_parts-requires : goal.gather_complex-gather_parts-requires
+gather_complex-gather_parts-requires t c = let d = c.decreases in (omega (arith, d), (c.requires.node, c.requires.parts))
+
+pub gather_complex-end_plain-requires : goal.gather_complex-end_plain-requires
+gather_complex-end_plain-requires t c =
+    let old = c.args.out.now in
+    let g = type_gives c.args.module.now c.args.node.now c.args.value.now in
+    element-open old c.begin_plain.new.self c.gather_parts.new.out (outer_of old c.in_ok-tag.tag) (name_seen c.args.name.now) g c.in_ok-tag.ensures c.in_ok-gather_parts.ensures
+
+pub gather_complex-returns : goal.gather_complex-returns
+gather_complex-returns t c =
+    let old = c.args.out.now in
+    let begun = c.begin_plain.new.self in
+    let mid = c.gather_parts.new.out in
+    let g = type_gives c.args.module.now c.args.node.now c.args.value.now in
+    let outer = outer_of old c.in_ok-tag.tag in
+    let plain = plain-is c.is_plain.result c.args.out.now c.is_plain.ensures c.if-not-is_plain.false in
+    let left = none-left begun mid g c.in_ok-tag.ensures.texts c.in_ok-gather_parts.ensures in
+    on_ok-two c.end_plain.result _ _ _
+    (λ closes texts.
+    element-gained old begun mid c.end_plain.new.self outer (name_seen c.args.name.now) g c.in_ok-tag.ensures c.in_ok-gather_parts.ensures closes (texts ∙ left ∙ sym plain.1))
+    c.end_plain.ensures.receiver c.end_plain.ensures.texts
 
 pub gather_element-add_leaf_element-requires : goal.gather_element-add_leaf_element-requires
 gather_element-add_leaf_element-requires t c =
@@ -331,7 +416,7 @@ pub gather_element-returns-then-is_textual : goal.gather_element-returns-then-is
 gather_element-returns-then-is_textual t c =
     let m = c.args.module.now in
     let v = c.args.value.now in
-    let name = name_seen c.args.name in
+    let name = name_seen c.args.name.now in
     let textual : is_textual (label_of (resolve m c.args.node.now)) ≡ true =
     ap (λ x. is_textual (label_of x)) (sym c.resolve-found.ensures) ∙ ap is_textual (sym c.label.ensures) ∙ sym c.is_textual.ensures ∙ c.if-is_textual.true in
     let text = ap (λ x. spelled (space_at x) v) c.resolve-found.ensures in
@@ -356,7 +441,7 @@ gather_element-returns-else-is_textual t c =
     let textual : is_textual (label_of (resolve m c.args.node.now)) ≡ false =
     ap (λ x. is_textual (label_of x)) (sym c.resolve-found.ensures) ∙ ap is_textual (sym c.label.ensures) ∙ sym c.is_textual.ensures ∙ c.if-is_textual.false in
     let same = ap (λ x. type_gives m x v) c.resolve-found.ensures ∙ sym (inside-parts m c.args.node.now v textual) in
-    subst (λ g. OnOk c.gather_complex.result (Gains c.args.out.now c.gather_complex.new.out (given [] (more (element_of (name_seen c.args.name) g) none)))) same c.gather_complex.ensures
+    subst (λ g. OnOk c.gather_complex.result (Gains c.args.out.now c.gather_complex.new.out (given [] (more (element_of (name_seen c.args.name.now) g) none)))) same c.gather_complex.ensures
 
 -- ---- SEQUENCE
 

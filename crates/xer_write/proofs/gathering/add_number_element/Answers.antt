@@ -8,5 +8,5 @@ use Rattle.xer_write.proofs.gathering.add_number_element.Goals as goal
 pub returns : goal.returns
 returns c =
     let digits : c.format.result.now ≡ spelled_whole (label.Int c.args.number.now) = search rules in
-    gains-text-as c.add_digits_element.result c.args.out.now c.add_digits_element.new.self (name_seen c.args.name) c.format.result.now (spelled_whole (label.Int c.args.number.now)) digits
+    gains-text-as c.add_digits_element.result c.args.out.now c.add_digits_element.new.self (name_seen c.args.name.now) c.format.result.now (spelled_whole (label.Int c.args.number.now)) digits
     c.add_digits_element.ensures

@@ -20,4 +20,4 @@ returns c =
           subst (λ r. Tells begun r [] (text_item words)) (sym w.self-is)
           (subst (Tells begun begun []) (sym (text_item-empty words (sym counted ∙ w.if-not-is_empty.false))) (tells-none begun))
     ] in
-    on_ok c.close.result _ _ (λ closes. tells-element c.args.self.now begun mid c.close.new.self (name_seen c.args.name) c.in_ok-tag.tag [] (text_item words) c.in_ok-tag.ensures inner closes) c.close.ensures
+    on_ok c.close.result _ _ (λ closes. tells-element c.args.self.now begun mid c.close.new.self (name_seen c.args.name.now) c.in_ok-tag.tag [] (text_item words) c.in_ok-tag.ensures inner closes) c.close.ensures
