@@ -15,6 +15,7 @@ pub mod Lasts
 pub mod Collecting
 pub mod Whole
 pub mod Ordered
+pub mod Alone
 pub mod Finishing
 pub mod Allowing
 pub mod Valuing

@@ -25,9 +25,9 @@ use Rattle.schema_parts.specs.Components.{Set}
 use Rattle.schema_parts.specs.Linked.{leaves, IsNamed, IsLinked}
 use Rattle.schema_parts.specs.SetParts.{parts_of}
 use Rattle.xer_items.specs.Items.{given}
-use Rattle.validity.specs.Asked.{Asked, Inside, nothing, simple, children, asked_at}
+use Rattle.validity.specs.Asked.{Asked, Inside, nothing, simple, children, asked, asked_at}
 use Rattle.validity.specs.Attributes.{nil_from, nil_of, left, treated_attributes, with_nil}
-use Rattle.validity.specs.Valid.{text_kids, Spells, treated_element, KidsValid}
+use Rattle.validity.specs.Valid.{only_text, text_kids, Spells, treated_element, KidsValid}
 use Rattle.validity.specs.Faults.{IsBad, FirstKid, FaultBy}
 use Rattle.validity.specs.declared.why.InvalidWhy.TheVariants.{NilWithContent}
 use Rattle.validity.proofs.Reading.{roses_of-list_of, all_kept}
@@ -35,7 +35,7 @@ use Rattle.validity.proofs.Unique.{ContentValid, NilValid}
 use Rattle.validity_check.specs.declared.error.CheckError.{CheckError}
 use Rattle.validity_check.specs.declared.error.CheckError.TheVariants as check
 use Rattle.validity_check.specs.Answers.{Tells, IsGoodTag, TextFault, InsideFault}
-use Rattle.validity_check.proofs.Tagging.{nil_refused, inside_judged}
+use Rattle.validity_check.proofs.Tagging.{bare, nil_refused, inside_judged}
 use Rattle.value_exists.proofs.Elements.{attributes-sound}
 use Rattle.value_builder.specs.Built.{Built, Stands, Puts, flagged, with_parts}
 use Rattle.value_builder.proofs.Parts.{part-absent, part-present}
@@ -43,7 +43,7 @@ use Rattle.xer_read.specs.Private.Held.{Beside, Held, texts_of}
 use Rattle.xer_read.specs.Private.Held as held
 use Rattle.xer_read.specs.Private.Given.{IsReadAs, IsElementOf, Gives, IsRead}
 use Rattle.xer_read.specs.Private.Keeping.{strings_from, strings_put}
-use Rattle.xer_read.specs.Private.Contents.{IsContentBy, IsContentOf, is_plain_at, NothingMade, RestMade, ComplexMade, IsMadeBy, IsMade, IsFilled, IsNilFilled, ChildrenPut, InsidePut, Begins, ComplexPut}
+use Rattle.xer_read.specs.Private.Contents.{IsContentBy, IsContentOf, is_plain_at, IsPlainType, NothingMade, RestMade, ComplexMade, IsMadeBy, IsMade, IsFilled, IsNilFilled, ChildrenPut, InsidePut, Begins, ComplexPut}
 use Rattle.xer_read.specs.Private.Putting.{ValuePut, PartsPut}
 use Rattle.xer_read.proofs.Putting.{sequence-closed}
 use Rattle.xer_read.proofs.Mixing.{strings-between, elements-alone}
@@ -367,3 +367,13 @@ module _ (s : Set) (linked : IsLinked s) (d : ℕ) (n : Name) (xs : List (Name �
             stands = m.stands;
           }
       filled-read new z good (Err e) h = inside_judged s d a ys n xs declares place t is asked_is same good kids are (refused e) h
+
+-- an element without attributes whose value is that of its text
+pub plain-read : (s : Set) → IsLinked s → (d : ℕ) (space : Space) → IsPlainType s d space → (n : Name) (xs : List (Name × List ℕ)) (declares : List (List ℕ × List ℕ)) (place : ℕ) (t : Rose ItemLabel) → label_of t ≡ Element n xs declares place
+    → is_sound t ≡ true → xs ≡ [] → (words : List ℕ) → only_text (roses_of (kids_of t)) ≡ Some words → (old new : Built) (z : Zip ValueLabel) → Stands old z → (r : Result (Unit {0}) CheckError)
+    → ((ts : Roses ItemLabel) → only_text ts ≡ Some words → MatchResult r (λ _. (v : Rose ValueLabel) × IsReadAs space ts v × Puts (added v) old new) (Tells (TextFault space ts place)))
+    → MatchResult r (λ _. ValuePut (IsRead s d t) z new) (Tells (FaultBy (asked_at (parts_of s)) d t))
+plain-read s linked d space plain n xs declares place t is sound none words only old new z stands r judged =
+    let a = asked false [] (simple space) in
+    filled-read s linked d n xs declares place t is sound a xs (sym plain.asked_is) refl (kids_of t) refl new z (bare a refl xs none) r
+    (plain-judged s d a xs (roses_of (kids_of t)) z old new space place refl plain.plain stands r (judged (roses_of (kids_of t)) only))

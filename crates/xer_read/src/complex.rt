@@ -75,6 +75,17 @@ pub(crate) fn no_components() -> ValueLabel
     }
 }
 
+/// A SEQUENCE is open. Where no value is kept nothing is.
+#[inline(always)]
+pub(crate) fn begin_sequence(values: &mut ValueBuilder) -> Result<(), Memory>
+    ensures { OnOk result (Puts (opened (ValueLabel.Sequence [])) values.old values.new) }
+{
+    if values.keeps_nothing() {
+        return Ok(());
+    }
+    values.open(no_components())
+}
+
 // The numbers as a SEQUENCE OF ENUMERATED.
 fn put_numbers(numbers: &[u32], values: &mut ValueBuilder) -> Result<(), Memory>
     ensures { OnOk result (Puts (added (order_value numbers.now)) values.old values.new) }

@@ -14,11 +14,12 @@ ghost use Rattle.content_models.specs.Seen.{seen};
 ghost use Rattle.content_match.specs.Taking.{levels};
 ghost use Rattle.schema_parts.specs.Linked.{IsUse, IsModel, IsLinked};
 ghost use Rattle.schema_parts.specs.SetParts.{parts_of};
+ghost use Rattle.validity.specs.Asked as asked;
 ghost use Rattle.validity.specs.Asked.{asked_at};
 ghost use Rattle.validity.specs.Faults.{At, FaultBy};
 ghost use Rattle.validity_check.specs.Answers.{Tells, KidsFault, InsideFault};
 ghost use Rattle.item_tree.specs.Counts.{element_count, elements_in};
-ghost use Rattle.validity_check.specs.Told.{inside_told, told, IsFittingInside};
+ghost use Rattle.validity_check.specs.Told.{inside_told, told, model_at, IsFittingInside};
 ghost use Rattle.value_builder.specs.Built.{Stands};
 ghost use Rattle.xer_read.specs.Private.Given.{IsRead};
 ghost use Rattle.xer_read.specs.Private.Keeping.{Reached, Gathers};
@@ -26,11 +27,13 @@ ghost use Rattle.xer_read.specs.Private.Contents.{AreTaken, HasNoAll, IsFilled, 
 ghost use Rattle.xer_read.specs.Private.Putting.{IsWay, ValuePut};
 
 use crate::complex::{
-    begin_complex, begin_part, plain_type, put_ordered, walk_nil, walk_nothing, walk_text,
+    begin_complex, begin_part, begin_sequence, plain_type, put_ordered, walk_nil, walk_nothing,
+    walk_text,
 };
 use crate::gathering::Gathered;
 use crate::orders::{AnyOrder, any_order, last_number, take_name};
-use crate::texts::put_text;
+use crate::plain::{PlainModel, plain_model, plain_text};
+use crate::texts::{put_text, put_words};
 use crate::ways::{Way, finish, open_way};
 use content_match::{Matcher, Plan};
 use content_models::Particle;
@@ -98,12 +101,24 @@ fn walk_kid<L: Ledger>(
 {
     match kid.label() {
         ItemRef::Text { text, at } => check_between(mixed, text, at),
-        ItemRef::Element { name, at, .. } => {
-            match open_way(model, matcher, way, name, at, values, steps) {
-                Err(error) => Err(error),
-                Ok(leaf) => walk_element(set, plans, leaf.decl, kid, values, steps),
-            }
-        }
+        ItemRef::Element {
+            name,
+            attributes,
+            at,
+            ..
+        } => match open_way(model, matcher, way, name, at, values, steps) {
+            Err(error) => Err(error),
+            Ok(leaf) => match plain_text(set, leaf.decl, attributes, kid) {
+                Some((simple, text)) => put_words(simple, at, text, values),
+                None => match plain_model(set, leaf.decl, attributes) {
+                    Some(inside) => {
+                        let kids = kid.kids();
+                        walk_plain(set, plans, inside, at, &kids, values, steps)
+                    }
+                    None => walk_element(set, plans, leaf.decl, kid, values, steps),
+                },
+            },
+        },
     }
 }
 
@@ -138,7 +153,7 @@ fn walk_kids<L: Ledger>(
     ensures later { steps.old ≤ steps.new }
 {
     let mut matcher = Matcher::start_in(plan, plans.lists())?;
-    let mut way = Way::new(plans.lists());
+    let mut way = Way::start(plans, values);
     for kid in kids.again() {
         walk_kid(
             set,
@@ -160,8 +175,49 @@ fn walk_kids<L: Ledger>(
                 kids: matcher.kids(),
             };
             put_end(model, path, values)?;
-            plans.give_back(way.into_lists());
+            way.end(plans, values);
             plans.give_back(matcher.into_lists());
+            Ok(())
+        }
+    }
+}
+
+// An element that has nothing but child elements, in the order of the content model.
+#[cycle(walking)]
+fn walk_plain<L: Ledger>(
+    set: &SchemaSet,
+    plans: &mut Plans,
+    inside: PlainModel<'_>,
+    at: u64,
+    kids: &ItemKids<'_>,
+    values: &mut ValueBuilder,
+    steps: &mut Steps<L>,
+) -> Result<(), CheckError>
+    requires linked { IsLinked set.now }
+    requires plans { plans.old ≡ set.now }
+    requires there { model_at set.now inside.complex ≡ Some inside.model.now }
+    requires model { IsModel set.now inside.model.now }
+    requires no_all { IsNoAll (seen inside.model.now) }
+    requires sound { are_sound (roses_of kids.now) ≡ true }
+    requires few { count_all (roses_of kids.now) < 2 ^ 31 }
+    requires stands { (z : Zip ValueLabel) × Stands values.old z }
+    ensures same { plans.new ≡ set.now }
+    ensures limit { OnOk result (values.new.most ≡ values.old.most) }
+    ensures judged { (z : Zip ValueLabel) → Stands values.old z → MatchResult result
+        (λ _. ComplexPut set.now (asked.asked false [] (asked.children false (seen inside.entry.model.now))) [] (roses_of kids.now) z values.new)
+        (Tells (InsideFault (asked_at (parts_of set.now)) (asked.children false (seen inside.entry.model.now)) (roses_of kids.now) at)) }
+    ensures most { steps.new ≤ steps.old + (144 * elements_in (roses_of kids.now) + 72) }
+    ensures least { OnOk result (steps.old + elements_in (roses_of kids.now) ≤ steps.new) }
+    ensures later { steps.old ≤ steps.new }
+{
+    let plan = plans.plan(inside.complex, inside.model)?;
+    let plan = plan.as_ref();
+    let model = inside.model;
+    begin_sequence(values)?;
+    match walk_kids(set, plans, model, plan, false, at, kids, values, steps) {
+        Err(error) => Err(error),
+        Ok(()) => {
+            values.close();
             Ok(())
         }
     }

@@ -16,6 +16,7 @@ mod error;
 mod gathering;
 mod laws;
 mod orders;
+mod plain;
 mod reading;
 mod root;
 mod small;

@@ -1,5 +1,5 @@
 //! The way to the last leaf of a content model, and from there to the next.
-ghost use Rattle.std.specs.Prelude.{◌≡◌, [], ◌∷◌, ◌++◌, ◌+◌, ◌-◌, ◌*◌, ◌^◌, ◌<◌, ◌≤◌, ℕ, List, Some, true, length, IsTrue, OnOk, MatchResult, IfOk};
+ghost use Rattle.std.specs.Prelude.{◌≡◌, [], ◌∷◌, ◌++◌, ◌+◌, ◌-◌, ◌*◌, ◌^◌, ◌<◌, ◌≤◌, ℕ, List, Some, true, false, length, IsTrue, OnOk, MatchResult, IfOk};
 ghost use Rattle.label_tree.specs.Rose.{node_count};
 ghost use Rattle.simple_types.specs.declared.labels.ValueLabel.{ValueLabel};
 ghost use Rattle.content_models.specs.Clear.{IsNoAll};
@@ -14,52 +14,77 @@ ghost use Rattle.validity_check.specs.Answers.{Tells};
 ghost use Rattle.value_builder.specs.Built.{Stands};
 ghost use Rattle.content_values.specs.Made.{Child};
 ghost use Rattle.content_values.specs.Reached.{IsFillable, Put};
-ghost use Rattle.xer_read.specs.Private.Putting.{LeadsTo, IsWay, Opens};
+ghost use Rattle.xer_read.specs.Private.Putting.{way_turns, way_kids, LeadsTo, IsWay, Opens};
 
 use content_match::{Leaf, Lists, Matcher, Turn};
 use content_models::Particle;
 use content_values::{Path, put_step};
 use std::sync::ledger::Ledger;
 use validity::InvalidWhy;
-use validity_check::CheckError;
+use validity_check::{CheckError, Plans};
 use value_builder::ValueBuilder;
 use xa_base::{Memory, Name, Steps};
 
-/// The way to the last leaf, which is kept while a matcher goes on to the next.
+/// The way to the last leaf, which is kept while a matcher goes on to the next. Before the first leaf its lists are those of
+/// another way.
 #[derive(Drop)]
 pub(crate) struct Way {
+    begun: bool,
     turns: Vec<Turn>,
     kids: Vec<u32>,
 }
 
 impl Way {
-    /// Before the first leaf, in these lists.
-    pub(crate) fn new(lists: Lists) -> Way
-        ensures turns { result.turns.items ≡ [] }
-        ensures kids { result.kids.items ≡ [] }
+    /// Before the first leaf. Where no value is kept the way isn't followed, and has no lists.
+    pub(crate) fn start(plans: &mut Plans, values: &ValueBuilder) -> Way
+        ensures plans { plans.new ≡ plans.old }
+        ensures begun { result.begun ≡ false }
     {
-        let mut turns = lists.turns;
-        turns.clear();
-        let mut kids = lists.kids;
-        kids.clear();
-        Way { turns, kids }
-    }
-
-    /// Its lists, for the next way.
-    pub(crate) fn into_lists(self) -> Lists {
-        Lists {
-            turns: self.turns,
-            kids: self.kids,
+        if values.keeps_nothing() {
+            Way::within(Lists::new(plans.alloc()))
+        } else {
+            Way::within(plans.lists())
         }
     }
 
-    pub(crate) fn path(&self) -> Path<'_>
-        ensures turns { result.turns.now ≡ self.now.turns.items }
-        ensures kids { result.kids.now ≡ self.now.kids.items }
+    // The same in these lists.
+    fn within(lists: Lists) -> Way
+        ensures { result.begun ≡ false }
     {
-        Path {
-            turns: &self.turns,
-            kids: &self.kids,
+        Way {
+            begun: false,
+            turns: lists.turns,
+            kids: lists.kids,
+        }
+    }
+
+    /// Nothing comes behind it: its lists serve another way.
+    pub(crate) fn end(self, plans: &mut Plans, values: &ValueBuilder)
+        ensures { plans.new ≡ plans.old }
+    {
+        if values.keeps_nothing() {
+            return;
+        }
+        plans.give_back(Lists {
+            turns: self.turns,
+            kids: self.kids,
+        });
+    }
+
+    pub(crate) fn path(&self) -> Path<'_>
+        ensures turns { result.turns.now ≡ way_turns self.now }
+        ensures kids { result.kids.now ≡ way_kids self.now }
+    {
+        if self.begun {
+            Path {
+                turns: &self.turns,
+                kids: &self.kids,
+            }
+        } else {
+            Path {
+                turns: &[],
+                kids: &[],
+            }
         }
     }
 
@@ -99,6 +124,7 @@ impl Way {
         self.turns[0] = matcher.turns()[0];
         self.turns[1] = matcher.turns()[1];
         self.kids[0] = matcher.kids()[0];
+        self.begun = true;
     }
 
     // The same with both lists copied.
@@ -110,6 +136,7 @@ impl Way {
         self.turns.extend_from_slice(matcher.turns())?;
         self.kids.clear();
         self.kids.extend_from_slice(matcher.kids())?;
+        self.begun = true;
         Ok(())
     }
 }

@@ -8,6 +8,8 @@ use Rattle.simple_types.specs.declared.labels.ValueLabel.{ValueLabel}
 use Rattle.simple_types.specs.declared.labels.ValueLabel.TheVariants as value
 use Rattle.simple_values.specs.Reading.{Accepts, spelled}
 use Rattle.simple_types.specs.Labels.{count_set}
+use Rattle.simple_types.specs.Sound.{Sound}
+use Rattle.simple_types.specs.Space.{Space}
 use Rattle.asn_values.specs.Ordering.{slots, taken}
 use Rattle.asn_values.specs.Values.{AreJustSet}
 use Rattle.map_assignments.specs.Planning.{is_all}
@@ -24,11 +26,12 @@ use Rattle.schema_parts.specs.declared.components.AttributeUse.{AttributeUse}
 use Rattle.schema_parts.specs.declared.components.ElementDecl.{ElementDecl}
 use Rattle.schema_parts.specs.declared.components.TypeOf.TheVariants as kind
 use Rattle.schema_parts.specs.Components.{Set}
-use Rattle.schema_parts.specs.Linked.{leaves, IsNamed}
+use Rattle.schema_parts.specs.Linked.{leaves, IsNamed, IsModel}
 use Rattle.schema_parts.specs.SetParts.{parts_of}
-use Rattle.validity.specs.Asked.{Asked, Attribute, Inside, nothing, simple, children, attribute_in, asked_at}
+use Rattle.validity.specs.Asked.{Asked, Attribute, Inside, nothing, simple, children, asked, attribute_in, asked_at}
 use Rattle.validity.specs.Attributes.{text_of, left, IsFixedTo, Takes, treated_attribute}
 use Rattle.validity.specs.Valid.{only_text, text_kids, KidsValid}
+use Rattle.validity_check.specs.Told.{model_at}
 use Rattle.value_builder.specs.Built.{Built, Stands, Puts, with_parts}
 use Rattle.content_values.specs.Made.{Child, TopMade}
 use Rattle.xer_read.specs.Private.Held.{Beside, Held, texts_of}
@@ -198,6 +201,19 @@ is_plain_by (Some e) = elim e.kind [ kind.Simple n ↦ not e.nillable | kind.Com
 -- the declaration has a simple type, and its elements are never nil
 abbrev pub is_plain_at : Set → ℕ → Bool
 is_plain_at s d = is_plain_by (slice_get s.elements d)
+
+-- the elements of the declaration have this simple type, and are never nil
+pub record IsPlainType (s : Set) (d : ℕ) (space : Space) : Type 0 where
+  pub asked_is : asked_at (parts_of s) d ≡ asked false [] (simple space)
+  pub plain : is_plain_at s d ≡ true
+  pub sound : Sound space
+
+-- the elements of the declaration have child elements alone, by this content model of a complex type, in its order
+pub record IsPlainModel (s : Set) (d complex : ℕ) (model : Rose ParticleLabel) : Type 0 where
+  pub asked_is : asked_at (parts_of s) d ≡ asked false [] (children false (seen model))
+  pub there : model_at s complex ≡ Some model
+  pub is_model : IsModel s model
+  pub no_all : IsNoAll (seen model)
 
 abbrev pub IsMadeBy : Bool → Beside → Rose ValueLabel → Type 0 → Type 0
 IsMadeBy plain (held.text w) v complex = MatchBool plain (v ≡ w) complex

@@ -1,5 +1,5 @@
 -- What is put down by a step of the walk.
-use Rattle.std.specs.Prelude.{◌≡◌, ◌≤◌, ℕ, Bool, List, Some}
+use Rattle.std.specs.Prelude.{◌≡◌, ◌≤◌, ℕ, Bool, cond, List, [], Some}
 use Rattle.label_tree.specs.Rose.{Rose}
 use Rattle.flat_tree.specs.Zips.{Zip, added}
 use Rattle.simple_types.specs.declared.labels.ValueLabel.{ValueLabel}
@@ -7,6 +7,7 @@ use Rattle.content_models.specs.Particle.{Particle}
 use Rattle.content_spots.specs.Spots.{Spot}
 use Rattle.content_match.specs.Private.Standing.{spot_now}
 use Rattle.content_match.specs.Taking.{Matched, spot_of}
+use Rattle.content_match.specs.declared.places.Turn.{Turn}
 use Rattle.value_builder.specs.Built.{Built, Stands, Puts, with_parts}
 use Rattle.content_values.specs.Made.{Child}
 use Rattle.content_values.specs.Reached.{TopReached, Put}
@@ -27,9 +28,16 @@ pub record PartsPut (P : List Bool → List (Rose ValueLabel) → Type 0) (old n
 
 -- ---- ways
 
+-- before the first leaf there is none, whatever the lists hold
+abbrev pub way_turns : Way → List Turn
+way_turns way = cond way.begun way.turns.items []
+
+abbrev pub way_kids : Way → List ℕ
+way_kids way = cond way.begun way.kids.items []
+
 -- the way leads to where the matcher stands
 abbrev pub LeadsTo : Way → Matched → Type 0
-LeadsTo way k = spot_now way.turns.items way.kids.items ≡ spot_of k
+LeadsTo way k = spot_now (way_turns way) (way_kids way) ≡ spot_of k
 
 -- it does where so many nodes may be kept, unless that is none
 abbrev pub IsWay : Way → Matched → ℕ → Type 0

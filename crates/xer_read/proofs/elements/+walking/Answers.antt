@@ -1,7 +1,7 @@
-use Rattle.std.proofs.Common.{◌≡◌, ◌+◌, ◌≤◌, ◌++◌, [], ◌∷◌, true, false, refl, sym, ◌∙◌, ap, subst, arith, add-one, length}
+use Rattle.std.proofs.Common.{◌≡◌, ◌+◌, ◌≤◌, ◌++◌, [], ◌∷◌, true, false, cond, refl, sym, ◌∙◌, ap, subst, arith, add-one, length}
 use Rattle.std.specs.Prelude.{All, Some, None, slice_get}
 use Rattle.std.proofs.lemmas.Result.{err_from_is_err_and}
-use Rattle.label_tree.specs.Rose.{Rose, roses_of, none, count_all}
+use Rattle.label_tree.specs.Rose.{Rose, roses_of, kids_of, none, count_all}
 use Rattle.flat_tree.specs.Zips.{opened, added}
 use Rattle.flat_tree.proofs.Cursors as cursor
 use Rattle.simple_types.specs.declared.labels.ValueLabel.{ValueLabel}
@@ -43,7 +43,8 @@ use Rattle.xer_read.proofs.Reaching.{none-reached, end-refused, end-put, text-ju
 use Rattle.xer_read.proofs.Collecting as collecting
 use Rattle.xer_read.proofs.Finishing.{starts}
 use Rattle.xer_read.proofs.Whole as whole
-use Rattle.xer_read.proofs.Whole.{inner-children, begun_at, complex-put, nothing-judged, children-judged, complex-judged, plain-judged, nil-read, filled-read}
+use Rattle.xer_read.proofs.Alone.{alone, begins-alone, alone-read}
+use Rattle.xer_read.proofs.Whole.{children-inside, inner-children, begun_at, complex-put, nothing-judged, children-judged, complex-judged, plain-judged, plain-read, nil-read, filled-read}
 use Rattle.xer_read.proofs.elements.+walking.Goals as goal
 
 -- ---- one kid
@@ -92,8 +93,131 @@ walk_kid-returns-in-Err-clause-most g t c =
     let l : levels c.args.matcher.now.particle ≤ 17 = subst (λ q. levels q ≤ 17) (sym r.particle) (model_levels c.args.set.now c.args.model.now c.requires.model) in
     omega (arith, n, s, l)
 
-pub walk_kid-returns-in-Ok-clause-judged : goal.walk_kid-returns-in-Ok-clause-judged
-walk_kid-returns-in-Ok-clause-judged g t c = λ kids place i z below here r.
+-- where the element has nothing but a text
+
+pub walk_kid-plain_text-requires-clause-decl : goal.walk_kid-plain_text-requires-clause-decl
+walk_kid-plain_text-requires-clause-decl g t c =
+    let (kids, i, z, r) = c.requires.reached in
+    let e = c.in-Ok.ensures in
+    leaf_declared c.args.set.now c.args.matcher.now c.open_way.new.matcher r.us c.in-Element.name.now c.in-Ok.leaf e.particle (e.took r.us r.took)
+    (names_declared c.args.set.now c.args.matcher.now.particle (subst (λ q. All (IsNamed c.args.set.now) (leaves q)) (sym r.particle) c.requires.model.named))
+
+pub walk_kid-put_words-requires : goal.walk_kid-put_words-requires
+walk_kid-put_words-requires g t c = record { simple = c.in-Some.ensures.1.sound }
+
+pub walk_kid-returns-in-Some-clause-judged : goal.walk_kid-returns-in-Some-clause-judged
+walk_kid-returns-in-Some-clause-judged g t c = λ kids place i z below here r.
+    let e = c.in-Ok.ensures in
+    let way = e.opens r.gs z r.all r.put r.stands in
+    let plain = c.in-Some.ensures in
+    let is = sym c.label.ensures ∙ ap item_seen c.in-Element.is in
+    kid-judged c.args.set.now c.args.mixed (seen c.args.model.now) kids place i c.args.matcher.now z c.args.values.now r c.args.kid.now below here
+    c.in-Element.name.now c.in-Element.attributes.now c.in-Element.declares.now c.in-Element.at is c.open_way.new.matcher c.in-Ok.leaf e.particle (e.took r.us r.took)
+    (subst (λ q. All (IsNamed c.args.set.now) (leaves q)) (sym r.particle) c.requires.model.named) c.open_way.new.values c.put_words.new.values way c.put_words.result
+    (plain-read c.args.set.now c.requires.linked c.in-Ok.leaf.decl (space_of c.in-Some.simple.now) plain.1 c.in-Element.name.now c.in-Element.attributes.now c.in-Element.declares.now c.in-Element.at
+    c.args.kid.now is c.requires.sound plain.0 c.in-Some.text.now plain.2 c.open_way.new.values c.put_words.new.values way.way way.stands c.put_words.result c.put_words.ensures)
+
+pub walk_kid-returns-in-Some-clause-limit : goal.walk_kid-returns-in-Some-clause-limit
+walk_kid-returns-in-Some-clause-limit g t c =
+    let ts = roses_of (kids_of c.args.kid.now) in
+    let space = space_of c.in-Some.simple.now in
+    match-ok c.put_words.result (λ _. (v : Rose ValueLabel) × IsReadAs space ts v × Puts (added v) c.open_way.new.values c.put_words.new.values) (Tells (TextFault space ts c.in-Element.at))
+    (c.put_words.new.values.most ≡ c.args.values.now.most) (λ x h. h.2.most ∙ c.in-Ok.ensures.limit) (c.put_words.ensures ts c.in-Some.ensures.2)
+
+pub walk_kid-returns-in-Some-clause-most : goal.walk_kid-returns-in-Some-clause-most
+walk_kid-returns-in-Some-clause-most g t c =
+    let (kids, i, z, r) = c.requires.reached in
+    let n = element_counts c.args.kid.now c.in-Element.name.now c.in-Element.attributes.now c.in-Element.declares.now c.in-Element.at (sym c.label.ensures ∙ ap item_seen c.in-Element.is) in
+    let s = c.in-Ok.ensures.ticks in
+    let l : levels c.args.matcher.now.particle ≤ 17 = subst (λ q. levels q ≤ 17) (sym r.particle) (model_levels c.args.set.now c.args.model.now c.requires.model) in
+    omega (arith, n, s, l)
+
+pub walk_kid-returns-in-Some-clause-least : goal.walk_kid-returns-in-Some-clause-least
+walk_kid-returns-in-Some-clause-least g t c =
+    let ts = roses_of (kids_of c.args.kid.now) in
+    let space = space_of c.in-Some.simple.now in
+    let n = element_counts c.args.kid.now c.in-Element.name.now c.in-Element.attributes.now c.in-Element.declares.now c.in-Element.at (sym c.label.ensures ∙ ap item_seen c.in-Element.is) in
+    let s = c.in-Ok.ensures.least in
+    let empty = text-without ts c.in-Some.text.now c.in-Some.ensures.2 in
+    match-ok c.put_words.result (λ _. (v : Rose ValueLabel) × IsReadAs space ts v × Puts (added v) c.open_way.new.values c.put_words.new.values) (Tells (TextFault space ts c.in-Element.at))
+    (c.args.steps.now + element_count c.args.kid.now ≤ c.open_way.new.steps) (λ x h. omega (arith, n, s, empty)) (c.put_words.ensures ts c.in-Some.ensures.2)
+
+-- where it has nothing but child elements
+
+pub walk_kid-plain_model-requires-clause-decl : goal.walk_kid-plain_model-requires-clause-decl
+walk_kid-plain_model-requires-clause-decl g t c =
+    let (kids, i, z, r) = c.requires.reached in
+    let e = c.in-Ok.ensures in
+    leaf_declared c.args.set.now c.args.matcher.now c.open_way.new.matcher r.us c.in-Element.name.now c.in-Ok.leaf e.particle (e.took r.us r.took)
+    (names_declared c.args.set.now c.args.matcher.now.particle (subst (λ q. All (IsNamed c.args.set.now) (leaves q)) (sym r.particle) c.requires.model.named))
+
+pub walk_kid-walk_plain-requires : goal.walk_kid-walk_plain-requires
+walk_kid-walk_plain-requires g t c κs within =
+    let d = c.decreases in
+    let (kids, i, z, r) = c.requires.reached in
+    let e = c.in-Ok.ensures in
+    let way = e.opens r.gs z r.all r.put r.stands in
+    let plain = c.in-Some-plain_model.ensures.1 in
+    let k = count-kids c.args.kid.now in
+    let same = ap (λ ks. count_all (roses_of ks)) c.kids-kids.ensures in
+    let few = c.requires.few in (
+      omega (arith, d, k, same),
+      (
+        within,
+        (
+          c.requires.linked,
+          (
+            c.requires.plans,
+            (
+              plain.there,
+              (
+                plain.is_model,
+                (
+                  plain.no_all,
+                  (subst (λ ks. are_sound (roses_of ks) ≡ true) (sym c.kids-kids.ensures) (kids_sound c.args.kid.now c.requires.sound), (omega (arith, k, same, few), (way.way, way.stands))),
+                ),
+              ),
+            ),
+          ),
+        ),
+      ),
+    )
+
+pub walk_kid-returns-in-Some-plain_model-clause-judged : goal.walk_kid-returns-in-Some-plain_model-clause-judged
+walk_kid-returns-in-Some-plain_model-clause-judged g t c = λ kids place i z below here r.
+    let e = c.in-Ok.ensures in
+    let way = e.opens r.gs z r.all r.put r.stands in
+    let plain = c.in-Some-plain_model.ensures in
+    let inside = c.in-Some-plain_model.inside in
+    let is = sym c.label.ensures ∙ ap item_seen c.in-Element.is in
+    kid-judged c.args.set.now c.args.mixed (seen c.args.model.now) kids place i c.args.matcher.now z c.args.values.now r c.args.kid.now below here
+    c.in-Element.name.now c.in-Element.attributes.now c.in-Element.declares.now c.in-Element.at is c.open_way.new.matcher c.in-Ok.leaf e.particle (e.took r.us r.took)
+    (subst (λ q. All (IsNamed c.args.set.now) (leaves q)) (sym r.particle) c.requires.model.named) c.open_way.new.values c.walk_plain.new.values way c.walk_plain.result
+    (alone-read c.args.set.now c.requires.linked c.in-Ok.leaf.decl inside.complex inside.model.now plain.1 c.in-Element.name.now c.in-Element.attributes.now c.in-Element.declares.now c.in-Element.at
+    c.args.kid.now is c.requires.sound plain.0 c.kids-kids.result c.kids-kids.ensures c.walk_plain.new.values way.way c.walk_plain.result (c.walk_plain.ensures.judged way.way way.stands))
+
+pub walk_kid-returns-in-Some-plain_model-clause-most : goal.walk_kid-returns-in-Some-plain_model-clause-most
+walk_kid-returns-in-Some-plain_model-clause-most g t c =
+    let (kids, i, z, r) = c.requires.reached in
+    let n = element_counts c.args.kid.now c.in-Element.name.now c.in-Element.attributes.now c.in-Element.declares.now c.in-Element.at (sym c.label.ensures ∙ ap item_seen c.in-Element.is) in
+    let same = ap (λ ks. elements_in (roses_of ks)) c.kids-kids.ensures in
+    let s = c.in-Ok.ensures.ticks in
+    let m = c.walk_plain.ensures.most in
+    let l : levels c.args.matcher.now.particle ≤ 17 = subst (λ q. levels q ≤ 17) (sym r.particle) (model_levels c.args.set.now c.args.model.now c.requires.model) in
+    omega (arith, n, same, s, m, l)
+
+pub walk_kid-returns-in-Some-plain_model-clause-least : goal.walk_kid-returns-in-Some-plain_model-clause-least
+walk_kid-returns-in-Some-plain_model-clause-least g t c =
+    let n = element_counts c.args.kid.now c.in-Element.name.now c.in-Element.attributes.now c.in-Element.declares.now c.in-Element.at (sym c.label.ensures ∙ ap item_seen c.in-Element.is) in
+    let same = ap (λ ks. elements_in (roses_of ks)) c.kids-kids.ensures in
+    let s = c.in-Ok.ensures.least in
+    on-ok c.walk_plain.result (c.open_way.new.steps + elements_in (roses_of c.kids-kids.result) ≤ c.walk_plain.new.steps) (c.args.steps.now + element_count c.args.kid.now ≤ c.walk_plain.new.steps)
+    (λ h. omega (arith, n, same, s, h)) c.walk_plain.ensures.least
+
+-- where it has more
+
+pub walk_kid-returns-in-None-plain_model-clause-judged : goal.walk_kid-returns-in-None-plain_model-clause-judged
+walk_kid-returns-in-None-plain_model-clause-judged g t c = λ kids place i z below here r.
     let e = c.in-Ok.ensures in
     let way = e.opens r.gs z r.all r.put r.stands in
     kid-judged c.args.set.now c.args.mixed (seen c.args.model.now) kids place i c.args.matcher.now z c.args.values.now r c.args.kid.now below here
@@ -101,8 +225,8 @@ walk_kid-returns-in-Ok-clause-judged g t c = λ kids place i z below here r.
     (subst (λ q. All (IsNamed c.args.set.now) (leaves q)) (sym r.particle) c.requires.model.named) c.open_way.new.values c.walk_element.new.values way c.walk_element.result
     (c.walk_element.ensures.judged way.way way.stands)
 
-pub walk_kid-returns-in-Ok-clause-most : goal.walk_kid-returns-in-Ok-clause-most
-walk_kid-returns-in-Ok-clause-most g t c =
+pub walk_kid-returns-in-None-plain_model-clause-most : goal.walk_kid-returns-in-None-plain_model-clause-most
+walk_kid-returns-in-None-plain_model-clause-most g t c =
     let (kids, i, z, r) = c.requires.reached in
     let s = c.in-Ok.ensures.ticks in
     let m = c.walk_element.ensures.most in
@@ -115,11 +239,11 @@ pub walk_kids-loop-kid-init : goal.walk_kids-loop-kid-init
 walk_kids-loop-kid-init g t c =
     let took = c.in_ok-matcher.ensures.took in
     let k = c.in_ok-matcher.matcher in
-    let way = c.new-way.result in
+    let way = c.start-way.result in
     record {
       all = cc (c.into_iter-kid-iterator.ensures.into_iter_gives, c.again-kid-items.ensures);
-      plans = c.lists-2.ensures ∙ c.lists.ensures ∙ c.requires.plans;
-      way = λ _. ap (λ ts. spot_now ts way.kids.items) c.new-way.ensures.turns ∙ ap (λ ts. spot_now ts k.kids) (sym took.turns)
+      plans = c.start-way.ensures.plans ∙ c.lists.ensures ∙ c.requires.plans;
+      way = λ _. ap (λ b. spot_now (cond b way.turns.items []) (cond b way.kids.items [])) c.start-way.ensures.begun ∙ ap (λ ts. spot_now ts k.kids) (sym took.turns)
           ∙ sym (spot_matched k (subst IsNoAll (sym (c.in_ok-matcher.ensures.plan ∙ c.requires.plan)) c.requires.no_all));
       limit = refl;
       reached = λ z stands.
@@ -293,6 +417,26 @@ walk_kids-returns-in_ok-put_end-in-Ok-clause-least g t c =
     let all = all-counted c.args.kids.now (length c.loop-kid.yielded) past in
     let s = c.in-Ok.ensures.ticks.0 in
     omega (arith, so_far, all, s)
+
+-- ---- an element that has nothing but child elements
+
+pub walk_plain-returns-in-Err-clause-judged : goal.walk_plain-returns-in-Err-clause-judged
+walk_plain-returns-in-Err-clause-judged g t c = λ z stands.
+    c.in-Err.ensures.judged (opened (value.Sequence []) z) (c.in_ok-begin_sequence.ensures.stands z stands)
+
+pub walk_plain-returns-clause-judged : goal.walk_plain-returns-clause-judged
+walk_plain-returns-clause-judged g t c = λ z stands.
+    let set = c.args.set.now in
+    let model = c.args.inside.model.now in
+    let a = alone (seen model) in
+    let ts = roses_of c.args.kids.now in
+    let old = c.args.values.now in
+    let mid = c.begin_sequence.new.values in
+    let now = c.walk_kids.new.values in
+    let begins = begins-alone (seen model) c.requires.no_all (strings_put false ts) old mid c.in_ok-begin_sequence.ensures in
+    let before = begun_at a [] (strings_put false ts) [] old mid begins z in
+    complex-put set a [] ts z old mid now c.close.new.self begins
+    (children-inside set false false model ts before now c.requires.sound c.requires.model.named c.requires.no_all (c.in-Ok.ensures.judged before (begins.puts.stands z stands))) c.close.ensures
 
 -- ---- the parts for child elements
 

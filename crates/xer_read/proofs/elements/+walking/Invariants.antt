@@ -18,6 +18,9 @@ decreases-walk_kid g l = 8 * node_count l.kid.now + 1
 abbrev pub decreases-walk_kids : goal.decreases-walk_kids
 decreases-walk_kids g l = 8 * count_all (roses_of l.kids.now) + 2
 
+abbrev pub decreases-walk_plain : goal.decreases-walk_plain
+decreases-walk_plain g l = 8 * count_all (roses_of l.kids.now) + 3
+
 abbrev pub decreases-walk_children : goal.decreases-walk_children
 decreases-walk_children g l = 8 * count_all (roses_of l.kids.now) + 3
 

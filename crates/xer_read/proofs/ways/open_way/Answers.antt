@@ -6,6 +6,7 @@ use Rattle.content_values.proofs.Tops.{fillable-no-all}
 use Rattle.content_match.specs.Taking.{spot_of}
 use Rattle.content_match.specs.Private.Standing.{spot_now}
 use Rattle.content_values.specs.Reached.{Put}
+use Rattle.xer_read.specs.Private.Putting.{way_turns}
 use Rattle.xer_read.proofs.Leading.{stop, opened-at, step-goes}
 use Rattle.xer_read.proofs.Unkept.{unkept-step, kept-some, kept-none}
 use Rattle.xer_read.proofs.ways.open_way.Goals as goal
@@ -18,7 +19,7 @@ put_step-requires-clause-step g c =
     let took = c.requires.took in
     let here = stop (seen c.args.model.now) k new took.0 c.args.name.now c.in-Ok.leaf e.particle c.requires.particle (e.took took.0 took.1) in
     let way : spot_now c.path.result.turns.now c.path.result.kids.now ≡ spot_of k =
-    ap (λ ts. spot_now ts c.path.result.kids.now) c.path.ensures.turns ∙ ap (λ ks. spot_now c.args.way.now.turns.items ks) c.path.ensures.kids ∙ c.requires.way (kept-some c.keeps_nothing.result c.args.values.now.most c.keeps_nothing.ensures c.if-keeps_nothing.false)
+    ap (λ ts. spot_now ts c.path.result.kids.now) c.path.ensures.turns ∙ ap (λ ks. spot_now (way_turns c.args.way.now) ks) c.path.ensures.kids ∙ c.requires.way (kept-some c.keeps_nothing.result c.args.values.now.most c.keeps_nothing.ensures c.if-keeps_nothing.false)
     in
     let plain : IsNoAll new.particle = subst IsNoAll (sym (c.in-Ok.ensures.particle ∙ c.requires.particle)) (fillable-no-all (seen c.args.model.now) c.requires.fillable) in
     let stands = spot_matched new plain in (
@@ -36,7 +37,7 @@ returns-in_ok-follow-in-Ok-clause-opens g c = λ gs before now put stood.
     let e = c.in-Ok.ensures in
     let took = c.requires.took in
     let way : spot_now c.path.result.turns.now c.path.result.kids.now ≡ spot_of k =
-    ap (λ ts. spot_now ts c.path.result.kids.now) c.path.ensures.turns ∙ ap (λ ks. spot_now c.args.way.now.turns.items ks) c.path.ensures.kids ∙ c.requires.way (kept-some c.keeps_nothing.result c.args.values.now.most c.keeps_nothing.ensures c.if-keeps_nothing.false)
+    ap (λ ts. spot_now ts c.path.result.kids.now) c.path.ensures.turns ∙ ap (λ ks. spot_now (way_turns c.args.way.now) ks) c.path.ensures.kids ∙ c.requires.way (kept-some c.keeps_nothing.result c.args.values.now.most c.keeps_nothing.ensures c.if-keeps_nothing.false)
     in
     let plain : IsNoAll new.particle = subst IsNoAll (sym (c.in-Ok.ensures.particle ∙ c.requires.particle)) (fillable-no-all (seen c.args.model.now) c.requires.fillable) in
     let stands = spot_matched new plain in

@@ -1,0 +1,151 @@
+//! Elements that have nothing but a text, or nothing but child elements in the order of their content model: they are never nil,
+//! and without attributes.
+ghost use Rattle.std.specs.Prelude.{◌≡◌, ◌<◌, false, [], length, Some, IfSome};
+ghost use Rattle.label_tree.specs.Rose.{roses_of, kids_of};
+ghost use Rattle.simple_types.specs.Seen.{space_of};
+ghost use Rattle.content_models.specs.Seen.{seen};
+ghost use Rattle.content_models.specs.Clear.{IsNoAll};
+ghost use Rattle.schema_parts.specs.Linked.{IsLinked};
+ghost use Rattle.validity.specs.Valid.{only_text};
+ghost use Rattle.xer_read.specs.Private.Contents.{IsPlainType, IsPlainModel};
+
+use crate::orders::any_order;
+use content_models::Particle;
+use item_tree::{ItemNode, ItemRef};
+use schema_parts::{SchemaSet, TypeOf};
+use simple_types::Simple;
+use std::iter::Iterator;
+use validity_check::{Inside, declared_of};
+use xa_base::{Name, Text};
+
+/// Child elements by the content model of the complex type with this number, and nothing else.
+#[derive(Clone, Copy)]
+pub(crate) struct PlainModel<'a> {
+    pub complex: u32,
+    pub model: &'a Particle,
+}
+
+// The type of the elements of this declaration, where it is simple and they can't be nil.
+#[inline(always)]
+fn simple_of<'a>(set: &'a SchemaSet, decl: u32) -> Option<&'a Simple>
+    requires linked { IsLinked set.now }
+    requires decl { decl < length set.now.elements }
+    ensures { IfSome result (λ simple. IsPlainType set.now decl (space_of simple.now)) }
+{
+    let element = set.element(decl);
+    if element.nillable {
+        return None;
+    }
+    match element.kind {
+        TypeOf::Simple(simple) => Some(&set.simple(simple).space),
+        TypeOf::Complex(_) => None,
+    }
+}
+
+// The text of an element in which a text alone stands.
+#[inline(always)]
+fn lone_text<'a>(item: &ItemNode<'a>) -> Option<&'a Text>
+    ensures { IfSome result (λ text. only_text (roses_of (kids_of item.now)) ≡ Some text.now) }
+{
+    let mut kids = item.kids();
+    let Some(first) = kids.next() else {
+        return None;
+    };
+    if kids.is_empty() {
+        match first.label() {
+            ItemRef::Text { text, .. } => Some(text),
+            ItemRef::Element { .. } => None,
+        }
+    } else {
+        None
+    }
+}
+
+/// The type and the text of an element of this declaration, where its value is that of the text and nothing else stands in it.
+#[inline(always)]
+pub(crate) fn plain_text<'a, 'b>(
+    set: &'a SchemaSet,
+    decl: u32,
+    attributes: &[(Name, Text)],
+    item: &ItemNode<'b>,
+) -> Option<(&'a Simple, &'b Text)>
+    requires linked { IsLinked set.now }
+    requires decl { decl < length set.now.elements }
+    ensures { IfSome result (λ plain. (attributes.now ≡ []) × IsPlainType set.now decl (space_of plain.0.now) × (only_text (roses_of (kids_of item.now)) ≡ Some plain.1.now)) }
+{
+    if attributes.is_empty() {
+        match simple_of(set, decl) {
+            None => None,
+            Some(simple) => match lone_text(item) {
+                None => None,
+                Some(text) => Some((simple, text)),
+            },
+        }
+    } else {
+        None
+    }
+}
+
+// The content model, where nothing stands beside child elements.
+#[inline(always)]
+fn alone(inside: Inside<'_>) -> Option<PlainModel<'_>>
+    ensures { IfSome result (λ found. (inside.entry ≡ Inside.Children false found.complex found.model) × IsNoAll (seen found.model.now)) }
+{
+    match any_order(inside) {
+        Some(_) => None,
+        None => match inside {
+            Inside::Nothing => None,
+            Inside::Simple(_) => None,
+            Inside::Children {
+                mixed,
+                complex,
+                model,
+            } => {
+                if mixed {
+                    None
+                } else {
+                    Some(PlainModel { complex, model })
+                }
+            }
+        },
+    }
+}
+
+// The content model of the elements of this declaration, where they have child elements alone and can't be nil.
+#[inline(always)]
+fn model_of<'a>(set: &'a SchemaSet, decl: u32) -> Option<PlainModel<'a>>
+    requires linked { IsLinked set.now }
+    requires decl { decl < length set.now.elements }
+    ensures { IfSome result (λ found. IsPlainModel set.now decl found.complex found.model.now) }
+{
+    let declared = declared_of(set, decl);
+    if declared.nillable {
+        return None;
+    }
+    if declared.uses.list.is_empty() {
+        match alone(declared.inside) {
+            None => None,
+            Some(found) => Some(found),
+        }
+    } else {
+        None
+    }
+}
+
+/// The content model of an element of this declaration, where it has child elements alone.
+#[inline(always)]
+pub(crate) fn plain_model<'a>(
+    set: &'a SchemaSet,
+    decl: u32,
+    attributes: &[(Name, Text)],
+) -> Option<PlainModel<'a>>
+    requires linked { IsLinked set.now }
+    requires decl { decl < length set.now.elements }
+    ensures { IfSome result (λ found. (attributes.now ≡ []) × IsPlainModel set.now decl found.complex found.model.now) }
+{
+    if attributes.is_empty() {
+        model_of(set, decl)
+    } else {
+        None
+    }
+}
