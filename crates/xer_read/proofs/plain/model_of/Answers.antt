@@ -1,4 +1,6 @@
-use Rattle.std.proofs.Common.{map, [], false, sym, ◌∙◌, ap, subst}
+use Rattle.std.proofs.Common.{◌≡◌, map, length, [], false, sym, ◌∙◌, ap, subst, arith}
+use Rattle.std.proofs.lemmas.List.{nil_from_length}
+use Rattle.std.proofs.lemmas.Bool.Decides.{nat_tests}
 use Rattle.schema_parts.specs.SetParts.{parts_of}
 use Rattle.validity.specs.Asked.{asked, attribute_in}
 use Rattle.validity_check.specs.Told.{inside_told, IsFittingInside}
@@ -11,9 +13,10 @@ returns-in-Some c =
     let d = c.declared_of-declared.result in
     let e = c.declared_of-declared.ensures in
     let inside = c.in-Some.ensures.0 in
+    let none : length d.uses.list.now ≡ 0 = grind (arith, nat_tests, c.is_empty.ensures, c.if-is_empty.true) in
     let fits = subst (IsFittingInside s) inside e.fits.1 in
     record {
-      asked_is = sym e.asked ∙ ap (λ b. asked b (map a d.uses.list.now) (inside_told d.inside)) c.if-declared.false ∙ ap (λ us. asked false (map a us) (inside_told d.inside)) (c.is_empty.ensures.0 c.if-is_empty.true)
+      asked_is = sym e.asked ∙ ap (λ b. asked b (map a d.uses.list.now) (inside_told d.inside)) c.if-declared.false ∙ ap (λ us. asked false (map a us) (inside_told d.inside)) (nil_from_length d.uses.list.now none)
           ∙ ap (λ i. asked false [] (inside_told i)) inside;
       there = fits.0;
       is_model = fits.1;
