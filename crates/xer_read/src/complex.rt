@@ -35,18 +35,6 @@ use validity_check::{CheckError, Declared, Inside, check_empty, check_no_content
 use value_builder::ValueBuilder;
 use xa_base::{Memory, Name, Text};
 
-// Whether the element has a simple type and can't be nil, so that its value is that of its text.
-fn is_plain(set: &SchemaSet, decl: u32) -> bool
-    requires { decl < length set.now.elements }
-    ensures { result ≡ is_plain_at set.now decl }
-{
-    let element = set.element(decl);
-    match element.kind {
-        TypeOf::Simple(_) => !element.nillable,
-        TypeOf::Complex(_) => false,
-    }
-}
-
 /// The type whose value is that of the element, which has a simple type and can't be nil.
 pub(crate) fn plain_type<'a>(set: &SchemaSet, decl: u32, inside: Inside<'a>) -> Option<&'a Simple>
     requires { decl < length set.now.elements }
@@ -58,10 +46,10 @@ pub(crate) fn plain_type<'a>(set: &SchemaSet, decl: u32, inside: Inside<'a>) -> 
         Inside::Nothing => None,
         Inside::Children { .. } => None,
         Inside::Simple(simple) => {
-            if is_plain(set, decl) {
-                Some(simple)
-            } else {
-                None
+            let element = set.element(decl);
+            match element.kind {
+                TypeOf::Complex(_) => None,
+                TypeOf::Simple(_) => { if element.nillable { None } else { Some(simple) } }
             }
         }
     }
@@ -73,17 +61,6 @@ pub(crate) fn no_components() -> ValueLabel
     ValueLabel::Sequence {
         present: Flags::none(),
     }
-}
-
-/// A SEQUENCE is open. Where no value is kept nothing is.
-#[inline(always)]
-pub(crate) fn begin_sequence(values: &mut ValueBuilder) -> Result<(), Memory>
-    ensures { OnOk result (Puts (opened (ValueLabel.Sequence [])) values.old values.new) }
-{
-    if values.keeps_nothing() {
-        return Ok(());
-    }
-    values.open(no_components())
 }
 
 // The numbers as a SEQUENCE OF ENUMERATED.

@@ -27,7 +27,7 @@ ghost use Rattle.xer_read.specs.Private.Contents.{AreTaken, HasNoAll, IsFilled, 
 ghost use Rattle.xer_read.specs.Private.Putting.{IsWay, ValuePut};
 
 use crate::complex::{
-    begin_complex, begin_part, begin_sequence, plain_type, put_ordered, walk_nil, walk_nothing,
+    begin_complex, begin_part, no_components, plain_type, put_ordered, walk_nil, walk_nothing,
     walk_text,
 };
 use crate::gathering::Gathered;
@@ -213,7 +213,7 @@ fn walk_plain<L: Ledger>(
     let plan = plans.plan(inside.complex, inside.model)?;
     let plan = plan.as_ref();
     let model = inside.model;
-    begin_sequence(values)?;
+    values.open(no_components())?;
     match walk_kids(set, plans, model, plan, false, at, kids, values, steps) {
         Err(error) => Err(error),
         Ok(()) => {

@@ -1,10 +1,8 @@
 //! Elements that have nothing but a text, or nothing but child elements in the order of their content model: they are never nil,
 //! and without attributes.
-ghost use Rattle.std.specs.Prelude.{◌≡◌, ◌<◌, false, [], length, Some, IfSome};
+ghost use Rattle.std.specs.Prelude.{◌≡◌, ◌<◌, [], length, Some, IfSome};
 ghost use Rattle.label_tree.specs.Rose.{roses_of, kids_of};
 ghost use Rattle.simple_types.specs.Seen.{space_of};
-ghost use Rattle.content_models.specs.Seen.{seen};
-ghost use Rattle.content_models.specs.Clear.{IsNoAll};
 ghost use Rattle.schema_parts.specs.Linked.{IsLinked};
 ghost use Rattle.validity.specs.Valid.{only_text};
 ghost use Rattle.xer_read.specs.Private.Contents.{IsPlainType, IsPlainModel};
@@ -86,14 +84,31 @@ pub(crate) fn plain_text<'a, 'b>(
     }
 }
 
-// The content model, where nothing stands beside child elements.
+/// The content model of an element of this declaration, where it has child elements alone.
 #[inline(always)]
-fn alone(inside: Inside<'_>) -> Option<PlainModel<'_>>
-    ensures { IfSome result (λ found. (inside.entry ≡ Inside.Children false found.complex found.model) × IsNoAll (seen found.model.now)) }
+pub(crate) fn plain_model<'a>(
+    set: &'a SchemaSet,
+    decl: u32,
+    attributes: &[(Name, Text)],
+) -> Option<PlainModel<'a>>
+    requires linked { IsLinked set.now }
+    requires decl { decl < length set.now.elements }
+    ensures { IfSome result (λ found. (attributes.now ≡ []) × IsPlainModel set.now decl found.complex found.model.now) }
 {
-    match any_order(inside) {
+    let bare = attributes.is_empty();
+    if !bare {
+        return None;
+    }
+    let declared = declared_of(set, decl);
+    if declared.nillable {
+        return None;
+    }
+    if !declared.uses.list.is_empty() {
+        return None;
+    }
+    match any_order(declared.inside) {
         Some(_) => None,
-        None => match inside {
+        None => match declared.inside {
             Inside::Nothing => None,
             Inside::Simple(_) => None,
             Inside::Children {
@@ -108,44 +123,5 @@ fn alone(inside: Inside<'_>) -> Option<PlainModel<'_>>
                 }
             }
         },
-    }
-}
-
-// The content model of the elements of this declaration, where they have child elements alone and can't be nil.
-#[inline(always)]
-fn model_of<'a>(set: &'a SchemaSet, decl: u32) -> Option<PlainModel<'a>>
-    requires linked { IsLinked set.now }
-    requires decl { decl < length set.now.elements }
-    ensures { IfSome result (λ found. IsPlainModel set.now decl found.complex found.model.now) }
-{
-    let declared = declared_of(set, decl);
-    if declared.nillable {
-        return None;
-    }
-    if declared.uses.list.is_empty() {
-        match alone(declared.inside) {
-            None => None,
-            Some(found) => Some(found),
-        }
-    } else {
-        None
-    }
-}
-
-/// The content model of an element of this declaration, where it has child elements alone.
-#[inline(always)]
-pub(crate) fn plain_model<'a>(
-    set: &'a SchemaSet,
-    decl: u32,
-    attributes: &[(Name, Text)],
-) -> Option<PlainModel<'a>>
-    requires linked { IsLinked set.now }
-    requires decl { decl < length set.now.elements }
-    ensures { IfSome result (λ found. (attributes.now ≡ []) × IsPlainModel set.now decl found.complex found.model.now) }
-{
-    if attributes.is_empty() {
-        model_of(set, decl)
-    } else {
-        None
     }
 }

@@ -41,16 +41,14 @@ impl Way {
         ensures begun { result.begun ≡ false }
     {
         if values.keeps_nothing() {
-            Way::within(Lists::new(plans.alloc()))
-        } else {
-            Way::within(plans.lists())
+            let lists = Lists::new(plans.alloc());
+            return Way {
+                begun: false,
+                turns: lists.turns,
+                kids: lists.kids,
+            };
         }
-    }
-
-    // The same in these lists.
-    fn within(lists: Lists) -> Way
-        ensures { result.begun ≡ false }
-    {
+        let lists = plans.lists();
         Way {
             begun: false,
             turns: lists.turns,

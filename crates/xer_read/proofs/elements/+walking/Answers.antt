@@ -422,7 +422,7 @@ walk_kids-returns-in_ok-put_end-in-Ok-clause-least g t c =
 
 pub walk_plain-returns-in-Err-clause-judged : goal.walk_plain-returns-in-Err-clause-judged
 walk_plain-returns-in-Err-clause-judged g t c = λ z stands.
-    c.in-Err.ensures.judged (opened (value.Sequence []) z) (c.in_ok-begin_sequence.ensures.stands z stands)
+    c.in-Err.ensures.judged (opened c.no_components.result z) (c.in_ok-open.ensures.stands z stands)
 
 pub walk_plain-returns-clause-judged : goal.walk_plain-returns-clause-judged
 walk_plain-returns-clause-judged g t c = λ z stands.
@@ -431,9 +431,9 @@ walk_plain-returns-clause-judged g t c = λ z stands.
     let a = alone (seen model) in
     let ts = roses_of c.args.kids.now in
     let old = c.args.values.now in
-    let mid = c.begin_sequence.new.values in
+    let mid = c.open.new.self in
     let now = c.walk_kids.new.values in
-    let begins = begins-alone (seen model) c.requires.no_all (strings_put false ts) old mid c.in_ok-begin_sequence.ensures in
+    let begins = begins-alone (seen model) c.requires.no_all (strings_put false ts) old mid (subst (λ l. Puts (opened l) old mid) c.no_components.ensures c.in_ok-open.ensures) in
     let before = begun_at a [] (strings_put false ts) [] old mid begins z in
     complex-put set a [] ts z old mid now c.close.new.self begins
     (children-inside set false false model ts before now c.requires.sound c.requires.model.named c.requires.no_all (c.in-Ok.ensures.judged before (begins.puts.stands z stands))) c.close.ensures
