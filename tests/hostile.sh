@@ -8,11 +8,12 @@
 # - the memory is over the bound that the case states, in bytes for each byte of schemas and input together, or for each
 #   of what its schema multiplies, and 16 MB for the program itself;
 # - where a case is held beside an order of 100,000 lines, a byte of it costs more than so many times what a byte of that does.
+# - where a case is held beside xmllint, it takes more processor time than `xmllint --noout --schema` does for the same files.
 #
 # It prints a line for each: the status, the processor seconds and the MB of the whole, the bytes of input, the bytes of
 # memory for each of these, the ratio of times, and ok or what is wrong. Its own status is 1 where any is wrong.
 #
-#     tests/hostile.sh [CASE..]      needs the program (`make run`), awk and GNU time; some minutes, 4 GB of memory
+#     tests/hostile.sh [CASE..]      needs the program (`make run`), awk, GNU time and xmllint; some minutes, 4 GB of memory
 #
 # PROGRAM names another program.
 set -eu
@@ -143,6 +144,33 @@ beside() {
     fi
     [ "$verdict" = ok ] || wrong=$((wrong + 1))
     printf '%-20s %s, %s times what the order costs for each byte: %s\n' "$name" "$word" "$figure" "$verdict"
+    rm -f "$work"/*.xsd
+}
+
+# A case that takes no more processor time than xmllint takes to check the same document against the same schema: its name and its
+# size, and the words. Each is run three times here, one after the other.
+beside_xmllint() {
+    local name=$1 size=$2 word=$3 root=$4
+    case $wanted in
+        '  ' | *" $name "*) ;;
+        *) return 0 ;;
+    esac
+    due_status=0
+    due_complaint=
+    verdict=ok
+    : > "$input"
+    "make_$name" "$size"
+    runs "$word" "$root" "$schema"
+    local peer figure
+    peer=$(for _ in 1 2 3; do
+        /usr/bin/time -f '%U %S' xmllint --huge --noout --schema "$schema" "$input" 2>&1 > /dev/null | tail -n 1
+    done | awk 'NR == 1 || $1 + $2 < least { least = $1 + $2 } END { print least }')
+    figure=$(awk -v a="$seconds" -v b="$peer" 'BEGIN { printf "%.2f", a / b }')
+    if [ "$verdict" = ok ] && awk -v figure="$figure" 'BEGIN { exit !(figure > 1) }'; then
+        verdict="wrong: over xmllint"
+    fi
+    [ "$verdict" = ok ] || wrong=$((wrong + 1))
+    printf '%-20s %s, %s of the time of xmllint --schema: %s\n' "$name" "$word" "$figure" "$verdict"
     rm -f "$work"/*.xsd
 }
 
@@ -344,8 +372,8 @@ make_uses() {
 hostile uses 400 60 0 0 '' check "{$long_space}r" "$schema"
 make_uses_sent() { make_uses "$1"; }
 hostile uses_sent 400 60 0 0 '' to-per "{$long_space}r" "$schema"
-beside uses 400 3 check "{$long_space}r"
-beside uses_sent 400 3 to-per "{$long_space}r"
+beside_xmllint uses 400 check "{$long_space}r"
+beside_xmllint uses_sent 400 to-per "{$long_space}r"
 
 # A text of so many items before 50 that are spelled anew one after another, each by another member of a union of 50
 # lists: each member reads all items again in each form that the text takes.
