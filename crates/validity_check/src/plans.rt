@@ -73,10 +73,15 @@ impl<'a> Plans<'a> {
     }
 
     /// Takes lists back. Where there is no memory to keep them they go.
+    #[inline(always)]
     pub fn give_back(&mut self, lists: Lists)
         ensures { self.new ≡ self.old }
     {
-        let _ = self.spare.push(lists);
+        if self.spare.len() < self.spare.capacity() {
+            self.spare.push_reserved(lists);
+        } else {
+            let _ = self.spare.push(lists);
+        }
     }
 
     // The plan that is kept for a complex type.
@@ -98,7 +103,23 @@ impl<'a> Plans<'a> {
         self.kept[place] = Some(plan);
     }
 
+    // Compiles the plan of the content model of a complex type, and keeps it.
+    #[inline(never)]
+    fn compiled(&mut self, complex: u32, model: &Particle) -> Result<Rc<Plan>, Memory>
+        requires linked { IsLinked self.old }
+        requires model { model_at self.old complex ≡ Some model.now }
+        ensures same { self.new ≡ self.old }
+        ensures plan { IfOk result (λ plan. plan.value ≡ seen model.now) }
+    {
+        let alloc = self.alloc();
+        let plan = compile(alloc, model)?;
+        let plan = Rc::new(alloc, plan)?;
+        self.keep(complex, plan.clone()?);
+        Ok(plan)
+    }
+
     /// The plan of the content model of a complex type.
+    #[inline(always)]
     pub fn plan(&mut self, complex: u32, model: &Particle) -> Result<Rc<Plan>, Memory>
         requires linked { IsLinked self.old }
         requires model { model_at self.old complex ≡ Some model.now }
@@ -108,10 +129,6 @@ impl<'a> Plans<'a> {
         if let Some(plan) = self.kept(complex) {
             return Ok(plan.clone()?);
         }
-        let alloc = self.alloc();
-        let plan = compile(alloc, model)?;
-        let plan = Rc::new(alloc, plan)?;
-        self.keep(complex, plan.clone()?);
-        Ok(plan)
+        self.compiled(complex, model)
     }
 }

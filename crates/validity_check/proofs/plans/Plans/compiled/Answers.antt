@@ -2,7 +2,7 @@ use Rattle.std.proofs.Common.{arith}
 use Rattle.content_models.specs.Seen.{seen}
 use Rattle.content_match.proofs.Bounding.{bounds_allow}
 use Rattle.validity_check.proofs.Declaring.{model_kept}
-use Rattle.validity_check.proofs.plans.Plans.plan.Goals as goal
+use Rattle.validity_check.proofs.plans.Plans.compiled.Goals as goal
 
 pub compile-requires-clause-clear : goal.compile-requires-clause-clear
 compile-requires-clause-clear c = (model_kept c.args.self.now c.requires.linked c.args.complex c.args.model.now c.requires.model).clear
