@@ -8,7 +8,8 @@
 # - the memory is over the bound that the case states, in bytes for each byte of schemas and input together, or for each
 #   of what its schema multiplies, and 16 MB for the program itself;
 # - where a case is held beside an order of 100,000 lines, a byte of it costs more than so many times what a byte of that does.
-# - where a case is held beside xmllint, it takes more processor time than `xmllint --noout --schema` does for the same files.
+# - where a case is held beside xmllint, it takes more than so much of the processor time of `xmllint --noout --schema` over the
+#   same files.
 #
 # It prints a line for each: the status, the processor seconds and the MB of the whole, the bytes of input, the bytes of
 # memory for each of these, the ratio of times, and ok or what is wrong. Its own status is 1 where any is wrong.
@@ -75,6 +76,14 @@ format='%-20s %6s %8s %7s %10s %8s %6s  %s\n'
 # shellcheck disable=SC2059
 printf "$format" case status seconds MB bytes 'mem/byte' ratio ''
 
+# Whether a case is among those that were asked for.
+wants() {
+    case $wanted in
+        '  ' | *" $1 "*) return 0 ;;
+        *) return 1 ;;
+    esac
+}
+
 # A case: its name, for which there is a maker of the schema and the input; its whole size; the most bytes of memory, for
 # each byte or for each of so many things at a size of 1; the status and the complaint that are due; the words.
 hostile() {
@@ -82,10 +91,7 @@ hostile() {
     due_status=$5
     due_complaint=$6
     shift 6
-    case $wanted in
-        '  ' | *" $name "*) ;;
-        *) return 0 ;;
-    esac
+    wants "$name" || return 0
     verdict=ok
     : > "$input"
     "make_$name" $((whole / 4))
@@ -114,14 +120,31 @@ hostile() {
     rm -f "$work"/*.xsd
 }
 
+# Three runs of a case that is due to be taken, at this size.
+runs_taken() {
+    local name=$1 size=$2
+    shift 2
+    : > "$input"
+    "make_$name" "$size"
+    runs "$@"
+}
+
+# The line of a case that is held beside something else, of which it may take so many times.
+line_beside() {
+    local name=$1 word=$2 figure=$3 times=$4 what=$5
+    if [ "$verdict" = ok ] && awk -v figure="$figure" -v times="$times" 'BEGIN { exit !(figure > times) }'; then
+        verdict="wrong: over $times times"
+    fi
+    [ "$verdict" = ok ] || wrong=$((wrong + 1))
+    printf '%-20s %s, %s times what %s: %s\n' "$name" "$word" "$figure" "$what" "$verdict"
+    rm -f "$work"/*.xsd
+}
+
 # A case of which each byte costs at most so many times what a byte of an order of 100,000 lines costs, which most documents
 # cost: its name and its size, how many times, and the words of both. Each is run three times here, one after the other.
 beside() {
     local name=$1 size=$2 times=$3 word=$4 root=$5
-    case $wanted in
-        '  ' | *" $name "*) ;;
-        *) return 0 ;;
-    esac
+    wants "$name" || return 0
     due_status=0
     due_complaint=
     verdict=ok
@@ -133,45 +156,27 @@ beside() {
     runs "$word" '{urn:po}order' "$order"
     local order_seconds=$seconds order_bytes
     order_bytes=$(cat "$input" "$order" | wc -c)
-    : > "$input"
-    "make_$name" "$size"
-    runs "$word" "$root" "$schema"
+    runs_taken "$name" "$size" "$word" "$root" "$schema"
     local total figure
     total=$(cat "$input" "$work"/*.xsd | wc -c)
     figure=$(awk -v a="$seconds" -v n="$total" -v b="$order_seconds" -v m="$order_bytes" 'BEGIN { printf "%.1f", a / n / (b / m) }')
-    if [ "$verdict" = ok ] && awk -v figure="$figure" -v times="$times" 'BEGIN { exit !(figure > times) }'; then
-        verdict="wrong: over $times times the order"
-    fi
-    [ "$verdict" = ok ] || wrong=$((wrong + 1))
-    printf '%-20s %s, %s times what the order costs for each byte: %s\n' "$name" "$word" "$figure" "$verdict"
-    rm -f "$work"/*.xsd
+    line_beside "$name" "$word" "$figure" "$times" 'the order costs for each byte'
 }
 
-# A case that takes no more processor time than xmllint takes to check the same document against the same schema: its name and its
-# size, and the words. Each is run three times here, one after the other.
+# The same beside the processor time that xmllint takes to check the document against the schema.
 beside_xmllint() {
-    local name=$1 size=$2 word=$3 root=$4
-    case $wanted in
-        '  ' | *" $name "*) ;;
-        *) return 0 ;;
-    esac
+    local name=$1 size=$2 times=$3 word=$4 root=$5
+    wants "$name" || return 0
     due_status=0
     due_complaint=
     verdict=ok
-    : > "$input"
-    "make_$name" "$size"
-    runs "$word" "$root" "$schema"
+    runs_taken "$name" "$size" "$word" "$root" "$schema"
     local peer figure
     peer=$(for _ in 1 2 3; do
         /usr/bin/time -f '%U %S' xmllint --huge --noout --schema "$schema" "$input" 2>&1 > /dev/null | tail -n 1
     done | awk 'NR == 1 || $1 + $2 < least { least = $1 + $2 } END { print least }')
     figure=$(awk -v a="$seconds" -v b="$peer" 'BEGIN { printf "%.2f", a / b }')
-    if [ "$verdict" = ok ] && awk -v figure="$figure" 'BEGIN { exit !(figure > 1) }'; then
-        verdict="wrong: over xmllint"
-    fi
-    [ "$verdict" = ok ] || wrong=$((wrong + 1))
-    printf '%-20s %s, %s of the time of xmllint --schema: %s\n' "$name" "$word" "$figure" "$verdict"
-    rm -f "$work"/*.xsd
+    line_beside "$name" "$word" "$figure" "$times" 'xmllint --schema takes'
 }
 
 # The head of a schema, and its root r: any number of elements of a name and a type.
@@ -372,8 +377,8 @@ make_uses() {
 hostile uses 400 60 0 0 '' check "{$long_space}r" "$schema"
 make_uses_sent() { make_uses "$1"; }
 hostile uses_sent 400 60 0 0 '' to-per "{$long_space}r" "$schema"
-beside_xmllint uses 400 check "{$long_space}r"
-beside_xmllint uses_sent 400 to-per "{$long_space}r"
+beside_xmllint uses 400 0.14 check "{$long_space}r"
+beside_xmllint uses_sent 400 0.2 to-per "{$long_space}r"
 
 # A text of so many items before 50 that are spelled anew one after another, each by another member of a union of 50
 # lists: each member reads all items again in each form that the text takes.
