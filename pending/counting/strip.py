@@ -2,6 +2,11 @@ import sys,re,collections
 sys.path.insert(0,'ROOM')
 import attrs
 T=attrs.table()
+# what stands in another file than its type
+elsewhere=collections.defaultdict(list)
+for (m,f),d in T.items():
+    for o,p in d.items():
+        if o: elsewhere[(m.split('::')[0],f)].append((o,p))
 src,dst=sys.argv[1:3]
 out=[]
 n=collections.Counter()
@@ -25,6 +30,11 @@ def attr_of(name):
             if o and own.startswith(o): return p
         n['ambiguous']+=1
         return None
+    own=parts[-2] if len(parts)>1 else ''
+    vals={p for o,p in elsewhere.get((parts[0],fn),()) if own==o or own.startswith(o+'+')}
+    if len(vals)==1:
+        n['elsewhere']+=1
+        return list(vals)[0]
     n['unknown']+=1
     unk.append(name)
     return None

@@ -29,6 +29,7 @@ pub(crate) fn count_needed(kids: &[Tree<PlanLabel>]) -> u32
 }
 
 // A mark for each kid, on none.
+#[inline(never)]
 pub(crate) fn unmarked(alloc: Global, all: &AllPlan) -> Result<Vec<bool>, Memory>
     ensures { IfOk result (λ marks. marks.items ≡ no_marks all.now.kids.items) }
 {
@@ -57,6 +58,7 @@ fn take_kid(all: &AllPlan, position: &mut Position, kid: u32) -> Option<Leaf>
 }
 
 // Goes on to the leaf of the kid that has the name, where it has no mark.
+#[inline(never)]
 pub(crate) fn take<L: Ledger>(
     all: &AllPlan,
     position: &mut Position,

@@ -8,6 +8,7 @@ ghost use Rattle.content_match.specs.Private.Nearby.{IsOrdered, IsNamedKid, Lies
 ghost use Rattle.content_match.specs.Private.Plans.{IsPlan};
 ghost use Rattle.content_match.specs.Private.Standing.{Stands, AreWithin, Entered, OnWay, spot_now};
 
+use crate::names::is_same;
 use crate::places::{Leaf, Turn};
 use crate::plans::{PlanKind, PlanLabel};
 use crate::ways::again_at;
@@ -45,7 +46,7 @@ fn named_kid(plan: &Tree<PlanLabel>, place: usize, name: &Name) -> Option<Leaf>
     match &label.kind {
         PlanKind::Group(_) => None,
         PlanKind::Leaf { decl, name: own } => {
-            if name == own {
+            if is_same(name, own) {
                 Some(Leaf {
                     particle: label.number,
                     decl: *decl,

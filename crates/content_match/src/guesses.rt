@@ -5,6 +5,7 @@ ghost use Rattle.content_models.specs.Particle.{Particle};
 ghost use Rattle.content_match.specs.Private.Plans.{IsPlan, found_in, is_leaf_of, is_kid_of};
 ghost use Rattle.content_match.specs.declared.plans.PlanKind.TheVariants as kind;
 
+use crate::names::is_same;
 use crate::plans::{Group, PlanKind, PlanLabel};
 use label_tree::Tree;
 use xa_base::Name;
@@ -14,7 +15,7 @@ fn is_leaf_of(label: &PlanLabel, name: &Name) -> bool
     ensures { result ≡ is_leaf_of label.now.kind name.now }
 {
     match &label.kind {
-        PlanKind::Leaf { name: own, .. } => name == own,
+        PlanKind::Leaf { name: own, .. } => is_same(name, own),
         PlanKind::Group(_) => false,
     }
 }

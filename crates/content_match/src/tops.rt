@@ -8,7 +8,7 @@ ghost use Rattle.content_match.specs.Private.Tops.{particle_of_top, height_of, m
 use crate::alls::{take, unmarked};
 use crate::ends::may_end;
 use crate::going::go_on;
-use crate::places::{Leaf, Lists, Position};
+use crate::places::{Leaf, Position};
 use crate::plans::TopPlan;
 use std::alloc::Global;
 use std::sync::ledger::Ledger;
@@ -16,7 +16,8 @@ use xa_base::{Memory, Name, Steps};
 
 impl TopPlan {
     // For each kid of an all, a mark, on none.
-    fn marks(&self, alloc: Global) -> Result<Vec<bool>, Memory>
+    #[inline(always)]
+    pub(crate) fn marks(&self, alloc: Global) -> Result<Vec<bool>, Memory>
         ensures { IfOk result (λ marks. marks.items ≡ marks_of self.now) }
     {
         match self {
@@ -26,7 +27,8 @@ impl TopPlan {
     }
 
     // How many kids of an all may not be empty.
-    fn required(&self) -> u32
+    #[inline(always)]
+    pub(crate) fn required(&self) -> u32
         ensures { result ≡ required_of self.now }
     {
         match self {
@@ -35,37 +37,8 @@ impl TopPlan {
         }
     }
 
-    // Before the first name, in these lists.
-    pub(crate) fn start(
-        &self,
-        alloc: Global,
-        levels: usize,
-        lists: Lists,
-    ) -> Result<Position, Memory>
-        requires plan { IsTop self.now }
-        requires clear { Clear (particle_of_top self.now) [] }
-        requires levels { height_of self.now ≤ levels }
-        ensures room { IfOk result (λ position. HasRoom self.now position) }
-        ensures stands { IfOk result (λ position. StandsAt self.now position) }
-        ensures turns { IfOk result (λ position. position.turns.items ≡ []) }
-        ensures kids { IfOk result (λ position. position.kids.items ≡ []) }
-    {
-        let mut turns = lists.turns;
-        turns.clear();
-        turns.reserve(levels)?;
-        let mut kids = lists.kids;
-        kids.clear();
-        kids.reserve(levels)?;
-        let marks = self.marks(alloc)?;
-        Ok(Position {
-            turns,
-            kids,
-            marks,
-            wanted: self.required(),
-        })
-    }
-
     // Goes on to the next leaf, where the name leads to one.
+    #[inline(always)]
     pub(crate) fn advance<L: Ledger>(
         &self,
         position: &mut Position,

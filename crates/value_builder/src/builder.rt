@@ -82,6 +82,7 @@ impl ValueBuilder {
     }
 
     /// Whether all of them are kept.
+    #[inline(always)]
     pub fn is_kept(&self) -> bool
         ensures { IsTrue result ↔ (self.now.nodes ≤ self.now.most) }
     {
@@ -89,6 +90,7 @@ impl ValueBuilder {
     }
 
     /// Whether no node may be kept. Then nothing that is put down counts, so that a caller needn't put it down.
+    #[inline(always)]
     pub fn keeps_nothing(&self) -> bool
         ensures { IsTrue result ↔ (self.now.most ≡ 0) }
     {
@@ -96,6 +98,7 @@ impl ValueBuilder {
     }
 
     /// Puts down a node that has kids, which come next.
+    #[inline(always)]
     pub fn open(&mut self, label: ValueLabel) -> Result<(), Memory>
         ensures { OnOk result (Puts (opened label) self.old self.new) }
     {
@@ -107,6 +110,7 @@ impl ValueBuilder {
     }
 
     /// Puts down a node that has no kids.
+    #[inline(always)]
     pub fn leaf(&mut self, label: ValueLabel) -> Result<(), Memory>
         ensures { OnOk result (Puts (added (node label none)) self.old self.new) }
     {
@@ -118,6 +122,7 @@ impl ValueBuilder {
     }
 
     /// The innermost node that is open, if one is, has no more kids.
+    #[inline(always)]
     pub fn close(&mut self)
         ensures { Puts closed self.old self.new }
     {
@@ -127,6 +132,7 @@ impl ValueBuilder {
     }
 
     /// The innermost node that is open, a SEQUENCE, has one component more, which is present or isn't.
+    #[inline(always)]
     pub fn part(&mut self, present: bool) -> Result<(), Memory>
         ensures { OnOk result (Puts (flagged present) self.old self.new) }
     {
@@ -138,6 +144,7 @@ impl ValueBuilder {
 
     /// Puts down the value that the type gives to the text. Where the type is a list or a union, and the text so long that its
     /// value may have too many nodes to be kept, they are counted first, and no value is made if they are.
+    #[inline(always)]
     pub fn text(&mut self, simple: &Simple, text: &Text) -> Result<(), SimpleError>
         requires { Sound (space_of simple.now) }
         ensures { MatchResult result
@@ -183,6 +190,7 @@ impl ValueBuilder {
     }
 
     /// Whether so many more may be kept.
+    #[inline(always)]
     pub fn has_room(&self, nodes: u64) -> bool
         ensures { IsTrue result ↔ (min (self.now.nodes + nodes) (2 ^ 64 - 1) ≤ self.now.most) }
     {
@@ -201,6 +209,7 @@ impl ValueBuilder {
 }
 
 // A SEQUENCE has one component more.
+#[inline(always)]
 fn add_flag(alloc: Global, label: &mut ValueLabel, present: bool) -> Result<(), Memory>
     ensures { OnOk result (label.new ≡ flagged_label present label.old) }
 {
@@ -233,6 +242,7 @@ fn with_flags_cut(alloc: Global, label: ValueLabel) -> ValueLabel
 }
 
 // Whether the innermost open node is a SEQUENCE of more components than have room in their value.
+#[inline(always)]
 fn has_many_flags(kept: &Builder<ValueLabel>) -> bool {
     match kept.innermost() {
         Some(ValueLabel::Sequence { present }) => present.items().len() > FEW,
@@ -240,21 +250,22 @@ fn has_many_flags(kept: &Builder<ValueLabel>) -> bool {
     }
 }
 
+#[inline(never)]
 fn cut_flags(alloc: Global, kept: &mut Builder<ValueLabel>)
     requires { 0 < length kept.old.above }
     ensures { kept.new ≡ kept.old }
 {
-    if !has_many_flags(kept) {
-        return;
-    }
     let label = kept.relabel(ValueLabel::SequenceOf);
     let _ = kept.relabel(with_flags_cut(alloc, label));
 }
 
+#[inline(always)]
 fn close_innermost(alloc: Global, kept: &mut Builder<ValueLabel>)
     requires { 0 < length kept.old.above }
     ensures { kept.new ≡ closed kept.old }
 {
-    cut_flags(alloc, kept);
+    if has_many_flags(kept) {
+        cut_flags(alloc, kept);
+    }
     kept.close();
 }
