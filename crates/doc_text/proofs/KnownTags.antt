@@ -3,7 +3,7 @@ use Rattle.std.proofs.Common.{◌≡◌, ℕ, ◌+◌, ◌-◌, ◌≤◌, ◌<�
 use Rattle.std.specs.Prelude.{IsUtf8, reverse, not, slice_get, IfSome, IfOk, MatchOption, Result, Ok, Err}
 use Rattle.std.specs.Borrow.{Bor}
 use Rattle.std.proofs.Math.Seq.{get_or-append_seam}
-use Rattle.std.proofs.lemmas.List.{length-append, length-take-le, take-take}
+use Rattle.std.proofs.lemmas.List.{length-append, length-take-le}
 use Rattle.std.proofs.lemmas.Option.{slice_get_within, get_or_from_slice_get}
 use Rattle.std.proofs.lemmas.Slice.Eq.{bytes_eq-Decides}
 use Rattle.flat_tree.specs.Zips as zips
@@ -96,9 +96,6 @@ not_empty (x ∷ xs) some = refl
 
 pub some_front : (len : ℕ) (bytes : List ℕ) → 0 < len → len ≤ length bytes → is_empty (take len bytes) ≡ false
 some_front len bytes some within = not_empty (take len bytes) (omega (arith, some, length-take-le len bytes within))
-
-pub same_front : (len n : ℕ) (front bytes : List ℕ) → len ≤ n → front ≡ take n bytes → take len front ≡ take len bytes
-same_front len n front bytes le is = ap (take len) is ∙ take-take len n bytes le
 
 pub inner_utf8 : (name tag behind : List ℕ) (c : Context) → StartsKnown name tag behind c → IsUtf8 (0x3C ∷ tag) → IsUtf8 behind
 inner_utf8 name tag behind c s u = laws.utf8 (Start (bare name)) (0x3C ∷ tag) behind u (start_begins name (0x3C ∷ tag) behind (start_named name c s.none) (ap (λ (x : List ℕ). 0x3C ∷ x) s.parts))

@@ -8,6 +8,7 @@ ghost use Rattle.std.specs.List.{prefix_len};
 ghost use Rattle.doc_pieces.specs.Reasons.{IsPlainRun, is_plain_byte};
 ghost use Rattle.doc_text.specs.Contexts.{is_outside, is_innermost, end_tests, reason, scope, brackets_after};
 ghost use Rattle.xa_base.specs.Entries.{first_true};
+ghost use Rattle.flat_tree.specs.Zips as zips;
 ghost use Rattle.doc_text.specs.Private.States.{context, nothing, added, passed};
 ghost use Rattle.doc_text.specs.Private.Entering.{Stopped, have_utf8};
 ghost use Rattle.doc_text.specs.declared.error.DocWhy.TheVariants as why;
@@ -22,7 +23,7 @@ use doc_names::{BindingsInScope, is_long};
 use doc_pieces::{Element, Found, is_qname, plain_run, prefix_of};
 use item_tree::{ElementName, ItemBuilder, ItemTree};
 use std::alloc::Global;
-use xa_base::{Memory, ROOM, Text, utf8_text};
+use xa_base::{Memory, Text, utf8_text};
 
 #[derive(Drop)]
 pub(crate) struct Builder<'a> {
@@ -71,7 +72,9 @@ fn count_brackets(c: char, before: u8) -> u8
 }
 
 impl<'a> Builder<'a> {
-    pub(crate) fn new(alloc: Global) -> Result<Builder<'a>, Memory>
+    // Nothing is read yet, and the builder of items has none.
+    pub(crate) fn new(alloc: Global, items: ItemBuilder) -> Result<Builder<'a>, Memory>
+        requires { items.zip ≡ zips.nothing }
         ensures { IfOk result Begins }
     {
         let scope = BindingsInScope::new(alloc)?;
@@ -79,7 +82,7 @@ impl<'a> Builder<'a> {
         Ok(Builder {
             alloc,
             scope,
-            items: ItemBuilder::new(alloc),
+            items,
             open: Vec::new(alloc),
             notes,
             text: String::new(alloc),
@@ -348,9 +351,8 @@ impl<'a> Builder<'a> {
     {
         self.flush()?;
         self.items.open_known(note.name, at)?;
-        let text = front_text(self.alloc, inner, len)?;
         self.text_at = at + note.written.len() as u64 + 2;
-        self.items.text(text, self.text_at)?;
+        self.items.front(self.alloc, inner, len, self.text_at)?;
         self.items.close();
         self.notes.came(note.number);
         self.ended = self.open.is_empty();
@@ -579,19 +581,4 @@ fn first_place(is_first: bool, at: u64, before: u64) -> u64
     ensures { result ≡ cond is_first at before }
 {
     if is_first { at } else { before }
-}
-
-// The text of so many bytes that stand first. If they are few, and more bytes stand there, they are copied at once.
-#[inline(always)]
-fn front_text(alloc: Global, bytes: &[u8], len: usize) -> Result<Text, Memory>
-    requires within { len ≤ length bytes.now }
-    requires utf8 { IsUtf8 (take len bytes.now) }
-    ensures { IfOk result (λ text. text ≡ take len bytes.now) }
-{
-    if len <= ROOM {
-        if let Some(front) = bytes.first_chunk::<ROOM>() {
-            return Ok(Text::of_front(*front, len));
-        }
-    }
-    Text::from_utf8(alloc, &bytes[..len])
 }

@@ -15,7 +15,9 @@ mod tags;
 
 pub use bindings::prefix_at;
 pub use error::{DocError, DocWhy};
-pub use item_tree::{Attributes, Bindings, ItemKids, ItemLabel, ItemNode, ItemRef, ItemTree};
+pub use item_tree::{
+    Attributes, Bindings, Document, ItemKids, ItemLabel, ItemNode, ItemRef, ItemTree,
+};
 pub use items::Items;
 pub use laws::{document_items, one_answer};
-pub use reader::read_document;
+pub use reader::{read_document, read_shared};

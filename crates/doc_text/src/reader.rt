@@ -1,6 +1,7 @@
 //! Reads documents.
 ghost use Rattle.std.specs.Prelude.{◌≡◌, ◌≤◌, length, drop, IfOk, OnOk, IfErr, IsUtf8};
 ghost use Rattle.doc_pieces.specs.Found.{seen};
+ghost use Rattle.flat_tree.specs.Zips.{nothing};
 ghost use Rattle.doc_text.specs.Sound.{AreItems};
 ghost use Rattle.doc_text.specs.Tokens.{tokens, Ascend};
 ghost use Rattle.doc_text.specs.Documents.{why_of, mark_len, DocOf, Refuses};
@@ -10,7 +11,7 @@ use crate::builder::Builder;
 use crate::error::{DocError, DocWhy};
 use crate::items::Items;
 use doc_pieces::{NoneWhy, read_piece, why_none};
-use item_tree::ItemTree;
+use item_tree::{Document, ItemBuilder, ItemTree};
 use std::alloc::Global;
 use xa_base::utf8_text;
 
@@ -95,18 +96,33 @@ fn read_pieces<'a>(
     Ok(())
 }
 
-// The items of a document that is UTF-8.
-fn read_utf8(alloc: Global, bytes: &[u8]) -> Result<Items, DocError>
+// The items of a document that is UTF-8, from a builder that has none.
+fn read_utf8(alloc: Global, items: ItemBuilder, bytes: &[u8]) -> Result<Items, DocError>
     requires short { length bytes.now ≤ 16777216 }
     requires utf8 { IsUtf8 bytes.now }
+    requires none { items.zip ≡ nothing }
     ensures ok { IfOk result (DocOf bytes.now) }
     ensures err { IfErr result (Refuses bytes.now) }
     ensures places { IfOk result (λ items. Ascend 0 16777216 (tokens items)) }
 {
-    let mut builder = Builder::new(alloc)?;
+    let mut builder = Builder::new(alloc, items)?;
     match read_pieces(alloc, &mut builder, bytes) {
         Ok(_) => Ok(seal(builder.finish())),
         Err(error) => Err(error),
+    }
+}
+
+// The bytes are UTF-8.
+fn check_utf8(bytes: &[u8]) -> Result<(), DocError>
+    ensures ok { OnOk result (IsUtf8 bytes.now) }
+    ensures err { IfErr result (Refuses bytes.now) }
+{
+    match simdutf8::compat::from_utf8(bytes) {
+        Ok(_) => Ok(()),
+        Err(fault) => Err(DocError::Syntax {
+            at: fault.valid_up_to() as u64,
+            why: DocWhy::NotUtf8,
+        }),
     }
 }
 
@@ -119,11 +135,22 @@ pub fn read_document(alloc: Global, bytes: &[u8]) -> Result<Items, DocError>
     ensures err { IfErr result (Refuses bytes.now) }
     ensures places { IfOk result (λ items. Ascend 0 16777216 (tokens items)) }
 {
-    if let Err(fault) = simdutf8::compat::from_utf8(bytes) {
-        return Err(DocError::Syntax {
-            at: fault.valid_up_to() as u64,
-            why: DocWhy::NotUtf8,
-        });
-    }
-    read_utf8(alloc, bytes)
+    check_utf8(bytes)?;
+    read_utf8(alloc, ItemBuilder::new(alloc), bytes)
+}
+
+/// The same of a document that the items share: where characters stand there as they are read, they aren't copied.
+pub fn read_shared(alloc: Global, document: &Document) -> Result<Items, DocError>
+    requires { length document.now ≤ 16777216 }
+    ensures ok { IfOk result (DocOf document.now) }
+    ensures err { IfErr result (Refuses document.now) }
+    ensures places { IfOk result (λ items. Ascend 0 16777216 (tokens items)) }
+{
+    check_utf8(document.bytes())?;
+    let shared = document.share()?;
+    read_utf8(
+        alloc,
+        ItemBuilder::of_document(alloc, shared),
+        document.bytes(),
+    )
 }

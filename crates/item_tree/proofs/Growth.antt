@@ -1,20 +1,21 @@
 -- What is in a store keeps its number, so that entries go on saying the same.
-use Rattle.std.proofs.Common.{◌≡◌, ℕ, zero, suc, ◌<◌, ◌≤◌, List, [], ◌∷◌, ◌++◌, length, map, get_or, refl, ap, ◌∙◌, sym, arith, length-append}
-use Rattle.std.specs.Prelude.{slice_get, Some}
+use Rattle.std.proofs.Common.{◌≡◌, ℕ, ◌<◌, List, [], ◌∷◌, ◌++◌, length, map, get_or, refl, ap, ◌∙◌, sym, subst, arith, length-append}
+use Rattle.std.specs.Prelude.{slice_get, Some, IfSome}
 use Rattle.std.proofs.Math.Seq.{get_or-append_seam}
 use Rattle.std.proofs.lemmas.List.{get_or_append_left}
 use Rattle.std.proofs.lemmas.Option.{slice_get_within, get_or_from_slice_get, slice_get-get_or}
+use Rattle.xa_base.specs.declared.texts.Name.{Name}
 use Rattle.label_tree.specs.Rose.{Rose, node, Roses, none, more, roses_of, AllowedAll}
 use Rattle.label_tree.proofs.Roses.{all_allowed-weaker}
 use Rattle.flat_tree.specs.Zips.{Above, Zip}
 use Rattle.item_tree.specs.declared.label.ItemLabel.TheVariants as label
 use Rattle.item_tree.specs.declared.entries.Kept.{Kept}
-use Rattle.item_tree.specs.declared.entries.Kept.TheVariants.{Element, Text}
+use Rattle.item_tree.specs.declared.entries.Kept.TheVariants.{Element, Listed, Span, Text}
 use Rattle.item_tree.specs.declared.store.Store.{Store}
 use Rattle.item_tree.specs.declared.store.Lists.{Lists}
 use Rattle.item_tree.specs.Growing.{Grows}
-use Rattle.item_tree.specs.Building.{name_in, name_at}
-use Rattle.item_tree.specs.Meaning.{map_rose, map_roses, map_above, map_zip, meaning, lists_at, attributes_of, declares_of, text_in, Fits, FitTree, FitAll, FitAbove, FitZip, StoreGrows}
+use Rattle.item_tree.specs.Building.{name_in}
+use Rattle.item_tree.specs.Meaning.{map_rose, map_roses, map_above, map_zip, meaning, listed_in, span_in, text_in, AreListed, LiesIn, Fits, FitTree, FitAll, FitAbove, FitZip, StoreGrows}
 
 -- ---- lists
 
@@ -48,29 +49,32 @@ same_got xs ys k g h = let p = got_within xs k h in g.kept k p.0 p.1 ∙ sym p.1
 still_within : {A : Type 0} (xs ys : List A) (k : ℕ) → Grows xs ys → k < length xs → k < length ys
 still_within xs ys k g h = let p = got_within xs k h in slice_get_within ys k p.0 (g.kept k p.0 p.1)
 
-same_lists : (xs ys : List Lists) (k : ℕ) → Grows xs ys → k ≤ length xs → lists_at ys k ≡ lists_at xs k
-same_lists xs ys zero g h = refl
-same_lists xs ys (suc k) g h = same_got xs ys k g (omega (arith, h))
-
-still_lists : (xs ys : List Lists) (k : ℕ) → Grows xs ys → k ≤ length xs → k ≤ length ys
-still_lists xs ys zero g h = omega arith
-still_lists xs ys (suc k) g h = omega (arith, still_within xs ys k g (omega (arith, h)))
+same_lists : (names longer : List Name) (xs ys : List Lists) (k at : ℕ) → Grows names longer → Grows xs ys → AreListed names xs k → (listed_in longer (slice_get ys k) at ≡ listed_in names (slice_get xs k) at) × AreListed longer ys k
+same_lists names longer xs ys k at n g h =
+    let p = got_within xs k h.0 in
+    let those = p.0 in
+    let named : those.name < length names = subst (λ o. IfSome o (λ (x : Lists). x.name < length names)) p.1 h.1 in
+    let there : slice_get ys k ≡ Some those = g.kept k those p.1 in (
+      ap (λ o. listed_in longer o at) there ∙ ap (λ o. label.Element (name_in o) those.attributes.items those.declares.items at) (same_got names longer those.name n named) ∙ sym (ap (λ o. listed_in names o at) p.1),
+      (still_within xs ys k g h.0, subst (λ o. IfSome o (λ (x : Lists). x.name < length longer)) (sym there) (still_within names longer those.name n named)),
+    )
 
 -- ---- stores
 
 pub store-same : (s : Store) → StoreGrows s s
-store-same s = record { names = grows-same s.names.items s.names.items refl; lists = grows-same s.lists.items s.lists.items refl; texts = grows-same s.texts.items s.texts.items refl }
+store-same s = record { document = refl; names = grows-same s.names.items s.names.items refl; lists = grows-same s.lists.items s.lists.items refl; texts = grows-same s.texts.items s.texts.items refl }
 
 module _ (s u : Store) (g : StoreGrows s u) where
   pub meaning-grown : (k : Kept) → Fits s k → meaning u k ≡ meaning s k
-  meaning-grown (Element name lists at) h =
-      let same : lists_at u.lists.items lists ≡ lists_at s.lists.items lists = same_lists s.lists.items u.lists.items lists g.lists h.1 in
-      ap (λ n. label.Element (name_in n) (attributes_of (lists_at u.lists.items lists)) (declares_of (lists_at u.lists.items lists)) at) (same_got s.names.items u.names.items name g.names h.0)
-      ∙ ap (λ o. label.Element (name_at s.names.items name) (attributes_of o) (declares_of o) at) same
+  meaning-grown (Element name at) h = ap (λ n. label.Element (name_in n) [] [] at) (same_got s.names.items u.names.items name g.names h)
+  meaning-grown (Listed lists at) h = (same_lists s.names.items u.names.items s.lists.items u.lists.items lists at g.names g.lists h).0
+  meaning-grown (Span len at) h = ap (λ d. label.Text (span_in d at len) at) g.document
   meaning-grown (Text text at) h = ap (λ t. label.Text (text_in t) at) (same_got s.texts.items u.texts.items text g.texts h)
 
   pub fits-grown : (k : Kept) → Fits s k → Fits u k
-  fits-grown (Element name lists at) h = (still_within s.names.items u.names.items name g.names h.0, still_lists s.lists.items u.lists.items lists g.lists h.1)
+  fits-grown (Element name at) h = still_within s.names.items u.names.items name g.names h
+  fits-grown (Listed lists at) h = (same_lists s.names.items u.names.items s.lists.items u.lists.items lists at g.names g.lists h).1
+  fits-grown (Span len at) h = subst (λ d. LiesIn d at len) (sym g.document) h
   fits-grown (Text text at) h = still_within s.texts.items u.texts.items text g.texts h
 
   mutual

@@ -1,5 +1,5 @@
 -- The steps of a builder.
-use Rattle.std.proofs.Common.{◌≡◌, ℕ, zero, suc, ◌<◌, ◌≤◌, List, [], ◌∷◌, length, map, refl, ap, ◌∙◌, sym, subst, arith}
+use Rattle.std.proofs.Common.{◌≡◌, ℕ, zero, suc, ◌<◌, List, [], ◌∷◌, length, map, refl, ap, ◌∙◌, sym, subst, arith}
 use Rattle.std.specs.Prelude.{Some, None, slice_get, Result, Ok, Err, OnOk, OnErr}
 use Rattle.xa_base.specs.declared.texts.Name.{Name}
 use Rattle.label_tree.specs.Rose.{Rose, node, none, roses_of}
@@ -12,9 +12,9 @@ use Rattle.item_tree.specs.declared.entries.Kept.TheVariants as entry
 use Rattle.item_tree.specs.Growing.{Grows}
 use Rattle.item_tree.specs.declared.store.Store.{Store}
 use Rattle.item_tree.specs.Building.{Building, name_at, with_lists, listed_in, listed}
-use Rattle.item_tree.specs.Meaning.{map_rose, map_above, map_zip, attributes_of, declares_of, lists_at, meaning, with_number, relisted_in, relisted, Fits, FitTree, FitAll, FitAbove, FitZip, StoreGrows}
+use Rattle.item_tree.specs.Meaning.{map_rose, map_above, map_zip, meaning, Fits, FitTree, FitAll, FitAbove, FitZip, StoreGrows}
 use Rattle.item_tree.proofs.Mapped.{added-map, closed-map}
-use Rattle.item_tree.proofs.Growth.{zip-grown, fit_zip-grown}
+use Rattle.item_tree.proofs.Growth.{meaning-grown, zip-grown, fit_zip-grown}
 
 -- what a builder has after a step: its items, and that they fit
 pub record Stands (s : Store) (z : Zip Kept) (items : Zip ItemLabel) : Type 0 where
@@ -75,13 +75,12 @@ pub first_none : (s : Store) (z : Zip Kept) (old : Building) → record { zip = 
 first_none s z old view e = ap (λ (b : Building). first_label b.zip.above) (sym view) ∙ first_none-in s z.above e
 
 -- an element without lists
-pub known_fits : (s : Store) (z : Zip Kept) (old : Building) → record { zip = map_zip (meaning s) z; names = s.names.items } ≡ old → (k : Kept) (n m at : ℕ) → k ≡ entry.Element n 0 at → n ≡ m → m < length old.names
+pub known_fits : (s : Store) (z : Zip Kept) (old : Building) → record { zip = map_zip (meaning s) z; names = s.names.items } ≡ old → (k : Kept) (n m at : ℕ) → k ≡ entry.Element n at → n ≡ m → m < length old.names
     → Fits s k × (meaning s k ≡ label.Element (name_at old.names m) [] [] at)
 known_fits s z old view k n m at e f h =
     let same : s.names.items ≡ old.names = ap (λ (b : Building). b.names) view in
-    let within : n < length s.names.items = omega (arith, h, f, ap length same) in
-    let least : 0 ≤ length s.lists.items = omega arith in (
-      subst (Fits s) (sym e) (within, least),
+    let within : n < length s.names.items = omega (arith, h, f, ap length same) in (
+      subst (Fits s) (sym e) within,
       ap (meaning s) e ∙ ap (λ (i : ℕ). label.Element (name_at s.names.items i) [] [] at) f ∙ ap (λ ns. label.Element (name_at ns m) [] [] at) same,
     )
 
@@ -89,48 +88,27 @@ pub names_grow : (s u : Store) (z : Zip Kept) (old : Building) → record { zip 
 names_grow s u z old view g = subst (λ ns. Grows ns u.names.items) (ap (λ (b : Building). b.names) view) g.names
 
 -- other lists
-relisted-first : (lists : ℕ) (up : List (Above Kept)) (k : Kept) → first_label up ≡ Some k → relabeled_in (with_number lists k) up ≡ relisted_in lists up
-relisted-first lists [] k e = absurd (cc)
-relisted-first lists (a ∷ up) k e = let same : a.label ≡ k = cc in ap (λ l. record { label = with_number lists l; before = a.before } ∷ up) (sym same)
+relabeled-above : (u : Store) (before after : Kept) (attributes : List (Name × List ℕ)) (declares : List (List ℕ × List ℕ)) (up : List (Above Kept)) → first_label up ≡ Some before → meaning u after ≡ with_lists attributes declares (meaning u before)
+    → map (map_above (meaning u)) (relabeled_in after up) ≡ listed_in attributes declares (map (map_above (meaning u)) up)
+relabeled-above u before after attributes declares [] e says = absurd (cc)
+relabeled-above u before after attributes declares (a ∷ up) e says =
+    let same : a.label ≡ before = cc in
+    ap (λ l. record { label = l; before = map (map_rose (meaning u)) a.before } ∷ map (map_above (meaning u)) up) (says ∙ ap (λ k. with_lists attributes declares (meaning u k)) (sym same))
 
-pub relisted_is : (lists : ℕ) (z : Zip Kept) (k : Kept) → first_label z.above ≡ Some k → relabeled (with_number lists k) z ≡ relisted lists z
-relisted_is lists z k e = ap (λ up. record { above = up; kids = z.kids }) (relisted-first lists z.above k e)
+relabeled-fit : (u : Store) (after : Kept) (up : List (Above Kept)) → Fits u after → FitAbove u up → FitAbove u (relabeled_in after up)
+relabeled-fit u after [] h f = tt
+relabeled-fit u after (a ∷ up) h f = (h, (f.1.0, f.1.1))
 
-relisted-none : (lists : ℕ) (up : List (Above Kept)) → first_label up ≡ None → up ≡ relisted_in lists up
-relisted-none lists [] e = refl
-relisted-none lists (a ∷ up) e = absurd (cc)
-
-pub relisted_none : (lists : ℕ) (z : Zip Kept) → first_label z.above ≡ None → z ≡ relisted lists z
-relisted_none lists z e = ap (λ up. record { above = up; kids = z.kids }) (relisted-none lists z.above e)
-
-relisted-says : (u : Store) (lists : ℕ) (attributes : List (Name × List ℕ)) (declares : List (List ℕ × List ℕ)) (k : Kept) → attributes_of (lists_at u.lists.items lists) ≡ attributes → declares_of (lists_at u.lists.items lists) ≡ declares
-    → meaning u (with_number lists k) ≡ with_lists attributes declares (meaning u k)
-relisted-says u lists attributes declares (entry.Element name before at) e f =
-    ap (λ xs. label.Element (name_at u.names.items name) xs (declares_of (lists_at u.lists.items lists)) at) e ∙ ap (λ ds. label.Element (name_at u.names.items name) attributes ds at) f
-relisted-says u lists attributes declares (entry.Text text at) e f = refl
-
-relisted-fits : (u : Store) (lists : ℕ) (k : Kept) → lists ≤ length u.lists.items → Fits u k → Fits u (with_number lists k)
-relisted-fits u lists (entry.Element name before at) h f = (f.0, h)
-relisted-fits u lists (entry.Text text at) h f = f
-
-relisted-above : (u : Store) (lists : ℕ) (attributes : List (Name × List ℕ)) (declares : List (List ℕ × List ℕ)) (up : List (Above Kept)) → attributes_of (lists_at u.lists.items lists) ≡ attributes → declares_of (lists_at u.lists.items lists) ≡ declares
-    → map (map_above (meaning u)) (relisted_in lists up) ≡ listed_in attributes declares (map (map_above (meaning u)) up)
-relisted-above u lists attributes declares [] e f = refl
-relisted-above u lists attributes declares (a ∷ up) e f =
-    ap (λ l. record { label = l; before = map (map_rose (meaning u)) a.before } ∷ map (map_above (meaning u)) up) (relisted-says u lists attributes declares a.label e f)
-
-relisted-fit : (u : Store) (lists : ℕ) (up : List (Above Kept)) → lists ≤ length u.lists.items → FitAbove u up → FitAbove u (relisted_in lists up)
-relisted-fit u lists [] h f = tt
-relisted-fit u lists (a ∷ up) h f = (relisted-fits u lists a.label h f.0, (f.1.0, f.1.1))
-
-pub relists : (s u : Store) (z new : Zip Kept) (old : Building) (lists : ℕ) (attributes : List (Name × List ℕ)) (declares : List (List ℕ × List ℕ)) → record { zip = map_zip (meaning s) z; names = s.names.items } ≡ old → FitZip s z → StoreGrows s u
-    → lists ≤ length u.lists.items → attributes_of (lists_at u.lists.items lists) ≡ attributes → declares_of (lists_at u.lists.items lists) ≡ declares → new ≡ relisted lists z → Stands u new (listed attributes declares old.zip)
-relists s u z new old lists attributes declares view fit g within e f is =
+pub relists : (s u : Store) (z new : Zip Kept) (old : Building) (before after : Kept) (attributes : List (Name × List ℕ)) (declares : List (List ℕ × List ℕ)) → record { zip = map_zip (meaning s) z; names = s.names.items } ≡ old → FitZip s z → StoreGrows s u
+    → first_label z.above ≡ Some before → Fits u after → meaning u after ≡ with_lists attributes declares (meaning s before) → new ≡ relabeled after z → Stands u new (listed attributes declares old.zip)
+relists s u z new old before after attributes declares view fit g first here says is =
     let all = fit_zip-grown s u g z fit in
+    let p = first_is s z old view fit before first in
+    let grown = ap (with_lists attributes declares) (sym (meaning-grown s u g before p.1)) in
     record {
-      is = ap (map_zip (meaning u)) is ∙ ap (λ up. record { above = up; kids = map (map_rose (meaning u)) z.kids }) (relisted-above u lists attributes declares z.above e f)
+      is = ap (map_zip (meaning u)) is ∙ ap (λ up. record { above = up; kids = map (map_rose (meaning u)) z.kids }) (relabeled-above u before after attributes declares z.above first (says ∙ grown))
           ∙ ap (listed attributes declares) (zip-grown s u g z fit ∙ ap (λ (b : Building). b.zip) view);
-      fit = subst (FitZip u) (sym is) (record { above = relisted-fit u lists z.above within all.above; kids = all.kids });
+      fit = subst (FitZip u) (sym is) (record { above = relabeled-fit u after z.above here all.above; kids = all.kids });
     }
 
 -- the root

@@ -1,5 +1,5 @@
 -- Items while they are built, as one value.
-use Rattle.std.specs.Prelude.{ℕ, List, [], ◌∷◌, length, slice_get, Option, Some, None, refl}
+use Rattle.std.specs.Prelude.{ℕ, ◌≡◌, ◌<◌, List, [], ◌∷◌, length, slice_get, Option, Some, None, refl}
 use Rattle.std.specs.Coded.{Coded, code_by, coded×, coded_list}
 use Rattle.xa_base.specs.declared.texts.Name.{Name}
 use Rattle.xa_base.specs.contracts.texts.Name as a_name
@@ -24,6 +24,11 @@ name_in (Some name) = name
 
 abbrev pub name_at : List Name → ℕ → Name
 name_at names number = name_in (slice_get names number)
+
+-- the name of an element has this number
+abbrev pub IsNamed : List Name → ℕ → ItemLabel → Type 0
+IsNamed names number (Element name attributes declares at) = (number < length names) × (name ≡ name_at names number)
+IsNamed names number (Text text at) = Unit {0}
 
 -- how many namespaces a label binds
 abbrev pub binding_count : Option ItemLabel → ℕ

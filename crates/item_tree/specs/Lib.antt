@@ -4,3 +4,4 @@ pub mod Meaning
 pub mod Building
 pub mod Seen
 pub mod Counts
+pub mod Lying

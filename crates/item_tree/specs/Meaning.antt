@@ -1,12 +1,12 @@
 -- What trees of entries stand for: each entry for what it says in the store beside it.
-use Rattle.std.specs.Prelude.{ℕ, zero, suc, ◌<◌, ◌≤◌, List, [], ◌∷◌, length, map, slice_get, Option, Some, None}
+use Rattle.std.specs.Prelude.{ℕ, ◌≡◌, ◌+◌, ◌<◌, ◌≤◌, List, [], ◌∷◌, length, map, slice_get, take, drop, Option, Some, None, IsUtf8, IfSome}
 use Rattle.xa_base.specs.declared.texts.Name.{Name}
 use Rattle.label_tree.specs.Rose.{Rose, node, Roses, none, more, roses_of, Allowed, AllowedAll}
 use Rattle.flat_tree.specs.Zips.{Above, Zip}
 use Rattle.item_tree.specs.declared.label.ItemLabel.{ItemLabel}
 use Rattle.item_tree.specs.declared.label.ItemLabel.TheVariants as label
 use Rattle.item_tree.specs.declared.entries.Kept.{Kept}
-use Rattle.item_tree.specs.declared.entries.Kept.TheVariants.{Element, Text}
+use Rattle.item_tree.specs.declared.entries.Kept.TheVariants.{Element, Listed, Span, Text}
 use Rattle.item_tree.specs.declared.store.Store.{Store}
 use Rattle.item_tree.specs.declared.store.Lists.{Lists}
 use Rattle.item_tree.specs.Growing.{Grows}
@@ -30,45 +30,41 @@ map_zip f z = record { above = map (map_above f) z.above; kids = map (map_rose f
 
 -- ---- the store
 
--- the lists with this number, where 0 is that of empty lists
-abbrev pub lists_at : List Lists → ℕ → Option Lists
-lists_at all zero = None
-lists_at all (suc number) = slice_get all number
-
-abbrev pub attributes_of : Option Lists → List (Name × List ℕ)
-attributes_of None = []
-attributes_of (Some lists) = lists.attributes.items
-
-abbrev pub declares_of : Option Lists → List (List ℕ × List ℕ)
-declares_of None = []
-declares_of (Some lists) = lists.declares.items
-
 abbrev pub text_in : Option (List ℕ) → List ℕ
 text_in None = []
 text_in (Some text) = text
 
+-- the characters at this place of the document, so many bytes
+abbrev pub span_in : Option (List ℕ) → ℕ → ℕ → List ℕ
+span_in None at len = []
+span_in (Some document) at len = take len (drop at document)
+
+-- an element that has these lists
+abbrev pub listed_in : List Name → Option Lists → ℕ → ItemLabel
+listed_in names None at = label.Element (name_at names 0) [] [] at
+listed_in names (Some lists) at = label.Element (name_at names lists.name) lists.attributes.items lists.declares.items at
+
 -- what an entry says
 abbrev pub meaning : Store → Kept → ItemLabel
-meaning s (Element name lists at) =
-    label.Element (name_at s.names.items name) (attributes_of (lists_at s.lists.items lists)) (declares_of (lists_at s.lists.items lists)) at
+meaning s (Element name at) = label.Element (name_at s.names.items name) [] [] at
+meaning s (Listed lists at) = listed_in s.names.items (slice_get s.lists.items lists) at
+meaning s (Span len at) = label.Text (span_in s.document at len) at
 meaning s (Text text at) = label.Text (text_in (slice_get s.texts.items text)) at
 
--- the element with other lists
-abbrev pub with_number : ℕ → Kept → Kept
-with_number lists (Element name before at) = Element name lists at
-with_number lists (Text text at) = Text text at
+-- the lists have a name that is in the store
+abbrev pub AreListed : List Name → List Lists → ℕ → Type 0
+AreListed names all lists = (lists < length all) × IfSome (slice_get all lists) (λ those. those.name < length names)
 
--- the innermost open element has the lists with this number
-abbrev pub relisted_in : ℕ → List (Above Kept) → List (Above Kept)
-relisted_in lists [] = []
-relisted_in lists (a ∷ up) = record { label = with_number lists a.label; before = a.before } ∷ up
-
-abbrev pub relisted : ℕ → Zip Kept → Zip Kept
-relisted lists z = record { above = relisted_in lists z.above; kids = z.kids }
+-- so many bytes lie in the document at this place, and they are UTF-8
+abbrev pub LiesIn : Option (List ℕ) → ℕ → ℕ → Type 0
+LiesIn None at len = ⊥
+LiesIn (Some document) at len = (at + len ≤ length document) × ∥ IsUtf8 (take len (drop at document)) ∥₁
 
 -- its numbers are those of something in the store
 abbrev pub Fits : Store → Kept → Type 0
-Fits s (Element name lists at) = (name < length s.names.items) × (lists ≤ length s.lists.items)
+Fits s (Element name at) = name < length s.names.items
+Fits s (Listed lists at) = AreListed s.names.items s.lists.items lists
+Fits s (Span len at) = LiesIn s.document at len
 Fits s (Text text at) = text < length s.texts.items
 
 -- so are those of all entries
@@ -88,6 +84,7 @@ pub record FitZip (s : Store) (z : Zip Kept) : Type 0 where
 
 -- more is in the store
 pub record StoreGrows (old new : Store) : Type 0 where
+  pub document : new.document ≡ old.document
   pub names : Grows old.names.items new.names.items
   pub lists : Grows old.lists.items new.lists.items
   pub texts : Grows old.texts.items new.texts.items

@@ -6,4 +6,4 @@ use Rattle.item_tree.specs.declared.nodes.ItemRef.TheVariants.{Element, Text}
 
 abbrev pub item_seen : ItemRef → ItemLabel
 item_seen (Element name attributes declares at) = label.Element name.now attributes.now declares.now at
-item_seen (Text text at) = label.Text text.now at
+item_seen (Text text at) = label.Text text at

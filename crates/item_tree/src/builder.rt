@@ -1,19 +1,19 @@
 //! Items while they are built.
-ghost use Rattle.std.specs.Prelude.{◌≡◌, ◌<◌, ◌∷◌, [], length, slice_get, Some, IfOk, OnOk, OnErr};
+ghost use Rattle.std.specs.Prelude.{◌≡◌, ◌<◌, ◌∷◌, [], length, slice_get, take, Some, IfOk, OnOk, OnErr, IsUtf8, ◌≤◌};
 ghost use Rattle.label_tree.specs.Rose.{node, none};
 ghost use Rattle.flat_tree.specs.Zips.{opened, added, closed, first_label, nothing};
 ghost use Rattle.item_tree.specs.declared.label.ItemLabel.TheVariants as item;
 ghost use Rattle.item_tree.specs.Building.{binding_count, listed, name_at};
 ghost use Rattle.item_tree.specs.Growing.{Grows};
-ghost use Rattle.item_tree.specs.Meaning.{relisted, with_number};
 
+use crate::document::Document;
 use crate::entries::Kept;
 use crate::store::{Store, known};
 use crate::tree::ItemTree;
 use flat_tree::Builder;
 use std::alloc::{AllocError, Global};
 use std::marker::Model;
-use xa_base::{Name, Text};
+use xa_base::{Memory, Name, Text};
 
 /// The number of a name among those of a builder, seen as this number.
 #[derive(Clone, Copy, Drop)]
@@ -60,7 +60,17 @@ impl ItemBuilder {
     {
         ItemBuilder {
             builder: Builder::new(alloc),
-            store: Store::new(alloc),
+            store: Store::new(alloc, None),
+        }
+    }
+
+    /// The same for this document, which the items share, so that characters needn't be copied.
+    pub fn of_document(alloc: Global, document: Document) -> ItemBuilder
+        ensures { result.zip ≡ nothing }
+    {
+        ItemBuilder {
+            builder: Builder::new(alloc),
+            store: Store::new(alloc, Some(document)),
         }
     }
 
@@ -145,6 +155,21 @@ impl ItemBuilder {
         self.builder.leaf(kept)
     }
 
+    /// Adds a text of so many bytes that stand first. They aren't copied where they lie in the document that the items share, at
+    /// this place.
+    #[inline(always)]
+    pub fn front(&mut self, alloc: Global, bytes: &[u8], len: usize, at: u64) -> Result<(), Memory>
+        requires within { len ≤ length bytes.now }
+        requires utf8 { IsUtf8 (take len bytes.now) }
+        ensures ok { OnOk result (self.new.zip ≡ added (node (item.Text (take len bytes.now) at) none) self.old.zip) }
+        ensures err { OnErr result (self.new.zip ≡ self.old.zip) }
+        ensures names { self.new.names ≡ self.old.names }
+    {
+        let kept = self.store.keep_front(alloc, bytes, len, at)?;
+        self.builder.leaf(kept)?;
+        Ok(())
+    }
+
     /// Gives the innermost open element these attributes and bindings in place of those that it has.
     pub fn set_lists(
         &mut self,
@@ -156,9 +181,19 @@ impl ItemBuilder {
         ensures err { OnErr result (self.new.zip ≡ self.old.zip) }
         ensures names { self.new.names ≡ self.old.names }
     {
-        let lists = self.store.keep_lists(attributes, declares)?;
-        relist(&mut self.builder, lists);
-        Ok(())
+        let kept = match self.builder.innermost() {
+            None => return Ok(()),
+            Some(kept) => *kept,
+        };
+        match kept {
+            Kept::Element { at, .. } | Kept::Listed { at, .. } => {
+                let name = self.store.name_number(kept);
+                let kept = self.store.keep_lists(name, attributes, declares, at)?;
+                let _ = self.builder.relabel(kept);
+                Ok(())
+            }
+            Kept::Span { .. } | Kept::Text { .. } => Ok(()),
+        }
     }
 
     /// Closes the innermost open element.
@@ -182,27 +217,5 @@ impl ItemBuilder {
             tree,
             store: self.store,
         }
-    }
-}
-
-// Gives the innermost open element the lists with this number.
-fn relist(builder: &mut Builder<Kept>, lists: u32)
-    requires { 0 < length builder.old.above }
-    ensures { builder.new ≡ relisted lists builder.old }
-{
-    let kept = match builder.innermost() {
-        None => return,
-        Some(kept) => with_number(*kept, lists),
-    };
-    let _ = builder.relabel(kept);
-}
-
-// The element with other lists.
-fn with_number(kept: Kept, lists: u32) -> Kept
-    ensures { result ≡ with_number lists kept }
-{
-    match kept {
-        Kept::Element { name, at, .. } => Kept::Element { name, lists, at },
-        Kept::Text { .. } => kept,
     }
 }

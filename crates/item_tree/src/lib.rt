@@ -5,6 +5,8 @@
 #![tactic(auto)]
 
 mod builder;
+mod characters;
+mod document;
 mod entries;
 mod label;
 mod nodes;
@@ -12,6 +14,8 @@ mod store;
 mod tree;
 
 pub use builder::{ElementName, ItemBuilder};
+pub use characters::Characters;
+pub use document::Document;
 pub use label::{Attributes, Bindings, ItemLabel};
 pub use nodes::{ItemKids, ItemNode, ItemRef};
 pub use tree::ItemTree;

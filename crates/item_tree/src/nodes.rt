@@ -5,6 +5,7 @@ ghost use Rattle.label_tree.specs.Rose.{label_of, kids_of, node_count};
 ghost use Rattle.item_tree.specs.Labels.{item_place};
 ghost use Rattle.item_tree.specs.Seen.{item_seen};
 
+use crate::characters::Characters;
 use crate::entries::Kept;
 use crate::label::{Attributes, Bindings, ItemLabel};
 use crate::store::Store;
@@ -15,7 +16,7 @@ use std::marker::Model;
 use xa_base::{Memory, Name, Text};
 
 /// What stands at a node of a document, as `ItemLabel` has it.
-#[derive(Clone, Copy, Drop)]
+#[derive(Drop)]
 pub enum ItemRef<'a> {
     Element {
         name: &'a Name,
@@ -24,7 +25,7 @@ pub enum ItemRef<'a> {
         at: u64,
     },
     Text {
-        text: &'a Text,
+        text: Characters<'a>,
         at: u64,
     },
 }
@@ -32,11 +33,11 @@ pub enum ItemRef<'a> {
 impl<'a> ItemRef<'a> {
     /// The byte of the document at which the element or the text begins, from 0.
     #[inline(always)]
-    pub fn place(self) -> u64
-        ensures { result ≡ item_place (item_seen self.entry) }
+    pub fn place(&self) -> u64
+        ensures { result ≡ item_place (item_seen self.now) }
     {
         match self {
-            ItemRef::Element { at, .. } | ItemRef::Text { at, .. } => at,
+            ItemRef::Element { at, .. } | ItemRef::Text { at, .. } => *at,
         }
     }
 
@@ -62,7 +63,7 @@ impl<'a> ItemRef<'a> {
                 })
             }
             ItemRef::Text { text, at } => {
-                let text = text.copy(alloc)?;
+                let text = text.to_text(alloc)?;
                 Ok(ItemLabel::Text { text, at })
             }
         }
@@ -155,7 +156,7 @@ impl<'a> ItemNode<'a> {
     pub fn element_hint(&self) -> usize
         ensures { result ≤ node_count self.now }
     {
-        (self.node.count() as usize).saturating_sub(self.store.texts.len())
+        (self.node.count() as usize).saturating_sub(self.store.text_count())
     }
 
     /// The kid of the node with this number, for which it visits those before it. The first has the number 0.

@@ -1,22 +1,25 @@
 //! The parts of items, each with its number.
-ghost use Rattle.std.specs.Prelude.{◌≡◌, ◌<◌, ◌≤◌, ◌^◌, ◌-◌, ◌++◌, ◌∷◌, [], length, slice_get, Some, IfOk, IfSome, OnOk, OnErr};
+ghost use Rattle.std.specs.Prelude.{◌≡◌, ◌<◌, ◌≤◌, ◌^◌, ◌-◌, ◌++◌, ◌∷◌, [], length, slice_get, take, Some, IfOk, IfSome, IsTrue, IsUtf8, OnOk, OnErr};
 ghost use Rattle.item_tree.specs.declared.label.ItemLabel.TheVariants as label;
 ghost use Rattle.item_tree.specs.declared.entries.Kept.TheVariants as entry;
-ghost use Rattle.item_tree.specs.Building.{binding_count};
-ghost use Rattle.item_tree.specs.Meaning.{attributes_of, declares_of, lists_at, StoreGrows, Fits, meaning};
+ghost use Rattle.item_tree.specs.Building.{binding_count, name_at, IsNamed};
+ghost use Rattle.item_tree.specs.Meaning.{span_in, StoreGrows, Fits, meaning};
 ghost use Rattle.item_tree.specs.Seen.{item_seen};
 
+use crate::characters::{Characters, Lying, are_fronts_same, front_text};
+use crate::document::Document;
 use crate::entries::Kept;
 use crate::nodes::ItemRef;
 use std::alloc::{AllocError, Global};
-use xa_base::{Name, Text};
+use xa_base::{Memory, Name, Text};
 
 // The number of places that a name may be looked for at.
 const LOOKS: usize = 64;
 
-/// The attributes of an element, and the namespaces that it binds.
+/// The number of an element's name, its attributes and the namespaces that it binds.
 #[derive(Drop)]
 pub(crate) struct Lists {
+    pub(crate) name: u32,
     pub(crate) attributes: Vec<(Name, Text)>,
     pub(crate) declares: Vec<(Text, Text)>,
 }
@@ -24,24 +27,35 @@ pub(crate) struct Lists {
 /// The parts of items. A name may stand there more than once.
 #[derive(Drop)]
 pub(crate) struct Store {
+    // The document, where it is shared.
+    pub(crate) document: Option<Document>,
     pub(crate) names: Vec<Name>,
     pub(crate) lists: Vec<Lists>,
     pub(crate) texts: Vec<Text>,
+    // How many texts lie in the document.
+    spans: usize,
     // By what a name looks like, where it may stand.
     looks: [u32; LOOKS],
 }
 
 impl Store {
     /// Nothing. It takes no memory.
-    pub(crate) fn new(alloc: Global) -> Store
+    pub(crate) fn new(alloc: Global, document: Option<Document>) -> Store
         ensures names { result.names.items ≡ [] }
     {
         Store {
+            document,
             names: Vec::new(alloc),
             lists: Vec::new(alloc),
             texts: Vec::new(alloc),
+            spans: 0,
             looks: [0; LOOKS],
         }
+    }
+
+    /// How many texts were kept, no more than there are.
+    pub(crate) fn text_count(&self) -> usize {
+        self.texts.len().saturating_add(self.spans)
     }
 
     /// What an entry says.
@@ -51,41 +65,56 @@ impl Store {
         ensures { item_seen result ≡ meaning self.now kept }
     {
         match kept {
-            Kept::Element { name, lists, at } => ItemRef::Element {
+            Kept::Element { name, at } => ItemRef::Element {
                 name: &self.names[name as usize],
-                attributes: self.attributes(lists),
-                declares: self.declares(lists),
+                attributes: &[],
+                declares: &[],
+                at: at as u64,
+            },
+            Kept::Listed { lists, at } => self.listed(lists, at),
+            Kept::Span { len, at } => ItemRef::Text {
+                text: self.span(at, len),
                 at: at as u64,
             },
             Kept::Text { text, at } => ItemRef::Text {
-                text: &self.texts[text as usize],
+                text: Characters {
+                    lying: Lying::Kept(&self.texts[text as usize]),
+                },
                 at: at as u64,
             },
         }
     }
 
-    // The attributes of the lists with this number.
+    // An element that has lists.
     #[inline(always)]
-    fn attributes(&self, lists: u32) -> &[(Name, Text)]
-        requires { lists ≤ length self.now.lists.items }
-        ensures { result.now ≡ attributes_of (lists_at self.now.lists.items lists) }
+    fn listed(&self, lists: u32, at: u32) -> ItemRef<'_>
+        requires { Fits self.now (entry.Listed lists at) }
+        ensures { item_seen result ≡ meaning self.now (entry.Listed lists at) }
     {
-        if lists == 0 {
-            return &[];
+        let lists = &self.lists[lists as usize];
+        ItemRef::Element {
+            name: &self.names[lists.name as usize],
+            attributes: lists.attributes.as_slice(),
+            declares: lists.declares.as_slice(),
+            at: at as u64,
         }
-        self.lists[lists as usize - 1].attributes.as_slice()
     }
 
-    // The bindings of the lists with this number.
+    // The characters at this place of the document, so many bytes.
     #[inline(always)]
-    fn declares(&self, lists: u32) -> &[(Text, Text)]
-        requires { lists ≤ length self.now.lists.items }
-        ensures { result.now ≡ declares_of (lists_at self.now.lists.items lists) }
+    fn span(&self, at: u32, len: u32) -> Characters<'_>
+        requires { Fits self.now (entry.Span len at) }
+        ensures { result ≡ span_in self.now.document at len }
     {
-        if lists == 0 {
-            return &[];
+        match &self.document {
+            None => unreachable!(),
+            Some(document) => Characters {
+                lying: Lying::Front {
+                    bytes: &document.bytes()[at as usize..],
+                    len: len as usize,
+                },
+            },
         }
-        self.lists[lists as usize - 1].declares.as_slice()
     }
 
     /// How many namespaces an entry binds.
@@ -94,8 +123,20 @@ impl Store {
         ensures { result ≡ binding_count (Some (meaning self.now kept)) }
     {
         match kept {
-            Kept::Element { lists, .. } => self.declares(lists).len(),
-            Kept::Text { .. } => 0,
+            Kept::Listed { lists, .. } => self.lists[lists as usize].declares.len(),
+            _ => 0,
+        }
+    }
+
+    /// The number of the name of an element, or any number.
+    pub(crate) fn name_number(&self, kept: Kept) -> u32
+        requires { Fits self.now kept }
+        ensures { IsNamed self.now.names.items result (meaning self.now kept) }
+    {
+        match kept {
+            Kept::Element { name, .. } => name,
+            Kept::Listed { lists, .. } => self.lists[lists as usize].name,
+            _ => 0,
         }
     }
 
@@ -125,29 +166,32 @@ impl Store {
         Ok(number)
     }
 
-    /// The number of lists, which are kept unless both are empty.
+    /// The entry of an element whose name has this number.
     pub(crate) fn keep_lists(
         &mut self,
+        name: u32,
         attributes: Vec<(Name, Text)>,
         declares: Vec<(Text, Text)>,
-    ) -> Result<u32, AllocError>
+        at: u32,
+    ) -> Result<Kept, AllocError>
+        requires { name < length self.old.names.items }
         ensures grows { StoreGrows self.old self.new }
         ensures names { self.new.names.items ≡ self.old.names.items }
-        ensures within { IfOk result (λ number. number ≤ length self.new.lists.items) }
-        ensures attributes { IfOk result (λ number. attributes_of (lists_at self.new.lists.items number) ≡ attributes.items) }
-        ensures declares { IfOk result (λ number. declares_of (lists_at self.new.lists.items number) ≡ declares.items) }
+        ensures fits { IfOk result (λ kept. Fits self.new kept) }
+        ensures meaning { IfOk result (λ kept. meaning self.new kept ≡ label.Element (name_at self.new.names.items name) attributes.items declares.items at) }
     {
         if attributes.is_empty() && declares.is_empty() {
-            return Ok(0);
+            return Ok(Kept::Element { name, at });
         }
-        let number = push_part(
+        let lists = push_part(
             &mut self.lists,
             Lists {
+                name,
                 attributes,
                 declares,
             },
         )?;
-        Ok(number + 1)
+        Ok(Kept::Listed { lists, at })
     }
 
     /// The entry of an element, and the number of its name.
@@ -165,8 +209,8 @@ impl Store {
     {
         let at = short_place(at)?;
         let name = self.keep_name(name)?;
-        let lists = self.keep_lists(attributes, declares)?;
-        Ok((Kept::Element { name, lists, at }, name))
+        let kept = self.keep_lists(name, attributes, declares, at)?;
+        Ok((kept, name))
     }
 
     /// The entry of a text.
@@ -180,6 +224,52 @@ impl Store {
         let at = short_place(at)?;
         let text = push_part(&mut self.texts, text)?;
         Ok(Kept::Text { text, at })
+    }
+
+    // Whether so many bytes that stand first lie in the document at this place. Where they do this may still say no.
+    #[inline(always)]
+    fn lies_at(&self, at: u32, bytes: &[u8], len: usize) -> bool
+        requires within { len ≤ length bytes.now }
+        requires utf8 { IsUtf8 (take len bytes.now) }
+        ensures fits { IsTrue result → Fits self.now (entry.Span len at) }
+        ensures same { IsTrue result → span_in self.now.document at len ≡ take len bytes.now }
+    {
+        let Some(document) = &self.document else {
+            return false;
+        };
+        match document.bytes().get(at as usize..) {
+            None => false,
+            Some(there) => are_fronts_same(there, bytes, len),
+        }
+    }
+
+    /// The entry of a text of so many bytes that stand first. Where they lie in the document at their place, they stay there.
+    #[inline(always)]
+    pub(crate) fn keep_front(
+        &mut self,
+        alloc: Global,
+        bytes: &[u8],
+        len: usize,
+        at: u64,
+    ) -> Result<Kept, Memory>
+        requires within { len ≤ length bytes.now }
+        requires utf8 { IsUtf8 (take len bytes.now) }
+        ensures grows { StoreGrows self.old self.new }
+        ensures names { self.new.names.items ≡ self.old.names.items }
+        ensures fits { IfOk result (λ kept. Fits self.new kept) }
+        ensures meaning { IfOk result (λ kept. meaning self.new kept ≡ label.Text (take len bytes.now) at) }
+    {
+        let place = short_place(at)?;
+        if len <= u32::MAX as usize && self.lies_at(place, bytes, len) {
+            self.spans = self.spans.saturating_add(1);
+            return Ok(Kept::Span {
+                len: len as u32,
+                at: place,
+            });
+        }
+        let text = front_text(alloc, bytes, len)?;
+        let kept = self.keep_text(text, at)?;
+        Ok(kept)
     }
 }
 
@@ -229,8 +319,8 @@ fn short_place(at: u64) -> Result<u32, AllocError>
 /// An element without lists, as it is kept.
 #[inline(always)]
 pub(crate) fn known(name: u32, at: u64) -> Result<Kept, AllocError>
-    ensures { IfOk result (λ kept. kept ≡ entry.Element name 0 at) }
+    ensures { IfOk result (λ kept. kept ≡ entry.Element name at) }
 {
     let at = short_place(at)?;
-    Ok(Kept::Element { name, lists: 0, at })
+    Ok(Kept::Element { name, at })
 }

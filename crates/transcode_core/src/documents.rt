@@ -5,7 +5,7 @@ ghost use Rattle.command_line.specs.Answers.{Answers, NoMemory};
 ghost use Rattle.transcode_core.specs.Due.{ItemsIn};
 ghost use Rattle.transcode_core.specs.Causes.{OneRead, IsOfInput};
 
-use crate::files::{LIMIT, read_input, read_input_items};
+use crate::files::{LIMIT, read_input, read_input_items, read_shared_items};
 use command_line::Outcome;
 use doc_text::Items;
 use std::alloc::Global;
@@ -19,7 +19,7 @@ pub fn read_items<S: Source>(alloc: Global, input: &mut S) -> Result<Items, Outc
     ensures later { S.faults input.old ≤ S.faults input.new }
 {
     match read_input(alloc, input) {
-        Ok(bytes) => read_input_items(alloc, &bytes),
+        Ok(bytes) => read_shared_items(alloc, bytes),
         Err(outcome) => Err(outcome),
     }
 }

@@ -10,7 +10,7 @@ ghost use Rattle.command_line.specs.Answers.{Answers, NoMemory};
 ghost use Rattle.transcode_core.specs.Causes.{OneLoad, OneRead, IsOfInput};
 
 use command_line::Outcome;
-use doc_text::{DocError, Items, read_document};
+use doc_text::{DocError, Document, Items, read_document, read_shared};
 use schema_parts::RawDoc;
 use schema_read::{SchemaError, read_schema};
 use std::alloc::Global;
@@ -88,6 +88,22 @@ pub fn read_input_items(alloc: Global, bytes: &[u8]) -> Result<Items, Outcome>
     ensures stage { IfErr result IsOfInput }
 {
     match read_document(alloc, bytes) {
+        Ok(items) => Ok(items),
+        Err(DocError::Syntax { at, why }) => Err(Outcome::DocSyntax { at, why }),
+        Err(DocError::Memory) => Err(Outcome::OutOfMemory),
+    }
+}
+
+/// The items of the input, which share its bytes.
+pub fn read_shared_items(alloc: Global, bytes: Vec<u8>) -> Result<Items, Outcome>
+    requires { length bytes.items ≤ 16777216 }
+    ensures due { Answers (λ items. items) (Read (λ at why. Outcome.DocSyntax at why) bytes.items) NoMemory result }
+    ensures stage { IfErr result IsOfInput }
+{
+    let Ok(document) = Document::of(bytes) else {
+        return Err(Outcome::OutOfMemory);
+    };
+    match read_shared(alloc, &document) {
         Ok(items) => Ok(items),
         Err(DocError::Syntax { at, why }) => Err(Outcome::DocSyntax { at, why }),
         Err(DocError::Memory) => Err(Outcome::OutOfMemory),

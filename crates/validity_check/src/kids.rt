@@ -1,5 +1,5 @@
 //! The kids of an element that has no content model.
-ghost use Rattle.std.specs.Prelude.{◌≡◌, true, [], Some, MatchResult};
+ghost use Rattle.std.specs.Prelude.{◌≡◌, true, Some, MatchResult};
 ghost use Rattle.label_tree.specs.Rose.{roses_of, none};
 ghost use Rattle.doc_text.specs.Sound.{are_sound};
 ghost use Rattle.item_tree.specs.Seen.{item_seen};
@@ -7,13 +7,12 @@ ghost use Rattle.validity.specs.Valid as rule;
 ghost use Rattle.validity.specs.Faults.{why_kid, FirstKid, FirstElement};
 
 use crate::error::Fault;
-use item_tree::{ItemKids, ItemRef};
+use item_tree::{Characters, ItemKids, ItemRef};
 use std::iter::Iterator;
 use validity::InvalidWhy;
-use xa_base::Text;
 
-fn why_kid(label: ItemRef<'_>) -> InvalidWhy
-    ensures { result ≡ why_kid (item_seen label.entry) }
+fn why_kid(label: &ItemRef<'_>) -> InvalidWhy
+    ensures { result ≡ why_kid (item_seen label.now) }
 {
     match label {
         ItemRef::Element { .. } => InvalidWhy::ElementNotAllowed,
@@ -48,22 +47,21 @@ pub fn check_no_content(mut kids: ItemKids<'_>) -> Result<(), Fault>
             let label = first.label();
             Err(Fault {
                 at: label.place(),
-                why: why_kid(label),
+                why: why_kid(&label),
             })
         }
     }
 }
 
-/// The text of an element that has no child elements, which is this empty one where the element has no kids.
-pub fn only_text<'a>(mut kids: ItemKids<'a>, empty: &'a Text) -> Result<&'a Text, Fault>
-    requires sound { are_sound (roses_of kids) ≡ true }
-    requires empty { empty.now ≡ [] }
+/// The characters of an element that has no child elements, none where it has no kids.
+pub fn only_text<'a>(mut kids: ItemKids<'a>) -> Result<Characters<'a>, Fault>
+    requires { are_sound (roses_of kids) ≡ true }
     ensures { MatchResult result
-        (λ text. rule.only_text (roses_of kids.entry) ≡ Some text.now)
+        (λ text. rule.only_text (roses_of kids.entry) ≡ Some text)
         (λ fault. FirstElement (roses_of kids.entry) fault.at fault.why) }
 {
     let Some(first) = kids.next() else {
-        return Ok(empty);
+        return Ok(Characters::none());
     };
     match first.label() {
         ItemRef::Element { at, .. } => Err(Fault {

@@ -38,7 +38,7 @@ use crate::ways::{Way, finish, open_way};
 use content_match::{Matcher, Plan};
 use content_models::Particle;
 use content_values::{Path, put_end};
-use item_tree::{ItemKids, ItemNode, ItemRef};
+use item_tree::{Characters, ItemKids, ItemNode, ItemRef};
 use schema_parts::SchemaSet;
 use std::iter::Iterator;
 use std::sync::ledger::Ledger;
@@ -48,7 +48,7 @@ use value_builder::ValueBuilder;
 use xa_base::{Name, Steps, Text, is_blank};
 
 // A text at this place may stand among child elements: their content is mixed, or it is white space.
-fn check_between(mixed: bool, text: &Text, at: u64) -> Result<(), CheckError>
+fn check_between(mixed: bool, text: &Characters<'_>, at: u64) -> Result<(), CheckError>
     ensures { MatchResult result
         (λ _. (mixed ≡ true) ⊎ (is_blank text.now ≡ true))
         (Tells (At at InvalidWhy.TextNotAllowed ((mixed ≡ false) × (is_blank text.now ≡ false)))) }
@@ -100,7 +100,7 @@ fn walk_kid<L: Ledger>(
     ensures later { steps.old ≤ steps.new }
 {
     match kid.label() {
-        ItemRef::Text { text, at } => check_between(mixed, text, at),
+        ItemRef::Text { text, at } => check_between(mixed, &text, at),
         ItemRef::Element {
             name,
             attributes,
@@ -109,7 +109,7 @@ fn walk_kid<L: Ledger>(
         } => match open_way(model, matcher, way, name, at, values, steps) {
             Err(error) => Err(error),
             Ok(leaf) => match plain_text(set, leaf.decl, attributes, kid) {
-                Some((simple, text)) => put_words(simple, at, text, values),
+                Some((simple, text)) => put_words(plans.alloc(), simple, at, &text, values),
                 None => match plain_model(set, leaf.decl, attributes) {
                     Some(inside) => {
                         let kids = kid.kids();
@@ -152,7 +152,9 @@ fn walk_kids<L: Ledger>(
     ensures least { OnOk result (steps.old + elements_in (roses_of kids.now) ≤ steps.new) }
     ensures later { steps.old ≤ steps.new }
 {
-    let mut matcher = Matcher::start_in(plan, plans.lists())?;
+    let mut lists = plans.lists();
+    plan.make_ready(&mut lists)?;
+    let mut matcher = Matcher::begin(plan, lists);
     let mut way = Way::start(plans, values);
     for kid in kids.again() {
         walk_kid(
@@ -297,7 +299,7 @@ fn walk_inside<L: Ledger>(
 {
     match inside {
         Inside::Nothing => walk_nothing(nillable, kids, values),
-        Inside::Simple(simple) => walk_text(simple, at, kids, values),
+        Inside::Simple(simple) => walk_text(plans.alloc(), simple, at, kids, values),
         Inside::Children {
             mixed,
             complex,
@@ -344,7 +346,7 @@ fn gather_kid<L: Ledger>(
     ensures later { steps.old ≤ steps.new }
 {
     match kid.label() {
-        ItemRef::Text { text, at } => check_between(mixed, text, at),
+        ItemRef::Text { text, at } => check_between(mixed, &text, at),
         ItemRef::Element { name, at, .. } => match take_name(matcher, name, at, steps) {
             Err(error) => Err(error),
             Ok(leaf) => {
@@ -558,7 +560,7 @@ fn walk_filled<L: Ledger>(
     ensures later { steps.old ≤ steps.new }
 {
     match plain_type(set, decl, declared.inside) {
-        Some(simple) => put_text(simple, at, kids, values),
+        Some(simple) => put_text(plans.alloc(), simple, at, kids, values),
         None => match any_order(declared.inside) {
             Some(inside) => walk_ordered(
                 set, plans, declared, attributes, inside, at, kids, values, steps,

@@ -9,7 +9,7 @@ ghost use Rattle.xer_read.specs.Private.Contents.{IsPlainType, IsPlainModel};
 
 use crate::orders::any_order;
 use content_models::Particle;
-use item_tree::{ItemNode, ItemRef};
+use item_tree::{Characters, ItemNode, ItemRef};
 use schema_parts::{SchemaSet, TypeOf};
 use simple_types::Simple;
 use std::iter::Iterator;
@@ -40,10 +40,10 @@ fn simple_of<'a>(set: &'a SchemaSet, decl: u32) -> Option<&'a Simple>
     }
 }
 
-// The text of an element in which a text alone stands.
+// The characters of an element in which they alone stand.
 #[inline(always)]
-fn lone_text<'a>(item: &ItemNode<'a>) -> Option<&'a Text>
-    ensures { IfSome result (λ text. only_text (roses_of (kids_of item.now)) ≡ Some text.now) }
+fn lone_text<'a>(item: &ItemNode<'a>) -> Option<Characters<'a>>
+    ensures { IfSome result (λ text. only_text (roses_of (kids_of item.now)) ≡ Some text) }
 {
     let mut kids = item.kids();
     let Some(first) = kids.next() else {
@@ -59,17 +59,17 @@ fn lone_text<'a>(item: &ItemNode<'a>) -> Option<&'a Text>
     }
 }
 
-/// The type and the text of an element of this declaration, where its value is that of the text and nothing else stands in it.
+/// The type and the characters of an element of this declaration, where its value is theirs and nothing else stands in it.
 #[inline(always)]
 pub(crate) fn plain_text<'a, 'b>(
     set: &'a SchemaSet,
     decl: u32,
     attributes: &[(Name, Text)],
     item: &ItemNode<'b>,
-) -> Option<(&'a Simple, &'b Text)>
+) -> Option<(&'a Simple, Characters<'b>)>
     requires linked { IsLinked set.now }
     requires decl { decl < length set.now.elements }
-    ensures { IfSome result (λ plain. (attributes.now ≡ []) × IsPlainType set.now decl (space_of plain.0.now) × (only_text (roses_of (kids_of item.now)) ≡ Some plain.1.now)) }
+    ensures { IfSome result (λ plain. (attributes.now ≡ []) × IsPlainType set.now decl (space_of plain.0.now) × (only_text (roses_of (kids_of item.now)) ≡ Some plain.1)) }
 {
     if attributes.is_empty() {
         match simple_of(set, decl) {

@@ -9,7 +9,7 @@ ghost use Rattle.xer_read.specs.Private.Keeping.{text_value, missing, strings_fr
 ghost use Rattle.xer_read.specs.Private.Contents.{TextsMade};
 ghost use Rattle.xer_read.specs.Private.Putting.{PartsPut};
 
-use item_tree::{ItemKids, ItemRef};
+use item_tree::{Characters, ItemKids, ItemRef};
 use simple_types::ValueLabel;
 use std::alloc::Global;
 use std::iter::Iterator;
@@ -18,10 +18,14 @@ use value_builder::ValueBuilder;
 use xa_base::{Memory, Text};
 
 // A string with these words.
-fn put_string(alloc: Global, words: &Text, values: &mut ValueBuilder) -> Result<(), Memory>
+fn put_string(
+    alloc: Global,
+    words: &Characters<'_>,
+    values: &mut ValueBuilder,
+) -> Result<(), Memory>
     ensures { OnOk result (Puts (added (text_value words.now)) values.old values.new) }
 {
-    let text = words.copy(alloc)?;
+    let text = words.to_text(alloc)?;
     values.leaf(ValueLabel::Utf8(text))
 }
 
@@ -48,7 +52,7 @@ fn put_each_string(
     for kid in kids.again() {
         match kid.label() {
             ItemRef::Text { text, .. } => {
-                put_string(alloc, text, values)?;
+                put_string(alloc, &text, values)?;
                 has_text = true;
             }
             ItemRef::Element { .. } => {

@@ -12,27 +12,30 @@ ghost use Rattle.validity_check.specs.Answers.{Tells, TextFault};
 ghost use Rattle.value_builder.specs.Built.{Puts};
 ghost use Rattle.xer_read.specs.Private.Given.{IsReadAs};
 
-use item_tree::ItemKids;
+use item_tree::{Characters, ItemKids};
 use simple_types::Simple;
 use simple_values::SimpleError;
+use std::alloc::Global;
 use validity::InvalidWhy;
 use validity_check::{CheckError, only_text};
 use value_builder::ValueBuilder;
-use xa_base::Text;
 
-/// The value that the simple type gives to the text of an element at this place.
+/// The value that the simple type gives to the characters of an element at this place.
+#[inline(always)]
 pub(crate) fn put_words(
+    alloc: Global,
     simple: &Simple,
     at: u64,
-    text: &Text,
+    characters: &Characters<'_>,
     values: &mut ValueBuilder,
 ) -> Result<(), CheckError>
     requires simple { Sound (space_of simple.now) }
-    ensures { (ts : Roses ItemLabel) → valid.only_text ts ≡ Some text.now → MatchResult result
+    ensures { (ts : Roses ItemLabel) → valid.only_text ts ≡ Some characters.now → MatchResult result
         (λ _. (value : Rose ValueLabel) × IsReadAs (space_of simple.now) ts value × Puts (added value) values.old values.new)
         (Tells (TextFault (space_of simple.now) ts at)) }
 {
-    match values.text(simple, text) {
+    let text = characters.to_text(alloc)?;
+    match values.text(simple, &text) {
         Ok(()) => Ok(()),
         Err(SimpleError::BadText) => Err(CheckError::Invalid {
             at,
@@ -48,6 +51,7 @@ pub(crate) fn put_words(
 
 /// The same of an element that has these kids.
 pub(crate) fn put_text(
+    alloc: Global,
     simple: &Simple,
     at: u64,
     kids: &ItemKids<'_>,
@@ -59,7 +63,6 @@ pub(crate) fn put_text(
         (λ _. (value : Rose ValueLabel) × IsReadAs (space_of simple.now) (roses_of kids.now) value × Puts (added value) values.old values.new)
         (Tells (TextFault (space_of simple.now) (roses_of kids.now) at)) }
 {
-    let empty = Text::empty();
-    let text = only_text(kids.again(), &empty)?;
-    put_words(simple, at, text, values)
+    let characters = only_text(kids.again())?;
+    put_words(alloc, simple, at, &characters, values)
 }

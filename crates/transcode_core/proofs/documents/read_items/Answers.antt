@@ -11,8 +11,8 @@ use Rattle.transcode_core.proofs.documents.read_items.Goals as goal
 pub returns-in-Ok-clause-due : goal.returns-in-Ok-clause-due
 returns-in-Ok-clause-due g c =
     passed (Input (g.S.Source.left c.args.input.now)) (λ bytes. Read (λ at why. DocSyntax at why) bytes) NoMemory
-    (OneRead (g.S.Source.faults c.args.input.now) (g.S.Source.faults c.read_input.new.input)) (λ (items : Rose ItemLabel). items) c.in-Ok.bytes.items c.read_input_items.result
-    c.in-Ok.ensures.due (rw c.deref.ensures.value at c.read_input_items.ensures.due) (λ o h. inl h)
+    (OneRead (g.S.Source.faults c.args.input.now) (g.S.Source.faults c.read_input.new.input)) (λ (items : Rose ItemLabel). items) c.in-Ok.bytes.items c.read_shared_items.result
+    c.in-Ok.ensures.due c.read_shared_items.ensures.due (λ o h. inl h)
 
 pub returns-in-Err-clause-due : goal.returns-in-Err-clause-due
 returns-in-Err-clause-due g c =

@@ -77,7 +77,7 @@ walk_kid-walk_element-requires g t c κs within =
 
 pub walk_kid-returns-in-Text-clause-judged : goal.walk_kid-returns-in-Text-clause-judged
 walk_kid-returns-in-Text-clause-judged g t c = λ kids place i z below here r.
-    text-judged c.args.set.now c.args.mixed (seen c.args.model.now) kids place i c.args.matcher.now z c.args.values.now r c.args.kid.now below here c.in-Text.text.now c.in-Text.at (sym c.label.ensures ∙ ap item_seen c.in-Text.is)
+    text-judged c.args.set.now c.args.mixed (seen c.args.model.now) kids place i c.args.matcher.now z c.args.values.now r c.args.kid.now below here c.in-Text.text c.in-Text.at (sym c.label.ensures ∙ ap item_seen c.in-Text.is)
     c.check_between.result c.check_between.ensures
 
 pub walk_kid-returns-in-Err-clause-judged : goal.walk_kid-returns-in-Err-clause-judged
@@ -115,7 +115,7 @@ walk_kid-returns-in-Some-clause-judged g t c = λ kids place i z below here r.
     c.in-Element.name.now c.in-Element.attributes.now c.in-Element.declares.now c.in-Element.at is c.open_way.new.matcher c.in-Ok.leaf e.particle (e.took r.us r.took)
     (subst (λ q. All (IsNamed c.args.set.now) (leaves q)) (sym r.particle) c.requires.model.named) c.open_way.new.values c.put_words.new.values way c.put_words.result
     (plain-read c.args.set.now c.requires.linked c.in-Ok.leaf.decl (space_of c.in-Some.simple.now) plain.1 c.in-Element.name.now c.in-Element.attributes.now c.in-Element.declares.now c.in-Element.at
-    c.args.kid.now is c.requires.sound plain.0 c.in-Some.text.now plain.2 c.open_way.new.values c.put_words.new.values way.way way.stands c.put_words.result c.put_words.ensures)
+    c.args.kid.now is c.requires.sound plain.0 c.in-Some.text plain.2 c.open_way.new.values c.put_words.new.values way.way way.stands c.put_words.result c.put_words.ensures)
 
 pub walk_kid-returns-in-Some-clause-limit : goal.walk_kid-returns-in-Some-clause-limit
 walk_kid-returns-in-Some-clause-limit g t c =
@@ -138,7 +138,7 @@ walk_kid-returns-in-Some-clause-least g t c =
     let space = space_of c.in-Some.simple.now in
     let n = element_counts c.args.kid.now c.in-Element.name.now c.in-Element.attributes.now c.in-Element.declares.now c.in-Element.at (sym c.label.ensures ∙ ap item_seen c.in-Element.is) in
     let s = c.in-Ok.ensures.least in
-    let empty = text-without ts c.in-Some.text.now c.in-Some.ensures.2 in
+    let empty = text-without ts c.in-Some.text c.in-Some.ensures.2 in
     match-ok c.put_words.result (λ _. (v : Rose ValueLabel) × IsReadAs space ts v × Puts (added v) c.open_way.new.values c.put_words.new.values) (Tells (TextFault space ts c.in-Element.at))
     (c.args.steps.now + element_count c.args.kid.now ≤ c.open_way.new.steps) (λ x h. omega (arith, n, s, empty)) (c.put_words.ensures ts c.in-Some.ensures.2)
 
@@ -235,19 +235,22 @@ walk_kid-returns-in-None-plain_model-clause-most g t c =
 
 -- ---- all kids
 
+pub walk_kids-begin-matcher-requires-clause-no_all : goal.walk_kids-begin-matcher-requires-clause-no_all
+walk_kids-begin-matcher-requires-clause-no_all g t c = subst IsNoAll (sym c.requires.plan) c.requires.no_all
+
 pub walk_kids-loop-kid-init : goal.walk_kids-loop-kid-init
 walk_kids-loop-kid-init g t c =
-    let took = c.in_ok-matcher.ensures.took in
-    let k = c.in_ok-matcher.matcher in
+    let took = c.begin-matcher.ensures.took in
+    let k = c.begin-matcher.result in
     let way = c.start-way.result in
     record {
       all = cc (c.into_iter-kid-iterator.ensures.into_iter_gives, c.again-kid-items.ensures);
-      plans = c.start-way.ensures.plans ∙ c.lists.ensures ∙ c.requires.plans;
+      plans = c.start-way.ensures.plans ∙ c.lists-lists.ensures ∙ c.requires.plans;
       way = λ _. ap (λ b. spot_now (cond b way.turns.items []) (cond b way.kids.items [])) c.start-way.ensures.begun ∙ ap (λ ts. spot_now ts k.kids) (sym took.turns)
-          ∙ sym (spot_matched k (subst IsNoAll (sym (c.in_ok-matcher.ensures.plan ∙ c.requires.plan)) c.requires.no_all));
+          ∙ sym (spot_matched k (subst IsNoAll (sym (c.begin-matcher.ensures.plan ∙ c.requires.plan)) c.requires.no_all));
       limit = refl;
       reached = λ z stands.
-          none-reached c.args.set.now c.args.mixed (seen c.args.model.now) c.args.kids.now k z c.args.values.now (c.in_ok-matcher.ensures.plan ∙ c.requires.plan) took stands;
+          none-reached c.args.set.now c.args.mixed (seen c.args.model.now) c.args.kids.now k z c.args.values.now (c.begin-matcher.ensures.plan ∙ c.requires.plan) took stands;
       most = omega arith;
       least = omega arith;
     }
@@ -531,7 +534,7 @@ gather_kid-keep-requires-clause-empty g t c = λ some.
 pub gather_kid-returns-in-Text-clause-judged : goal.gather_kid-returns-in-Text-clause-judged
 gather_kid-returns-in-Text-clause-judged g t c = λ ps kids place i all_is below here r.
     collecting.text-judged c.args.set.now c.args.mixed ps kids place i c.args.matcher.now c.args.gathered.now all_is r c.args.kid.now below here
-    c.in-Text.text.now c.in-Text.at (sym c.label.ensures ∙ ap item_seen c.in-Text.is) c.check_between.result c.check_between.ensures
+    c.in-Text.text c.in-Text.at (sym c.label.ensures ∙ ap item_seen c.in-Text.is) c.check_between.result c.check_between.ensures
 
 pub gather_kid-returns-in-Err-clause-judged : goal.gather_kid-returns-in-Err-clause-judged
 gather_kid-returns-in-Err-clause-judged g t c = λ ps kids place i all_is below here r.

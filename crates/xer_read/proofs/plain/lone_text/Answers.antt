@@ -14,4 +14,4 @@ pub returns-in-Text : goal.returns-in-Text
 returns-in-Text c =
     let first = c.in-Some.first in
     let all = sym c.kids-kids.ensures ∙ c.in-Some.ensures.steps ∙ ap (λ ks. first ∷ ks) (c.is_empty.ensures.0 c.if-is_empty.true) in
-    ap (λ ks. only_text (roses_of ks)) all ∙ one-text first c.in-Text.text.now c.in-Text.at (ap item_seen (sym c.in-Text.is) ∙ c.label.ensures)
+    ap (λ ks. only_text (roses_of ks)) all ∙ one-text first c.in-Text.text c.in-Text.at (ap item_seen (sym c.in-Text.is) ∙ c.label.ensures)

@@ -10,7 +10,7 @@ use Rattle.xer_read.proofs.strings.put_each_string.Goals as goal
 
 pub loop-kid-preserved-in-Text : goal.loop-kid-preserved-in-Text
 loop-kid-preserved-in-Text c =
-    text-put (roses_of c.args.kids.now) c.loop-kid.has_text c.loop-kid.kid-iterator c.in-Some.kid c.next.new.self c.in-Text.text.now c.in-Text.at c.args.values.now c.loop-kid.values c.put_string.new.values
+    text-put (roses_of c.args.kids.now) c.loop-kid.has_text c.loop-kid.kid-iterator c.in-Some.kid c.next.new.self c.in-Text.text c.in-Text.at c.args.values.now c.loop-kid.values c.put_string.new.values
     c.in-Some.ensures.steps (sym c.label.ensures ∙ ap item_seen c.in-Text.is) c.loop-kid.invariant c.in_ok-put_string-in-Text.ensures
 
 pub loop-kid-preserved : goal.loop-kid-preserved

@@ -17,8 +17,8 @@ use Rattle.doc_text.proofs.builder.Builder.put_leaf.Goals as goal
 pub open_known-requires : goal.open_known-requires
 open_known-requires c = subst (λ ns. c.args.note.now.name < length ns) (sym c.in_ok-flush.ensures.same_names) (slice_get_within c.args.self.now.items.names c.args.note.now.name _ c.requires.known.name)
 
-pub front_text-requires-clause-utf8 : goal.front_text-requires-clause-utf8
-front_text-requires-clause-utf8 c = c.requires.run.utf8
+pub front-requires-clause-utf8 : goal.front-requires-clause-utf8
+front-requires-clause-utf8 c = c.requires.run.utf8
 
 pub returns : goal.returns
 returns c =

@@ -1,0 +1,154 @@
+//! Characters where they lie.
+ghost use Rattle.std.specs.Prelude.{◌≡◌, ◌≤◌, [], IfOk, IsTrue, IsUtf8, length, take, drop};
+ghost use Rattle.item_tree.specs.Lying.{lying_bytes};
+
+use std::alloc::Global;
+use std::marker::Model;
+use xa_base::{Memory, ROOM, Text};
+
+// Where characters lie.
+#[derive(Drop)]
+pub(crate) enum Lying<'a> {
+    // So many bytes that stand first.
+    Front { bytes: &'a [u8], len: usize },
+    Kept(&'a Text),
+}
+
+/// Characters of a document, seen as their bytes, which are UTF-8.
+#[derive(Drop)]
+pub struct Characters<'a> {
+    pub(crate) lying: Lying<'a>,
+}
+
+impl<'a> Model for Characters<'a> {
+    ghost use Rattle.std.specs.Prelude.{List, ℕ};
+
+    ghost Value = { List ℕ };
+
+    ghost use Rattle.item_tree.specs.Lying.{lying_bytes, LiesWithin};
+
+    ghost view = { λ a. lying_bytes a.lying };
+
+    ghost invariant = { λ a. LiesWithin a.lying };
+}
+
+impl<'a> Characters<'a> {
+    /// No characters.
+    pub fn none() -> Characters<'a>
+        ensures { result ≡ [] }
+    {
+        Characters {
+            lying: Lying::Front { bytes: &[], len: 0 },
+        }
+    }
+
+    /// Their bytes.
+    #[inline(always)]
+    pub fn bytes(&self) -> &'a [u8]
+        ensures bytes { result.now ≡ self.now }
+        ensures utf8 { IsUtf8 self.now }
+    {
+        match self.lying {
+            Lying::Front { bytes, len } => &bytes[..len],
+            Lying::Kept(text) => text.bytes(),
+        }
+    }
+
+    /// A text of them. Up to 22 bytes take no memory, nor does a text that is kept.
+    #[inline(always)]
+    pub fn to_text(&self, alloc: Global) -> Result<Text, Memory>
+        ensures { IfOk result (λ text. text ≡ self.now) }
+    {
+        match self.lying {
+            Lying::Front { bytes, len } => front_text(alloc, bytes, len),
+            Lying::Kept(text) => copied(alloc, text),
+        }
+    }
+}
+
+// An equal text.
+#[inline(never)]
+fn copied(alloc: Global, text: &Text) -> Result<Text, Memory>
+    ensures { IfOk result (λ copied. copied ≡ text.now) }
+{
+    text.copy(alloc)
+}
+
+/// The text of so many bytes that stand first. If they are few, and more bytes stand there, they are copied at once.
+#[inline(always)]
+pub(crate) fn front_text(alloc: Global, bytes: &[u8], len: usize) -> Result<Text, Memory>
+    requires within { len ≤ length bytes.now }
+    requires utf8 { IsUtf8 (take len bytes.now) }
+    ensures { IfOk result (λ text. text ≡ take len bytes.now) }
+{
+    if len <= ROOM {
+        if let Some(front) = bytes.first_chunk::<ROOM>() {
+            return Ok(Text::of_front(*front, len));
+        }
+    }
+    long_text(alloc, bytes, len)
+}
+
+// The same where they are many, or the last.
+#[inline(never)]
+fn long_text(alloc: Global, bytes: &[u8], len: usize) -> Result<Text, Memory>
+    requires within { len ≤ length bytes.now }
+    requires utf8 { IsUtf8 (take len bytes.now) }
+    ensures { IfOk result (λ text. text ≡ take len bytes.now) }
+{
+    Text::from_utf8(alloc, &bytes[..len])
+}
+
+// Eight of the bytes.
+#[inline(always)]
+fn eight_at(bytes: &[u8; 16], at: usize) -> [u8; 8]
+    requires { at ≤ 8 }
+    ensures { result ≡ take 8 (drop at bytes.now) }
+{
+    [
+        bytes[at],
+        bytes[at + 1],
+        bytes[at + 2],
+        bytes[at + 3],
+        bytes[at + 4],
+        bytes[at + 5],
+        bytes[at + 6],
+        bytes[at + 7],
+    ]
+}
+
+// Whether eight of the bytes are the same in both. They are compared as one word.
+#[inline(always)]
+fn is_word_same(one: &[u8; 16], other: &[u8; 16], at: usize) -> bool
+    requires { at ≤ 8 }
+    ensures { IsTrue result → take 8 (drop at one.now) ≡ take 8 (drop at other.now) }
+{
+    u64::from_le_bytes(eight_at(one, at)) == u64::from_le_bytes(eight_at(other, at))
+}
+
+// Whether all bytes are the same in both.
+#[inline(always)]
+fn are_bytes_same(one: &[u8; 16], other: &[u8; 16]) -> bool
+    ensures { IsTrue result → one.now ≡ other.now }
+{
+    is_word_same(one, other, 0) && is_word_same(one, other, 8)
+}
+
+/// Whether so many bytes that stand first are the same in both. If they are few, and more bytes stand there, these are
+/// compared as well, as words: then they may be told apart where they are the same.
+#[inline(always)]
+pub(crate) fn are_fronts_same(one: &[u8], other: &[u8], len: usize) -> bool
+    requires { len ≤ length other.now }
+    ensures same { IsTrue result → take len one.now ≡ take len other.now }
+    ensures within { IsTrue result → len ≤ length one.now }
+{
+    if len <= 16 {
+        if let (Some(one), Some(other)) = (one.first_chunk::<16>(), other.first_chunk::<16>()) {
+            return are_bytes_same(one, other);
+        }
+    }
+    match one.get(..len) {
+        None => false,
+        Some(front) => front == &other[..len],
+    }
+}
