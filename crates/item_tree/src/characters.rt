@@ -1,10 +1,10 @@
 //! Characters where they lie.
-ghost use Rattle.std.specs.Prelude.{◌≡◌, ◌≤◌, [], IfOk, IsTrue, IsUtf8, length, take, drop};
+ghost use Rattle.std.specs.Prelude.{◌≡◌, ◌≤◌, [], IfOk, IfSome, IsTrue, IsUtf8, length, take, drop};
 ghost use Rattle.item_tree.specs.Lying.{lying_bytes};
 
 use std::alloc::Global;
 use std::marker::Model;
-use xa_base::{Memory, ROOM, Text};
+use xa_base::{Memory, Text};
 
 // Where characters lie.
 #[derive(Drop)]
@@ -54,13 +54,24 @@ impl<'a> Characters<'a> {
         }
     }
 
+    /// Bytes of which so many that stand first are these characters, where they lie so.
+    #[inline(always)]
+    pub fn front(&self) -> Option<(&'a [u8], usize)>
+        ensures { IfSome result (λ front. (front.1 ≤ length front.0.now) × IsUtf8 (take front.1 front.0.now) × (take front.1 front.0.now ≡ self.now)) }
+    {
+        match self.lying {
+            Lying::Front { bytes, len } => Some((bytes, len)),
+            Lying::Kept(_) => None,
+        }
+    }
+
     /// A text of them. Up to 22 bytes take no memory, nor does a text that is kept.
     #[inline(always)]
     pub fn to_text(&self, alloc: Global) -> Result<Text, Memory>
         ensures { IfOk result (λ text. text ≡ self.now) }
     {
         match self.lying {
-            Lying::Front { bytes, len } => front_text(alloc, bytes, len),
+            Lying::Front { bytes, len } => Text::of_front(alloc, bytes, len),
             Lying::Kept(text) => copied(alloc, text),
         }
     }
@@ -72,31 +83,6 @@ fn copied(alloc: Global, text: &Text) -> Result<Text, Memory>
     ensures { IfOk result (λ copied. copied ≡ text.now) }
 {
     text.copy(alloc)
-}
-
-/// The text of so many bytes that stand first. If they are few, and more bytes stand there, they are copied at once.
-#[inline(always)]
-pub(crate) fn front_text(alloc: Global, bytes: &[u8], len: usize) -> Result<Text, Memory>
-    requires within { len ≤ length bytes.now }
-    requires utf8 { IsUtf8 (take len bytes.now) }
-    ensures { IfOk result (λ text. text ≡ take len bytes.now) }
-{
-    if len <= ROOM {
-        if let Some(front) = bytes.first_chunk::<ROOM>() {
-            return Ok(Text::of_front(*front, len));
-        }
-    }
-    long_text(alloc, bytes, len)
-}
-
-// The same where they are many, or the last.
-#[inline(never)]
-fn long_text(alloc: Global, bytes: &[u8], len: usize) -> Result<Text, Memory>
-    requires within { len ≤ length bytes.now }
-    requires utf8 { IsUtf8 (take len bytes.now) }
-    ensures { IfOk result (λ text. text ≡ take len bytes.now) }
-{
-    Text::from_utf8(alloc, &bytes[..len])
 }
 
 // Eight of the bytes.

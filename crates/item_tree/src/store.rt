@@ -6,7 +6,7 @@ ghost use Rattle.item_tree.specs.Building.{binding_count, name_at, IsNamed};
 ghost use Rattle.item_tree.specs.Meaning.{span_in, StoreGrows, Fits, meaning};
 ghost use Rattle.item_tree.specs.Seen.{item_seen};
 
-use crate::characters::{Characters, Lying, are_fronts_same, front_text};
+use crate::characters::{Characters, Lying, are_fronts_same};
 use crate::document::Document;
 use crate::entries::Kept;
 use crate::nodes::ItemRef;
@@ -267,7 +267,7 @@ impl Store {
                 at: place,
             });
         }
-        let text = front_text(alloc, bytes, len)?;
+        let text = Text::of_front(alloc, bytes, len)?;
         let kept = self.keep_text(text, at)?;
         Ok(kept)
     }

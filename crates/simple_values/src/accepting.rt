@@ -1,24 +1,27 @@
 //! What a simple type makes of a text.
-ghost use Rattle.std.specs.Prelude.{◌≡◌, ◌<◌, ◌-◌, ◌^◌, ◌&&◌, ℕ, List, MatchResult, OnOk, OnErr, IfOk, IfSome, Ok, Err, length, min as lesser, nat_le};
+ghost use Rattle.std.specs.Prelude.{◌≡◌, ◌<◌, ◌≤◌, ◌-◌, ◌^◌, ◌&&◌, ℕ, List, MatchResult, OnOk, OnErr, IfOk, IfSome, IsUtf8, Ok, Err, length, min as lesser, nat_le, take as front_of};
 ghost use Rattle.simple_values.specs.Lexical.{is_at_most};
 ghost use Rattle.flat_tree.specs.Zips.{added, added_all};
 ghost use Rattle.simple_types.specs.declared.labels.ValueLabel.{ValueLabel};
 ghost use Rattle.label_tree.specs.Rose.{Rose, node, none as no_kids, more as with_kid};
-ghost use Rattle.xa_base.specs.WhiteSpace.{words_of};
+ghost use Rattle.xa_base.specs.WhiteSpace.{words_of, treated};
+ghost use Rattle.xa_base.specs.declared.white_space.WhiteSpace.TheVariants as WhiteSpace;
 ghost use Rattle.simple_values.specs.Answering.{AnswersReading, AnswersLeaf};
 ghost use Rattle.simple_types.specs.Seen.{space_of, spaces_in};
 ghost use Rattle.simple_types.specs.Sound.{Sound, AreSound};
 ghost use Rattle.simple_values.specs.Reading as rule;
 
 use crate::classes::has_characters;
+use crate::numbers::{Whole, collapsed_number};
 use crate::reading::{
-    SimpleError, read_boolean, read_characters, read_number, read_whole, read_word,
+    SimpleError, is_within, outside, read_boolean, read_characters, read_number, read_whole,
+    read_word,
 };
 use crate::spelling::spelling;
 use flat_tree::{Builder, Flat, Node};
-use simple_types::{Class, Simple, ValueLabel};
+use simple_types::{Class, Integer, Simple, ValueLabel};
 use std::alloc::{AllocError, Global};
-use xa_base::{Text, first_word, is_treated};
+use xa_base::{Text, first_word, is_str_treated, is_treated, utf8_text};
 
 // Puts a value without parts, of which the label was read.
 fn put(
@@ -318,6 +321,90 @@ pub fn accept_into(
             class,
         } if is_treated(*space, text) => put_text(alloc, *min, *max, *class, text, values),
         _ => put_value(alloc, simple, text.as_str(), values),
+    }
+}
+
+// Puts a text as it is read, of so many bytes that stand first.
+#[inline(always)]
+fn put_front(
+    alloc: Global,
+    min: u32,
+    max: Option<u32>,
+    class: Class,
+    bytes: &[u8],
+    len: usize,
+    values: &mut Builder<ValueLabel>,
+) -> Result<(), SimpleError>
+    requires within { len ≤ length bytes.now }
+    requires utf8 { IsUtf8 (front_of len bytes.now) }
+    ensures read { MatchResult result
+        (λ _. (value : Rose ValueLabel) × (rule.read_characters min max class (front_of len bytes.now) ≡ Ok value) × (values.new ≡ added value values.old))
+        (λ error. AnswersReading (Err error) (rule.read_characters min max class (front_of len bytes.now))) }
+    ensures kept { OnErr result (values.new ≡ values.old) }
+{
+    if !has_characters(min, max, class, utf8_text(&bytes[..len])) {
+        return Err(SimpleError::BadText);
+    }
+    let text = Text::of_front(alloc, bytes, len)?;
+    values.leaf(ValueLabel::Utf8(text))?;
+    Ok(())
+}
+
+// Puts a whole number.
+#[inline(always)]
+fn put_whole(
+    lo: Option<i128>,
+    hi: Option<i128>,
+    text: &str,
+    values: &mut Builder<ValueLabel>,
+) -> Result<(), SimpleError>
+    ensures read { MatchResult result
+        (λ _. (value : Rose ValueLabel) × (rule.read_whole lo hi (treated WhiteSpace.Collapse text.now) ≡ Ok value) × (values.new ≡ added value values.old))
+        (λ error. AnswersReading (Err error) (rule.read_whole lo hi (treated WhiteSpace.Collapse text.now))) }
+    ensures kept { OnErr result (values.new ≡ values.old) }
+{
+    match collapsed_number(text) {
+        None => Err(SimpleError::BadText),
+        Some(Whole::Above) => Err(outside(hi)),
+        Some(Whole::Below) => Err(outside(lo)),
+        Some(Whole::Within(n)) => {
+            if !is_within(lo, hi, n) {
+                return Err(SimpleError::BadText);
+            }
+            values.leaf(ValueLabel::Int(Integer::of(n)))?;
+            Ok(())
+        }
+    }
+}
+
+/// The same of a text of so many bytes that stand first, which isn't copied but where it is a value.
+pub fn accept_front_into(
+    alloc: Global,
+    simple: &Simple,
+    bytes: &[u8],
+    len: usize,
+    values: &mut Builder<ValueLabel>,
+) -> Result<(), SimpleError>
+    requires sound { Sound (space_of simple.now) }
+    requires within { len ≤ length bytes.now }
+    requires utf8 { IsUtf8 (front_of len bytes.now) }
+    ensures read { MatchResult result
+        (λ _. (value : Rose ValueLabel) × rule.Accepts (space_of simple.now) (front_of len bytes.now) value × (values.new ≡ added value values.old))
+        (λ error. AnswersReading (Err error) (rule.reads (space_of simple.now) (front_of len bytes.now))) }
+    ensures kept { OnErr result (values.new ≡ values.old) }
+{
+    let text = utf8_text(&bytes[..len]);
+    match simple {
+        Simple::Chars {
+            space,
+            min,
+            max,
+            class,
+        } if is_str_treated(*space, text) => {
+            put_front(alloc, *min, *max, *class, bytes, len, values)
+        }
+        Simple::Whole { lo, hi } => put_whole(*lo, *hi, text, values),
+        _ => put_value(alloc, simple, text, values),
     }
 }
 

@@ -11,7 +11,7 @@ mod numbers;
 mod reading;
 mod spelling;
 
-pub use accepting::{accept, accept_into, accept_label};
+pub use accepting::{accept, accept_front_into, accept_into, accept_label};
 pub use classes::{char_count, has_characters, is_at_most};
 pub use holding::holds;
 pub use laws::{accepted_holds, chain_ends, one_reading, one_spelling, spelled_in_xml_characters};

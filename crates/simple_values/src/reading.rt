@@ -71,8 +71,8 @@ pub fn is_within(lo: Option<i128>, hi: Option<i128>, n: i128) -> bool
     from && to
 }
 
-// Why a number past 128 bits is refused, by the bound on its side.
-fn outside(bound: Option<i128>) -> SimpleError
+/// Why a number past 128 bits is refused, by the bound on its side.
+pub(crate) fn outside(bound: Option<i128>) -> SimpleError
     ensures { AnswersReading (Err result) (rule.outside bound) }
 {
     match bound {

@@ -1,5 +1,5 @@
 //! What is put down of a value.
-ghost use Rattle.std.specs.Prelude.{◌≡◌, length, ◌<◌, ◌+◌, ◌-◌, ◌^◌, ◌≤◌, min, ◌↔◌, ℕ, Err, IsTrue, IfOk, List, OnOk, MatchResult};
+ghost use Rattle.std.specs.Prelude.{◌≡◌, length, ◌<◌, ◌+◌, ◌-◌, ◌^◌, ◌≤◌, min, ◌↔◌, ℕ, Err, IsTrue, IsUtf8, IfOk, List, OnOk, MatchResult, take};
 ghost use Rattle.label_tree.specs.Rose.{Rose, node, none};
 ghost use Rattle.flat_tree.specs.Zips.{Zip, zip_count, opened, added, added_all, closed};
 ghost use Rattle.simple_types.specs.declared.labels.ValueLabel.{ValueLabel};
@@ -10,8 +10,9 @@ ghost use Rattle.simple_values.specs.Reading.{reads, Accepts};
 ghost use Rattle.value_builder.specs.Built.{nothing_of, Stands, Puts, flagged, flagged_label};
 
 use flat_tree::{Builder, Flat};
+use item_tree::Characters;
 use simple_types::{Flags, Simple, ValueLabel};
-use simple_values::{SimpleError, accept_into};
+use simple_values::{SimpleError, accept_front_into, accept_into};
 use std::alloc::Global;
 use std::marker::Model;
 use value_counts::count;
@@ -165,6 +166,47 @@ impl ValueBuilder {
         accept_into(self.alloc, simple, text, &mut self.kept)?;
         self.nodes = self.kept.count() as u64;
         Ok(())
+    }
+
+    // The same of a text of so many bytes that stand first, which are copied where they are kept alone.
+    #[inline(always)]
+    fn front(&mut self, simple: &Simple, bytes: &[u8], len: usize) -> Result<(), SimpleError>
+        requires sound { Sound (space_of simple.now) }
+        requires within { len ≤ length bytes.now }
+        requires utf8 { IsUtf8 (take len bytes.now) }
+        ensures { MatchResult result
+            (λ _. (value : Rose ValueLabel) × Accepts (space_of simple.now) (take len bytes.now) value × Puts (added value) self.old self.new)
+            (λ error. AnswersReading (Err error) (reads (space_of simple.now) (take len bytes.now))) }
+    {
+        let has_items = matches!(simple, Simple::List { .. } | Simple::Union(_));
+        if has_items || !self.is_kept() {
+            let text = Text::of_front(self.alloc, bytes, len)?;
+            return self.text(simple, &text);
+        }
+        accept_front_into(self.alloc, simple, bytes, len, &mut self.kept)?;
+        self.nodes = self.kept.count() as u64;
+        Ok(())
+    }
+
+    /// The same of characters where they lie.
+    #[inline(always)]
+    pub fn characters(
+        &mut self,
+        simple: &Simple,
+        characters: &Characters<'_>,
+    ) -> Result<(), SimpleError>
+        requires { Sound (space_of simple.now) }
+        ensures { MatchResult result
+            (λ _. (value : Rose ValueLabel) × Accepts (space_of simple.now) characters.now value × Puts (added value) self.old self.new)
+            (λ error. AnswersReading (Err error) (reads (space_of simple.now) characters.now)) }
+    {
+        match characters.front() {
+            Some((bytes, len)) => self.front(simple, bytes, len),
+            None => {
+                let text = characters.to_text(self.alloc)?;
+                self.text(simple, &text)
+            }
+        }
     }
 
     /// Moves all that another holds, which is all kept and has no node open, behind what is there.

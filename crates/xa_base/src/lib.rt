@@ -29,4 +29,6 @@ pub use sinks::{MemorySink, Sink, SureSink};
 pub use sources::{Failed, MemorySource, Source, SureSource};
 pub use steps::Steps;
 pub use texts::{Memory, Name, ROOM, Text, TextError, utf8_text};
-pub use white_space::{WhiteSpace, first_word, is_blank, is_treated, is_white_space, treat};
+pub use white_space::{
+    WhiteSpace, first_word, is_blank, is_str_treated, is_treated, is_white_space, treat,
+};

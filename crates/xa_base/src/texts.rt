@@ -129,16 +129,6 @@ impl Short {
         }
     }
 
-    // An equal text.
-    fn copy(&self) -> Short
-        ensures { result ≡ self.now }
-    {
-        Short {
-            len: self.len,
-            bytes: self.bytes,
-        }
-    }
-
     // Whether all bytes in place are the same, those behind the texts too.
     #[inline(always)]
     fn is_alike(&self, other: &Short) -> bool
@@ -226,6 +216,7 @@ impl Text {
     }
 
     /// A text of these bytes, which are copied. They aren't tested, since they are known to be UTF-8.
+    #[inline(never)]
     pub fn from_utf8(alloc: Global, bytes: &[u8]) -> Result<Text, Memory>
         requires { IsUtf8 bytes.now }
         ensures { IfOk result (λ made. made ≡ bytes.now) }
@@ -278,20 +269,25 @@ impl Text {
         })
     }
 
-    /// The text of so many bytes at the front of an array, which stay in place. They aren't tested, since they are known
-    /// to be UTF-8.
+    /// The text of so many bytes that stand first, which are copied; if they are few, and more bytes stand there, then as many as
+    /// have room at once. They aren't tested, since they are known to be UTF-8.
     #[inline(always)]
-    pub fn of_front(bytes: [u8; ROOM], len: usize) -> Text
-        requires short { len ≤ 22 }
-        requires utf8 { IsUtf8 (take len bytes) }
-        ensures { result ≡ take len bytes }
+    pub fn of_front(alloc: Global, bytes: &[u8], len: usize) -> Result<Text, Memory>
+        requires within { len ≤ length bytes.now }
+        requires utf8 { IsUtf8 (take len bytes.now) }
+        ensures { IfOk result (λ text. text ≡ take len bytes.now) }
     {
-        Text {
-            kept: Kept::Here(Short {
-                len: len as u8,
-                bytes,
-            }),
+        if len <= ROOM {
+            if let Some(front) = bytes.first_chunk::<ROOM>() {
+                return Ok(Text {
+                    kept: Kept::Here(Short {
+                        len: len as u8,
+                        bytes: *front,
+                    }),
+                });
+            }
         }
+        Text::from_utf8(alloc, &bytes[..len])
     }
 
     /// An equal text. It takes no memory.
@@ -300,7 +296,10 @@ impl Text {
     {
         match &self.kept {
             Kept::Here(short) => Ok(Text {
-                kept: Kept::Here(short.copy()),
+                kept: Kept::Here(Short {
+                    len: short.len,
+                    bytes: short.bytes,
+                }),
             }),
             Kept::There(long) => {
                 let long = long.clone()?;

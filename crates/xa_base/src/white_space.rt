@@ -139,14 +139,21 @@ fn is_collapsed(bytes: &[u8]) -> bool
 }
 
 /// Whether its treatment leaves the text as it is. It allocates nothing.
-#[tactic(auto, unfolding(crate::specs::WhiteSpace::treated))]
 pub fn is_treated(how: WhiteSpace, text: &Text) -> bool
+    ensures { IsTrue result ↔ IsTreated how text.now }
+{
+    is_str_treated(how, text.as_str())
+}
+
+/// The same of a text as the language has it.
+#[tactic(auto, unfolding(crate::specs::WhiteSpace::treated))]
+pub fn is_str_treated(how: WhiteSpace, text: &str) -> bool
     ensures { IsTrue result ↔ IsTreated how text.now }
 {
     match how {
         WhiteSpace::Preserve => true,
-        WhiteSpace::Replace => first_replaced(text.bytes()).is_none(),
-        WhiteSpace::Collapse => is_collapsed(text.bytes()),
+        WhiteSpace::Replace => first_replaced(text.as_bytes()).is_none(),
+        WhiteSpace::Collapse => is_collapsed(text.as_bytes()),
     }
 }
 

@@ -147,7 +147,6 @@ pub(crate) fn walk_nothing(
 
 /// A text alone stands in the element. Its value is that of a part.
 pub(crate) fn walk_text(
-    alloc: Global,
     simple: &Simple,
     at: u64,
     kids: &ItemKids<'_>,
@@ -160,7 +159,7 @@ pub(crate) fn walk_text(
         (Tells (TextFault (space_of simple.now) (roses_of kids.now) at)) }
 {
     values.part(true)?;
-    put_text(alloc, simple, at, kids, values)
+    put_text(simple, at, kids, values)
 }
 
 // The value of an element that is nil, which has no kids.

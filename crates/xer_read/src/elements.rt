@@ -109,7 +109,7 @@ fn walk_kid<L: Ledger>(
         } => match open_way(model, matcher, way, name, at, values, steps) {
             Err(error) => Err(error),
             Ok(leaf) => match plain_text(set, leaf.decl, attributes, kid) {
-                Some((simple, text)) => put_words(plans.alloc(), simple, at, &text, values),
+                Some((simple, text)) => put_words(simple, at, &text, values),
                 None => match plain_model(set, leaf.decl, attributes) {
                     Some(inside) => {
                         let kids = kid.kids();
@@ -299,7 +299,7 @@ fn walk_inside<L: Ledger>(
 {
     match inside {
         Inside::Nothing => walk_nothing(nillable, kids, values),
-        Inside::Simple(simple) => walk_text(plans.alloc(), simple, at, kids, values),
+        Inside::Simple(simple) => walk_text(simple, at, kids, values),
         Inside::Children {
             mixed,
             complex,
@@ -560,7 +560,7 @@ fn walk_filled<L: Ledger>(
     ensures later { steps.old ≤ steps.new }
 {
     match plain_type(set, decl, declared.inside) {
-        Some(simple) => put_text(plans.alloc(), simple, at, kids, values),
+        Some(simple) => put_text(simple, at, kids, values),
         None => match any_order(declared.inside) {
             Some(inside) => walk_ordered(
                 set, plans, declared, attributes, inside, at, kids, values, steps,

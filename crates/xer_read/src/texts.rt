@@ -15,7 +15,6 @@ ghost use Rattle.xer_read.specs.Private.Given.{IsReadAs};
 use item_tree::{Characters, ItemKids};
 use simple_types::Simple;
 use simple_values::SimpleError;
-use std::alloc::Global;
 use validity::InvalidWhy;
 use validity_check::{CheckError, only_text};
 use value_builder::ValueBuilder;
@@ -23,7 +22,6 @@ use value_builder::ValueBuilder;
 /// The value that the simple type gives to the characters of an element at this place.
 #[inline(always)]
 pub(crate) fn put_words(
-    alloc: Global,
     simple: &Simple,
     at: u64,
     characters: &Characters<'_>,
@@ -34,8 +32,7 @@ pub(crate) fn put_words(
         (λ _. (value : Rose ValueLabel) × IsReadAs (space_of simple.now) ts value × Puts (added value) values.old values.new)
         (Tells (TextFault (space_of simple.now) ts at)) }
 {
-    let text = characters.to_text(alloc)?;
-    match values.text(simple, &text) {
+    match values.characters(simple, characters) {
         Ok(()) => Ok(()),
         Err(SimpleError::BadText) => Err(CheckError::Invalid {
             at,
@@ -51,7 +48,6 @@ pub(crate) fn put_words(
 
 /// The same of an element that has these kids.
 pub(crate) fn put_text(
-    alloc: Global,
     simple: &Simple,
     at: u64,
     kids: &ItemKids<'_>,
@@ -64,5 +60,5 @@ pub(crate) fn put_text(
         (Tells (TextFault (space_of simple.now) (roses_of kids.now) at)) }
 {
     let characters = only_text(kids.again())?;
-    put_words(alloc, simple, at, &characters, values)
+    put_words(simple, at, &characters, values)
 }
