@@ -3,7 +3,7 @@
 
 - README.md has less than 12 KB, each file that a page names is there, and so is each name of the code.
 - docs/REASONS.md has each reason of the program, from A to Z, and no other; each is told by a row of crates/transcode_rows.
-- crates/complaints/src/words.rt, the words of bin/ruvkhiska, says of each reason what docs/REASONS.md does, and the page has all its
+- crates/people_complaints/src/words.rt, the words of bin/ruvkhiska, says of each reason what docs/REASONS.md does, and the page has all its
   words.
 - Each command of a page, a line `$ ...` with `bin/ruvkhiska` or `bin/transcode` in it, answers what the page says.
 - The recipes of docs/CONTENT-MODELS.md: the first model is refused as NotClear, the second is taken, and takes the same documents,
@@ -30,14 +30,14 @@ PEOPLE = os.path.abspath(os.environ.get("PEOPLE", os.path.join(HERE, "bin/ruvkhi
 XSD = '<xs:schema xmlns:xs="http://www.w3.org/2001/XMLSchema">%s</xs:schema>'
 # The reasons: the table as it is told, the file, the enum.
 TABLES = {
-    "syntax": ("crates/doc_text/src/error.rt", "DocWhy"),
-    "schema": ("crates/schema_rules/src/why.rt", "SchemaWhy"),
+    "syntax": ("crates/xml_read/src/error.rt", "DocWhy"),
+    "schema": ("crates/schema_syntax/src/why.rt", "SchemaWhy"),
     "link": ("crates/link_names/src/faults.rt", "LinkWhy"),
-    "link: Facet": ("crates/facet_rules/src/refusals.rt", "FacetWhy"),
-    "invalid": ("crates/validity/src/why.rt", "InvalidWhy"),
+    "link: Facet": ("crates/simple_facets/src/refusals.rt", "FacetWhy"),
+    "invalid": ("crates/validity_rules/src/why.rt", "InvalidWhy"),
     "per": ("crates/per_fields/src/stops.rt", "Why"),
     "der": ("crates/der_fields/src/stops.rt", "Why"),
-    "module": ("crates/module_faults/src/reasons.rt", "ModuleWhy"),
+    "module": ("crates/module_text/src/reasons.rt", "ModuleWhy"),
 }
 # Enums of reasons that are passed on under the names of the others.
 PASSED_ON = {"NoneWhy"}
@@ -163,7 +163,7 @@ def try_words(docs):
         if len(cells) == 8 and cells[1] not in ("Reason", "---"):
             for table in re.split(r", ", cells[2]):
                 said[table, cells[1]] = cells[3].replace("`", ""), cells[5].replace("`", "")
-    words = text_of("crates/complaints/src/words.rt")
+    words = text_of("crates/people_complaints/src/words.rt")
     for table, function in WORDS.items():
         body = words[words.index(f"pub fn {function}(") :]
         body = body[: body.index("\n}\n")]

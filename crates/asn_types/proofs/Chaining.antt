@@ -1,8 +1,8 @@
 -- References on the way down a type, and the types that they lead to.
 use Rattle.std.proofs.Common.{◌≡◌, ℕ, zero, suc, ◌+◌, ◌<◌, Bool, true, false, Option, Some, None, List, [], ◌∷◌, length, All, refl, sym, ap, subst, ◌∙◌, inl, inr, arith}
 use Rattle.std.specs.Prelude.{slice_get, option_and_then, IfSome, MatchBool}
-use Rattle.label_tree.specs.Rose.{Rose, node, Roses, none, more, list_of, label_of, kids_of, Allowed, AllowedAll}
-use Rattle.label_tree.proofs.Roses.{length-list_of}
+use Rattle.base_trees.specs.Rose.{Rose, node, Roses, none, more, list_of, label_of, kids_of, Allowed, AllowedAll}
+use Rattle.base_trees.proofs.Roses.{length-list_of}
 use Rattle.std.proofs.lemmas.List.Elements.{All-head, All-tail}
 use Rattle.asn_types.specs.declared.types.Component.{Component}
 use Rattle.asn_types.specs.declared.types.Form.{Form}

@@ -1,7 +1,7 @@
 -- The simple type that is mapped to a type, from those of its parts.
 use Rattle.std.proofs.Common.{◌≡◌, ℕ, ◌<◌, Option, List, [], ◌∷◌, ◌++◌, length, refl, sym, ◌∙◌, ap, arith}
-use Rattle.label_tree.specs.Rose.{Rose, node, label_of, kids_of, roses_of}
-use Rattle.label_tree.proofs.Roses.{roses_of-list_of}
+use Rattle.base_trees.specs.Rose.{Rose, node, label_of, kids_of, roses_of}
+use Rattle.base_trees.proofs.Roses.{roses_of-list_of}
 use Rattle.simple_types.specs.declared.simples.Simple.{Simple}
 use Rattle.simple_types.specs.declared.simples.Simple.TheVariants.{Bool}
 use Rattle.simple_types.specs.Joining.{joined}

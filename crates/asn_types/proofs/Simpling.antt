@@ -1,9 +1,9 @@
 -- The simple types of lists and unions.
 use Rattle.std.proofs.Common.{◌≡◌, ℕ, zero, suc, ◌<◌, true, false, Option, Some, None, List, [], ◌∷◌, ◌++◌, length, get_or, refl, sym, ap, subst, arith}
 use Rattle.std.specs.Prelude.{slice_get}
-use Rattle.label_tree.specs.Rose.{Rose, node, Roses, roses_of, list_of, kids_of, label_of}
-use Rattle.label_tree.specs.Rose as rose
-use Rattle.label_tree.proofs.Roses.{roses_of-list_of}
+use Rattle.base_trees.specs.Rose.{Rose, node, Roses, roses_of, list_of, kids_of, label_of}
+use Rattle.base_trees.specs.Rose as rose
+use Rattle.base_trees.proofs.Roses.{roses_of-list_of}
 use Rattle.simple_types.specs.declared.simples.Simple.{Simple}
 use Rattle.simple_types.specs.Space.{Space, Spaces, none, more, ListOf, UnionOf, count_members}
 use Rattle.simple_types.specs.Seen.{space_of, spaces_in}

@@ -1,7 +1,7 @@
 -- The widths that bounds and numbers have in each module: whole numbers are of 128 bits, and sizes of 32.
 use Rattle.std.specs.Prelude.{◌≡◌, ◌<◌, ◌^◌, ℕ, ℤ, true, Option, Some, None, List, All}
-use Rattle.label_tree.specs.Rose.{Rose, node, Roses, none, more}
-use Rattle.simple_values.specs.Lexical.{is_128_bits}
+use Rattle.base_trees.specs.Rose.{Rose, node, Roses, none, more}
+use Rattle.simple_types.specs.Lexical.{is_128_bits}
 use Rattle.asn_types.specs.declared.modules.Assignment.{Assignment}
 use Rattle.asn_types.specs.declared.types.Form.{Form}
 use Rattle.asn_types.specs.declared.types.Form.TheVariants as form

@@ -1,7 +1,7 @@
 -- What code needs that goes down types without a value, as a decoder does: it has only so many elements, references and
 -- kids before it.
 use Rattle.std.specs.Prelude.{◌≡◌, ℕ, suc, false, Some, None, List, length, slice_get}
-use Rattle.label_tree.specs.Rose.{Rose, node, Roses, list_of, label_of, kids_of}
+use Rattle.base_trees.specs.Rose.{Rose, node, Roses, list_of, label_of, kids_of}
 use Rattle.asn_types.specs.declared.types.Component.{Component}
 use Rattle.asn_types.specs.declared.types.TypeLabel.{TypeLabel}
 use Rattle.asn_types.specs.declared.modules.Assignment.{Assignment}

@@ -1,8 +1,8 @@
 -- Encoding instructions.
 use Rattle.std.specs.Prelude.{Bool, true, false, List, [], ◌∷◌}
 use Rattle.std.specs.List.{list_any}
-use Rattle.xa_base.specs.declared.white_space.WhiteSpace.{WhiteSpace}
-use Rattle.xa_base.specs.declared.white_space.WhiteSpace.TheVariants.{Preserve}
+use Rattle.base_texts.specs.declared.white_space.WhiteSpace.{WhiteSpace}
+use Rattle.base_texts.specs.declared.white_space.WhiteSpace.TheVariants.{Preserve}
 use Rattle.asn_types.specs.declared.marks.Instruction.{Instruction}
 use Rattle.asn_types.specs.declared.marks.Instruction.TheVariants as mark
 

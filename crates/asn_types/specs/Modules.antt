@@ -5,14 +5,14 @@ use Rattle.std.specs.List.{IsDistinct}
 use Rattle.std.specs.List.Sorted.{IsStrictlySortedBy}
 use Rattle.std.specs.Ordering.{nat_cmp, int_cmp}
 use Rattle.std.specs.Cmp.Lexicographic.{slice_cmp}
-use Rattle.label_tree.specs.Rose.{Rose, node, Roses, none, more, label_of, list_of, Allowed}
+use Rattle.base_trees.specs.Rose.{Rose, node, Roses, none, more, label_of, list_of, Allowed}
 use Rattle.simple_types.specs.declared.simples.Class.TheVariants.{Any}
 use Rattle.simple_types.specs.declared.labels.ValueLabel.{ValueLabel}
 use Rattle.simple_types.specs.declared.standards.Standard.TheVariants.{Free, Default, Fixed}
 use Rattle.simple_types.specs.Sound.{Sound, IsCounted, AreBounds, AreSizes}
 use Rattle.simple_types.specs.Space.{Space}
-use Rattle.simple_values.specs.Reading.{Holds, spelled}
-use Rattle.xa_base.specs.Limits.{is_empty}
+use Rattle.simple_types.specs.Reading.{Holds, spelled}
+use Rattle.base_texts.specs.Limits.{is_empty}
 use Rattle.asn_types.specs.declared.marks.Instruction.{Instruction}
 use Rattle.asn_types.specs.declared.roles.Role.{Role}
 use Rattle.asn_types.specs.declared.roles.Role.TheVariants.{Group, Order}

@@ -1,6 +1,6 @@
 -- What stands in a type.
 use Rattle.std.specs.Prelude.{◌≡◌, ℕ, Some, List, [], ◌∷◌, length, slice_get}
-use Rattle.label_tree.specs.Rose.{Rose, Roses, list_of}
+use Rattle.base_trees.specs.Rose.{Rose, Roses, list_of}
 use Rattle.asn_types.specs.declared.types.Component.{Component}
 use Rattle.asn_types.specs.declared.types.Form.{Form}
 use Rattle.asn_types.specs.declared.types.Form.TheVariants as form

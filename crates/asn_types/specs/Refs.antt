@@ -1,7 +1,7 @@
 -- Types that refer to one another by the numbers of their assignments.
 use Rattle.std.specs.Prelude.{◌≡◌, ℕ, zero, suc, ◌+◌, Bool, true, false, Option, Some, None, List, [], ◌∷◌, slice_get, option_and_then, ◌⊎◌, IfSome, MatchBool}
 use Rattle.std.specs.Option.{option_map}
-use Rattle.label_tree.specs.Rose.{Rose, node, Roses, none, more, label_of}
+use Rattle.base_trees.specs.Rose.{Rose, node, Roses, none, more, label_of}
 use Rattle.asn_types.specs.declared.roles.Role.{Role}
 use Rattle.asn_types.specs.declared.roles.Role.TheVariants.{Element}
 use Rattle.asn_types.specs.declared.types.Component.{Component}

@@ -1,6 +1,6 @@
 -- What a part of a type stands for in a document, by the encoding instructions of X.693.
 use Rattle.std.specs.Prelude.{ℕ, ◌+◌, ◌==◌, ◌&&◌, Bool, false, ℤ, List, Option, Some, None, length, if◌then◌else◌}
-use Rattle.xa_base.specs.Limits.{is_empty}
+use Rattle.base_texts.specs.Limits.{is_empty}
 use Rattle.asn_types.specs.declared.marks.Instruction.{Instruction}
 use Rattle.asn_types.specs.declared.roles.Role.{Role}
 use Rattle.asn_types.specs.declared.roles.Role.TheVariants.{Attribute, Element, Group, Content, Embed, Order, Item, Alternative}

@@ -1,9 +1,9 @@
 -- The types that stand for simple types (X.694, clauses 11 to 13). Identifiers, NAME and TEXT count for nothing in this.
 use Rattle.std.specs.Prelude.{◌≡◌, ℕ, Bool, true, false, List, [], ◌∷◌, filter}
-use Rattle.label_tree.specs.Rose.{Rose, node, Roses}
-use Rattle.label_tree.specs.Rose as rose
-use Rattle.xa_base.specs.declared.white_space.WhiteSpace.{WhiteSpace}
-use Rattle.xa_base.specs.declared.white_space.WhiteSpace.TheVariants.{Preserve, Replace, Collapse}
+use Rattle.base_trees.specs.Rose.{Rose, node, Roses}
+use Rattle.base_trees.specs.Rose as rose
+use Rattle.base_texts.specs.declared.white_space.WhiteSpace.{WhiteSpace}
+use Rattle.base_texts.specs.declared.white_space.WhiteSpace.TheVariants.{Preserve, Replace, Collapse}
 use Rattle.simple_types.specs.Space.{Space, Spaces, none, more, Booleans, Wholes, Numbers, Words, Characters, ListOf, UnionOf}
 use Rattle.simple_types.specs.Sound.{Sound}
 use Rattle.asn_types.specs.declared.marks.Instruction.{Instruction}

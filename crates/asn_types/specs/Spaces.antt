@@ -1,10 +1,10 @@
 -- The simple type for which a type stands, told by its form and its WHITESPACE (X.694, clauses 11 to 13).
 use Rattle.std.specs.Prelude.{ℕ, List}
-use Rattle.label_tree.specs.Rose.{Rose, node, Roses}
-use Rattle.label_tree.specs.Rose as rose
+use Rattle.base_trees.specs.Rose.{Rose, node, Roses}
+use Rattle.base_trees.specs.Rose as rose
 use Rattle.simple_types.specs.Space.{Space, Spaces, none, more, Booleans, Wholes, Numbers, Words, Characters, ListOf, UnionOf}
 use Rattle.simple_types.specs.declared.labels.ValueLabel.{ValueLabel}
-use Rattle.simple_values.specs.Reading.{spelled}
+use Rattle.simple_types.specs.Reading.{spelled}
 use Rattle.asn_types.specs.declared.modules.Assignment.{Assignment}
 use Rattle.asn_types.specs.declared.types.Form.TheVariants as form
 use Rattle.asn_types.specs.declared.types.TypeLabel.{TypeLabel}

@@ -1,13 +1,13 @@
 //! Whole numbers of types have 128 bits, and their sizes 32: the fields' types say so, and here it becomes a fact on
 //! modules.
 ghost use Rattle.std.specs.Prelude.{◌≡◌, true};
-ghost use Rattle.label_tree.specs.Rose.{roses_of};
-ghost use Rattle.simple_values.specs.Lexical.{is_128_bits};
+ghost use Rattle.base_trees.specs.Rose.{roses_of};
+ghost use Rattle.simple_types.specs.Lexical.{is_128_bits};
 ghost use Rattle.asn_types.specs.Bounds.{IsBound, AreWhole, IsSize, HasBounds, AreBounded, AllBounded, IsBounded};
 
 use crate::modules::Assignment;
 use crate::types::{Form, TypeLabel};
-use label_tree::Tree;
+use base_trees::Tree;
 
 fn see_bound(bound: Option<i128>)
     ensures { IsBound bound }

@@ -1,4 +1,4 @@
-//! ASN.1 types with their encoding instructions, and modules of them.
+//! Defines ASN.1 types with their encoding instructions, and modules of them.
 //!
 //! Read first: docs/VALUES.md, `specs/Modules` (`IsModule`) and `Roles`, then `src/types.rt`.
 #![tactic(auto)]

@@ -6,9 +6,9 @@ ghost use Rattle.asn_types.specs.Simples.{counting, white_space_marks};
 ghost use Rattle.asn_types.specs.Private.Telling as telling;
 
 use crate::said::Said;
+use base_texts::{Memory, Text, WhiteSpace};
 use std::alloc::Global;
 use std::marker::Model;
-use xa_base::{Memory, Text, WhiteSpace};
 
 /// An encoding instruction of EXTENDED-XER (X.693), which stands as a prefix of a type, a component or an assignment.
 #[derive(Drop)]

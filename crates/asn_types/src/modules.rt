@@ -7,9 +7,9 @@ ghost use Rattle.asn_types.specs.Refs.{body_at};
 use crate::bounds::see_assignments;
 use crate::marks::Marks;
 use crate::types::TypeLabel;
-use label_tree::{Tree, Whole};
+use base_texts::Text;
+use base_trees::{Tree, Whole};
 use std::marker::Model;
-use xa_base::Text;
 
 /// A type with a name.
 #[derive(Drop)]

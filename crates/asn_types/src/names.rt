@@ -6,8 +6,8 @@ ghost use Rattle.asn_types.specs.Private.Saying.{name_in, space_in};
 use crate::marks::{Instruction, Marks};
 use crate::modules::Assignment;
 use crate::types::Component;
+use base_texts::{Memory, Name, Text};
 use std::alloc::Global;
-use xa_base::{Memory, Name, Text};
 
 impl Instruction {
     // What it says as a NAME. Another instruction says nothing against the generated name.

@@ -4,7 +4,7 @@ ghost use Rattle.asn_types.specs.Refs as refs;
 
 use crate::modules::Module;
 use crate::types::{Form, TypeLabel};
-use label_tree::Tree;
+use base_trees::Tree;
 
 /// The type to which the reference leads, in one step. None where the type is no reference.
 #[inline(always)]

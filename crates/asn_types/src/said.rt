@@ -3,7 +3,7 @@ ghost use Rattle.std.specs.Prelude.{◌≡◌};
 ghost use Rattle.asn_types.specs.Private.Saying as saying;
 
 use crate::marks::Instruction;
-use xa_base::WhiteSpace;
+use base_texts::WhiteSpace;
 
 /// What stands among encoding instructions.
 #[derive(Drop)]

@@ -1,6 +1,6 @@
 //! The simple types that types stand for.
 ghost use Rattle.std.specs.Prelude.{◌≡◌, ◌↔◌, IfOk, IsTrue, MatchOption};
-ghost use Rattle.label_tree.specs.Rose.{node, label_of, roses_of, Roses};
+ghost use Rattle.base_trees.specs.Rose.{node, label_of, roses_of, Roses};
 ghost use Rattle.simple_types.specs.Space.{Spaces};
 ghost use Rattle.simple_types.specs.Seen.{space_of, spaces_in};
 ghost use Rattle.simple_types.specs.Sound.{IsWord, AreWords, Sound, AreSound, is_union, has_list, have_list};
@@ -14,14 +14,13 @@ ghost use Rattle.asn_types.specs.Private.Telling.{Finds, IsLeaf, IsFormOfWords, 
 use crate::modules::Module;
 use crate::resolving::resolve;
 use crate::types::{Component, Form, TypeLabel};
-use label_tree::Tree;
-use simple_types::{Class, Simple, SimpleList, TextList};
-use simple_values::has_characters;
+use base_texts::{Memory, Text, WhiteSpace, is_treated};
+use base_trees::Tree;
+use simple_types::{Class, Simple, SimpleList, TextList, has_characters};
 use std::alloc::Global;
-use xa_base::{Memory, Text, WhiteSpace, is_treated};
 
 // Whether the word has XML characters alone and is left as it is by the treatment.
-#[tactic(auto, unfolding(simple_values::specs::Lexical::in_class))]
+#[tactic(auto, unfolding(simple_types::specs::Lexical::in_class))]
 fn is_word(how: WhiteSpace, word: &Text) -> bool
     ensures { IsTrue result ↔ IsWord how word.now }
 {

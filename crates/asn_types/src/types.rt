@@ -3,11 +3,11 @@ ghost use Rattle.std.specs.Prelude.{◌≡◌, IfOk, length};
 ghost use Rattle.asn_types.specs.Parts.{MayHave, parts_of};
 
 use crate::marks::Marks;
-use label_tree::Shape;
+use base_texts::{Memory, Text};
+use base_trees::Shape;
 use simple_types::{Class, NumberList, Standard, TextList};
 use std::alloc::Global;
 use std::marker::Model;
-use xa_base::{Memory, Text};
 
 /// A component of a SEQUENCE, an alternative of a CHOICE or the item of a SEQUENCE OF, but for its type.
 #[derive(Drop)]

@@ -1,7 +1,7 @@
 -- The types where the kids of a value stand are of the module.
 use Rattle.std.proofs.Common.{◌≡◌, ℕ, zero, suc, ◌+◌, ◌<◌, Bool, true, false, cond, Option, Some, None, List, [], ◌∷◌, length, get_or, refl, subst, arith}
 use Rattle.std.specs.Prelude.{slice_get, replicate}
-use Rattle.label_tree.specs.Rose.{Rose, kids_of, label_of}
+use Rattle.base_trees.specs.Rose.{Rose, kids_of, label_of}
 use Rattle.simple_types.specs.declared.labels.ValueLabel.{ValueLabel}
 use Rattle.simple_types.specs.declared.labels.ValueLabel.TheVariants as value
 use Rattle.asn_types.specs.declared.modules.Assignment.{Assignment}

@@ -2,8 +2,8 @@
 use Rattle.std.proofs.Common.{◌≡◌, ℕ, zero, suc, ◌+◌, ◌-◌, ◌^◌, ◌<◌, ◌≤◌, min, Option, Some, None, Result, Ok, Err, List, [], ◌∷◌, length, get_or, drop, refl, sym, ◌∙◌, ap, subst, arith}
 use Rattle.std.specs.Prelude.{map, replicate, IfOk}
 use Rattle.std.proofs.lemmas.List.{drop_more}
-use Rattle.label_tree.specs.Rose.{Rose, node, Roses, none, more, roses_of, list_of, label_of, kids_of, length_all}
-use Rattle.label_tree.proofs.Roses.{roses_of-list_of, length-list_of}
+use Rattle.base_trees.specs.Rose.{Rose, node, Roses, none, more, roses_of, list_of, label_of, kids_of, length_all}
+use Rattle.base_trees.proofs.Roses.{roses_of-list_of, length-list_of}
 use Rattle.simple_types.specs.declared.labels.ValueLabel.{ValueLabel}
 use Rattle.asn_types.specs.declared.modules.Assignment.{Assignment}
 use Rattle.asn_values.specs.declared.places.ComponentPlace as code

@@ -1,7 +1,7 @@
 -- The rule of a node, by the form of its type.
 use Rattle.std.proofs.Common.{◌≡◌, ℕ, Bool, true, false, ◌||◌, Option, List, sym, ap, ◌∙◌, subst, refl}
 use Rattle.std.specs.Prelude.{◌↔◌, MatchBool}
-use Rattle.label_tree.specs.Rose.{Rose, node, label_of}
+use Rattle.base_trees.specs.Rose.{Rose, node, label_of}
 use Rattle.simple_types.specs.declared.labels.ValueLabel.{ValueLabel}
 use Rattle.asn_types.specs.declared.types.Component.{Component}
 use Rattle.asn_types.specs.declared.types.Form.TheVariants as form

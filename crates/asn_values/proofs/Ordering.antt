@@ -3,8 +3,8 @@ use Rattle.std.proofs.Common.{◌≡◌, ℕ, zero, suc, ◌+◌, ◌-◌, ◌<�
 use Rattle.std.specs.Prelude.{map, slice_get, slice_set}
 use Rattle.std.specs.Option.{option_map}
 use Rattle.std.proofs.lemmas.List.{drop_more, append-nil}
-use Rattle.label_tree.specs.Rose.{Rose, roses_of, list_of, label_of, kids_of}
-use Rattle.label_tree.proofs.Roses.{list_of-roses_of}
+use Rattle.base_trees.specs.Rose.{Rose, roses_of, list_of, label_of, kids_of}
+use Rattle.base_trees.proofs.Roses.{list_of-roses_of}
 use Rattle.simple_types.specs.declared.labels.ValueLabel.{ValueLabel}
 use Rattle.asn_types.specs.declared.modules.Assignment.{Assignment}
 use Rattle.asn_types.specs.declared.types.Component.{Component}

@@ -1,7 +1,7 @@
 -- The places of a value's kids, one after the other.
 use Rattle.std.proofs.Common.{◌≡◌, ℕ, suc, ◌+◌, ◌<◌, ◌≤◌, Bool, true, false, cond, Option, Some, None, List, [], ◌∷◌, ◌++◌, length, get_or, drop, refl, sym, ◌∙◌, ap, arith, append_assoc}
 use Rattle.std.proofs.lemmas.List.{drop_more}
-use Rattle.label_tree.specs.Rose.{Rose}
+use Rattle.base_trees.specs.Rose.{Rose}
 use Rattle.asn_types.specs.declared.types.Component.{Component}
 use Rattle.asn_types.specs.declared.types.TypeLabel.{TypeLabel}
 use Rattle.asn_values.specs.Values.{ComponentPlace, place_of, put_first, present_from}

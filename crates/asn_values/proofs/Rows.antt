@@ -1,8 +1,8 @@
 -- Types and values written out: what the definitions say of each computes.
 use Rattle.std.proofs.Common.{◌≡◌, ℕ, Bool, true, false, pos, negsuc, Some, None, List, [], ◌∷◌, refl, arith, codes}
 use Rattle.std.specs.Prelude.{map}
-use Rattle.label_tree.specs.Rose.{Rose, node, none as no_kids, more as with_kid, roses_of}
-use Rattle.xa_base.specs.declared.white_space.WhiteSpace.TheVariants.{Collapse}
+use Rattle.base_trees.specs.Rose.{Rose, node, none as no_kids, more as with_kid, roses_of}
+use Rattle.base_texts.specs.declared.white_space.WhiteSpace.TheVariants.{Collapse}
 use Rattle.simple_types.specs.declared.simples.Class.TheVariants.{Any}
 use Rattle.simple_types.specs.Space.{Space, none, more, Wholes, Words, Characters, UnionOf}
 use Rattle.simple_types.specs.declared.labels.ValueLabel.{ValueLabel}
@@ -17,7 +17,7 @@ use Rattle.asn_types.specs.declared.types.Form.TheVariants as form
 use Rattle.asn_types.specs.declared.types.TypeLabel.{TypeLabel}
 use Rattle.asn_types.specs.Refs.{follow}
 use Rattle.asn_types.specs.Simples.{MapsTo}
-use Rattle.simple_values.specs.Reading.{spelled}
+use Rattle.simple_types.specs.Reading.{spelled}
 use Rattle.asn_values.specs.Values.{child_count, count_in, HasTextCount, HasOrder, Kept}
 use Rattle.asn_values.proofs.JustSet.{just_set}
 

@@ -2,11 +2,11 @@
 use Rattle.std.proofs.Common.{◌≡◌, ℕ, zero, suc, ◌<◌, ◌≤◌, Option, Some, None, List, [], ◌∷◌, length, refl, sym, ◌∙◌, ap, subst, arith}
 use Rattle.std.specs.Prelude.{slice_get, map}
 use Rattle.std.specs.List.{join_with_byte}
-use Rattle.label_tree.specs.Rose.{Rose, node, roses_of, label_of, kids_of, node_count, count_all, Allowed, AllowedAll}
-use Rattle.label_tree.proofs.Roses.{roses_of-list_of, allowed-label}
+use Rattle.base_trees.specs.Rose.{Rose, node, roses_of, label_of, kids_of, node_count, count_all, Allowed, AllowedAll}
+use Rattle.base_trees.proofs.Roses.{roses_of-list_of, allowed-label}
 use Rattle.simple_types.specs.declared.labels.ValueLabel.{ValueLabel}
 use Rattle.simple_types.specs.Space.{Space, Booleans, Wholes, Numbers, Words, Characters, ListOf, UnionOf}
-use Rattle.simple_values.specs.Reading.{spelled, spelled_by, spelled_boolean, spelled_whole, spelled_number, spelled_word, spelled_text, choice_at, spelled_choice}
+use Rattle.simple_types.specs.Reading.{spelled, spelled_by, spelled_boolean, spelled_whole, spelled_number, spelled_word, spelled_text, choice_at, spelled_choice}
 use Rattle.asn_types.specs.declared.types.Component.{Component}
 use Rattle.asn_types.specs.declared.types.Form.{Form}
 use Rattle.asn_types.specs.declared.types.Form.TheVariants as form

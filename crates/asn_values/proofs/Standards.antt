@@ -2,8 +2,8 @@
 use Rattle.std.proofs.Common.{◌≡◌, ℕ, zero, suc, true, Option, Some, List, [], ◌∷◌, All, sym, subst}
 use Rattle.std.specs.Prelude.{slice_get}
 use Rattle.std.proofs.lemmas.List.Elements.{All-head, All-tail}
-use Rattle.label_tree.specs.Rose.{Rose, node, label_of, kids_of, roses_of}
-use Rattle.label_tree.proofs.Roses.{roses_of-list_of}
+use Rattle.base_trees.specs.Rose.{Rose, node, label_of, kids_of, roses_of}
+use Rattle.base_trees.proofs.Roses.{roses_of-list_of}
 use Rattle.simple_types.specs.declared.labels.ValueLabel.{ValueLabel}
 use Rattle.simple_types.specs.declared.standards.Standard.{Standard}
 use Rattle.simple_types.specs.declared.standards.Standard.TheVariants.{Free}

@@ -2,10 +2,10 @@
 use Rattle.std.specs.Prelude.{◌≡◌, ◌↔◌, ◌==◌, ℕ, suc, ◌+◌, ◌-◌, ◌≤◌, ◌&&◌, ◌||◌, Bool, true, false, not, nat_lt, nat_le, Option, Some, None, List, [], ◌∷◌, length, map, slice_get, replicate, if◌then◌else◌, MatchBool, IsUtf8}
 use Rattle.std.specs.List.{Contains, IsDistinct}
 use Rattle.std.specs.Option.{option_map}
-use Rattle.label_tree.specs.Rose.{Rose, node, Roses, none, more, label_of, kids_of, roses_of, length_all, node_count}
-use Rattle.xa_base.specs.WhiteSpace.{IsTreated}
-use Rattle.simple_values.specs.Lexical.{is_128_bits, is_from, is_to, is_at_most}
-use Rattle.simple_values.specs.Reading.{has_characters, Holds}
+use Rattle.base_trees.specs.Rose.{Rose, node, Roses, none, more, label_of, kids_of, roses_of, length_all, node_count}
+use Rattle.base_texts.specs.WhiteSpace.{IsTreated}
+use Rattle.simple_types.specs.Lexical.{is_128_bits, is_from, is_to, is_at_most}
+use Rattle.simple_types.specs.Reading.{has_characters, Holds}
 use Rattle.simple_types.specs.Sound.{Sound}
 use Rattle.simple_types.specs.Space.{Space}
 use Rattle.simple_types.specs.declared.standards.Standard.TheVariants.{Free, Default, Fixed}

@@ -6,11 +6,11 @@ ghost use Rattle.asn_values.specs.Values as rule;
 
 use crate::spellings::spelling;
 use asn_types::{Component, Module, TypeLabel, resolve};
-use flat_tree::Node;
-use label_tree::Tree;
+use base_flat_trees::Node;
+use base_texts::{Memory, Text};
+use base_trees::Tree;
 use simple_types::{Standard, ValueLabel};
 use std::alloc::Global;
-use xa_base::{Memory, Text};
 
 // Whether the canonical spelling of a value is this text.
 fn has_spelling(

@@ -1,4 +1,4 @@
-//! What is a value of an ASN.1 type, and the rules that keep out values that no document has.
+//! Defines the values of an ASN.1 type, and the rules that exclude values that no document has.
 //!
 //! Read first: docs/VALUES.md, `specs/Values` (`Own`, `Kept`, `Fits`, `In`), then `src/values.rt`.
 #![tactic(auto)]

@@ -1,7 +1,7 @@
 //! The order of the child elements of a USE-ORDER type (X.693).
 ghost use Rattle.std.specs.Prelude.{◌≡◌, ◌↔◌, [], Some, None, IfOk, IsTrue, MatchOption, map, not};
 ghost use Rattle.std.specs.List.{list_any};
-ghost use Rattle.label_tree.specs.Rose.{label_of, kids_of, roses_of};
+ghost use Rattle.base_trees.specs.Rose.{label_of, kids_of, roses_of};
 ghost use Rattle.asn_types.specs.Modules.{HasOrderPart, IsSequence, ordered};
 ghost use Rattle.asn_types.specs.Parts.{parts_of};
 ghost use Rattle.asn_types.specs.Refs as refs;
@@ -12,12 +12,12 @@ ghost use Rattle.asn_values.specs.Values as rule;
 use crate::places::{ComponentPlace, present_places};
 use crate::rules::is_last_absent;
 use asn_types::{Component, Form, Module, Role, TypeLabel, resolve};
-use flat_tree::{Kids, Node};
-use label_tree::Tree;
+use base_flat_trees::{Kids, Node};
+use base_texts::Memory;
+use base_trees::Tree;
 use simple_types::ValueLabel;
 use std::alloc::Global;
 use std::iter::Iterator;
-use xa_base::Memory;
 
 // The type whose elements are in an order: of a USE-NIL type its content, of each other type the type itself.
 fn ordered_type<'a>(module: &'a Module, node: &'a Tree<TypeLabel>) -> Option<&'a TypeLabel>

@@ -1,16 +1,15 @@
 //! The places of a value's kids in its type.
 ghost use Rattle.std.specs.Prelude.{◌≡◌, ◌<◌, ◌∷◌, [], ℕ, ◌&&◌, IfOk, MatchOption, Some, None, length, map, slice_get};
-ghost use Rattle.simple_values.specs.Lexical.{is_128_bits, is_from, is_to};
+ghost use Rattle.simple_types.specs.Lexical.{is_128_bits, is_from, is_to};
 ghost use Rattle.asn_types.specs.Parts.{parts_of};
 ghost use Rattle.asn_values.specs.Private.Placing.{place_seen, Found};
 ghost use Rattle.asn_values.specs.Values as rule;
 
 use asn_types::{Component, Form, Role, TypeLabel};
-use label_tree::Tree;
-use simple_types::ValueLabel;
-use simple_values::is_at_most;
+use base_texts::Memory;
+use base_trees::Tree;
+use simple_types::{ValueLabel, is_at_most};
 use std::alloc::Global;
-use xa_base::Memory;
 
 /// Where a kid of a value stands: the part, its role, and its type.
 #[derive(Drop)]

@@ -1,6 +1,6 @@
 //! The rules of one node of a value.
 ghost use Rattle.std.specs.Prelude.{◌≡◌, ◌-◌, ◌^◌, ◌↔◌, min, map, replicate, length, IfOk, IsTrue};
-ghost use Rattle.label_tree.specs.Rose.{label_of, kids_of, roses_of};
+ghost use Rattle.base_trees.specs.Rose.{label_of, kids_of, roses_of};
 ghost use Rattle.asn_types.specs.Modules.{AreWellFormed};
 ghost use Rattle.asn_values.specs.Private.Judging.{HasTextsAndOrder};
 ghost use Rattle.asn_values.specs.Private.Placing.{place_seen};
@@ -11,13 +11,12 @@ ghost use Rattle.asn_values.specs.Values as rule;
 use crate::orders::has_order;
 use crate::places::{ComponentPlace, Places, find_places};
 use asn_types::{Form, Module, Role, TypeLabel, resolve, simple_at};
-use flat_tree::{Kids, Node};
-use label_tree::Tree;
-use simple_types::ValueLabel;
-use simple_values::{has_characters, holds};
+use base_flat_trees::{Kids, Node};
+use base_texts::{Memory, is_treated};
+use base_trees::Tree;
+use simple_types::{ValueLabel, has_characters, holds};
 use std::alloc::Global;
 use std::iter::Iterator;
-use xa_base::{Memory, is_treated};
 
 // Whether a text keeps the rules of its type.
 fn is_text_of(label: &TypeLabel, value: &ValueLabel) -> bool

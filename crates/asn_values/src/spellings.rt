@@ -1,20 +1,20 @@
 //! The canonical spelling of values, by their types.
 ghost use Rattle.std.specs.Prelude.{◌≡◌, ◌++◌, [], IfOk, OnOk, MatchOption, Some, None, map, string_bytes};
-ghost use Rattle.label_tree.specs.Rose.{label_of, kids_of, roses_of, Allowed, AllowedAll};
+ghost use Rattle.base_trees.specs.Rose.{label_of, kids_of, roses_of, Allowed, AllowedAll};
 ghost use Rattle.std.specs.List.{join_with_byte};
 ghost use Rattle.simple_types.specs.Space.{UnionOf};
-ghost use Rattle.simple_values.specs.Reading.{spelled, spelled_boolean, spelled_whole, spelled_number, spelled_word, spelled_text, choice_at};
+ghost use Rattle.simple_types.specs.Reading.{spelled, spelled_boolean, spelled_whole, spelled_number, spelled_word, spelled_text, choice_at};
 ghost use Rattle.asn_types.specs.Parts.{MayHave};
 ghost use Rattle.asn_types.specs.Spaces.{space_at, spaces_at};
 
 use asn_types::{Form, TypeLabel};
-use flat_tree::{Kids, Node};
+use base_flat_trees::{Kids, Node};
+use base_texts::{Memory, Text};
+use base_trees::Tree;
 use itoa::Buffer;
-use label_tree::Tree;
 use simple_types::ValueLabel;
 use std::alloc::Global;
 use std::iter::Iterator;
-use xa_base::{Memory, Text};
 
 fn write_boolean(out: &mut String, label: &ValueLabel) -> Result<(), Memory>
     ensures { OnOk result (string_bytes out.new ≡ string_bytes out.old ++ spelled_boolean label.now) }

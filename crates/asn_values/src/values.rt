@@ -1,6 +1,6 @@
 //! Whether a value is one of a type.
 ghost use Rattle.std.specs.Prelude.{◌≡◌, ◌≤◌, ◌<◌, ◌↔◌, map, replicate, length, IfOk, IsTrue};
-ghost use Rattle.label_tree.specs.Rose.{roses_of};
+ghost use Rattle.base_trees.specs.Rose.{roses_of};
 ghost use Rattle.asn_types.specs.Refs.{IsOf};
 ghost use Rattle.asn_values.specs.Private.Placing.{place_seen, ArePlaces, FitKids, FitsPlace};
 ghost use Rattle.asn_values.specs.Values as rule;
@@ -9,12 +9,12 @@ use crate::keeping::kept;
 use crate::places::{ComponentPlace, Places, find_places};
 use crate::rules::own_at;
 use asn_types::{Module, Role, TypeLabel, resolve};
-use flat_tree::{Kids, Node};
-use label_tree::Tree;
+use base_flat_trees::{Kids, Node};
+use base_texts::Memory;
+use base_trees::Tree;
 use simple_types::{Value, ValueLabel};
 use std::alloc::Global;
 use std::iter::Iterator;
-use xa_base::Memory;
 
 /// How many elements may stand in one another.
 const MOST_DEEP: u32 = 64;

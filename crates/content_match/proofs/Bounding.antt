@@ -1,7 +1,7 @@
 -- A particle whose bounds allow an occurrence may occur, since each choice in a tree of particles has an alternative.
 use Rattle.std.proofs.Common.{◌≤◌, arith}
-use Rattle.label_tree.specs.Rose.{Rose, node, Roses, Allowed, AllowedAll, length_all}
-use Rattle.label_tree.specs.Rose as rose
+use Rattle.base_trees.specs.Rose.{Rose, node, Roses, Allowed, AllowedAll, length_all}
+use Rattle.base_trees.specs.Rose as rose
 use Rattle.content_models.specs.Kids.{KindMayHave, MayHave}
 use Rattle.content_models.specs.Particle.{Particle, occurs, Term, element, sequence, choice, all, Particles, none, more}
 use Rattle.content_models.specs.Occurring.{IsMore, MayOccur, TermMayOccur, AllMayOccur}

@@ -1,13 +1,13 @@
 -- A kid that is an element of the name is the one that the tables tell.
 use Rattle.std.proofs.Common.{◌≡◌, ℕ, zero, suc, ◌+◌, ◌≤◌, ◌⊎◌, inl, inr, List, Option, Some, None, Bool, true, false, ◌||◌, cond, refl, sym, ◌∙◌, ap, subst, arith}
 use Rattle.std.specs.Prelude.{slice_get}
-use Rattle.label_tree.specs.Rose.{Rose, label_of, kids_of}
-use Rattle.xa_base.specs.declared.texts.Name.{Name}
-use Rattle.xa_base.specs.Names.{name_eq}
+use Rattle.base_trees.specs.Rose.{Rose, label_of, kids_of}
+use Rattle.base_texts.specs.declared.texts.Name.{Name}
+use Rattle.base_texts.specs.Names.{name_eq}
 use Rattle.content_models.specs.Particle.{Particle, occurs, element, Particles, none, more}
 use Rattle.content_models.specs.Clear.{first, empties}
 use Rattle.content_models.specs.Private.Deciding.{has}
-use Rattle.content_spots.specs.Spots.{over}
+use Rattle.content_models.specs.Spots.{over}
 use Rattle.content_match.specs.Private.Plans.{found_in, count_of, pick_order, pick_one, drop_all, is_leaf_of, is_kid_of, IsPlan}
 use Rattle.content_match.specs.declared.plans.Group.{Group}
 use Rattle.content_match.specs.declared.plans.PlanKind.{PlanKind}

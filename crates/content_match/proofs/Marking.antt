@@ -1,11 +1,11 @@
 -- What a mark changes.
 use Rattle.std.proofs.Common.{◌≡◌, ℕ, zero, suc, ◌+◌, ◌<◌, ◌≤◌, ◌⊎◌, inl, inr, List, [], ◌∷◌, length, Option, Some, None, Bool, true, false, cond, refl, sym, ◌∙◌, ap, subst, get_or, set, length-set, arith}
 use Rattle.std.specs.Prelude.{not}
-use Rattle.xa_base.specs.declared.texts.Name.{Name}
+use Rattle.base_texts.specs.declared.texts.Name.{Name}
 use Rattle.content_models.specs.Particle.{Particles, none, more}
 use Rattle.content_models.specs.Clear.{empties}
-use Rattle.content_spots.specs.Spots.{over, is_named, picked, pick, missing}
-use Rattle.content_spots.proofs.Options.{over_some}
+use Rattle.content_models.specs.Spots.{over, is_named, picked, pick, missing}
+use Rattle.content_models.proofs.Options.{over_some}
 use Rattle.content_match.specs.Private.Alls.{AreRequired, IsMarked}
 use Rattle.content_match.specs.Private.Plans.{count_of, pick_one}
 

@@ -1,13 +1,13 @@
 -- The leaf beside the last one, where that is a kid of the top.
 use Rattle.std.proofs.Common.{◌≡◌, ℕ, zero, suc, ◌+◌, ◌<◌, ◌⊎◌, inl, inr, List, [], ◌∷◌, ◌++◌, length, get_or, ◌≤◌, Option, Some, None, Bool, true, false, ◌&&◌, ◌||◌, not, cond, refl, sym, ◌∙◌, ap, subst, arith}
 use Rattle.std.specs.Prelude.{slice_get, IfSome}
-use Rattle.label_tree.specs.Rose.{Rose, label_of, kids_of, height}
-use Rattle.label_tree.proofs.Roses.{height-positive}
-use Rattle.xa_base.specs.declared.texts.Name.{Name}
-use Rattle.xa_base.specs.Names.{name_eq}
+use Rattle.base_trees.specs.Rose.{Rose, label_of, kids_of, height}
+use Rattle.base_trees.proofs.Roses.{height-positive}
+use Rattle.base_texts.specs.declared.texts.Name.{Name}
+use Rattle.base_texts.specs.Names.{name_eq}
 use Rattle.content_models.specs.Particle.{Particle, occurs, element, Particles, none, more}
 use Rattle.content_models.specs.Clear.{empties}
-use Rattle.content_spots.specs.Spots.{at, Inner, here, inside, over, or_else, first_kid, next_kid, may_repeat, may_stop, enter_order, finishes, finishes_order, next, next_order}
+use Rattle.content_models.specs.Spots.{at, Inner, here, inside, over, or_else, first_kid, next_kid, may_repeat, may_stop, enter_order, finishes, finishes_order, next, next_order}
 use Rattle.content_match.specs.Private.Nearby.{IsNamedKid, LiesBehind, LiesBeside}
 use Rattle.content_match.specs.Private.Plans.{IsPlan, drop_all, ends_in, is_leaf_of, is_kid_of}
 use Rattle.content_match.specs.Private.Seeking.{again_at}

@@ -1,14 +1,14 @@
 -- A step in an all, and its end, by its marks.
 use Rattle.std.proofs.Common.{◌≡◌, ℕ, zero, suc, ◌+◌, ◌<◌, ◌≤◌, List, [], ◌∷◌, ◌++◌, length, replicate, get_or, set, drop, Option, Some, None, MatchOption, Bool, true, false, ◌||◌, ◌&&◌, cond, refl, sym, ◌∙◌, ap, subst, arith}
 use Rattle.std.specs.Prelude.{not}
-use Rattle.label_tree.specs.Rose.{Rose, node, roses_of, label_of, depth_all}
-use Rattle.xa_base.specs.declared.texts.Name.{Name}
+use Rattle.base_trees.specs.Rose.{Rose, node, roses_of, label_of, depth_all}
+use Rattle.base_texts.specs.declared.texts.Name.{Name}
 use Rattle.content_models.specs.Particle.{occurs, Term, element, sequence, choice, all, Particles, none, more}
 use Rattle.content_models.specs.Language as language
 use Rattle.content_models.specs.Language.{leaf_at, turn_of, size_of}
 use Rattle.content_models.specs.Clear.{is_zero, empties, all_empty, AreSingle}
-use Rattle.content_spots.specs.Spots.{at, among, over, or_else, picked, pick, among_picked, unmarked, missing, enter_term, leaf_picked}
-use Rattle.content_spots.specs.Laws.{step_from, may_end}
+use Rattle.content_models.specs.Spots.{at, among, over, or_else, picked, pick, among_picked, unmarked, missing, enter_term, leaf_picked}
+use Rattle.content_models.specs.SpotLaws.{step_from, may_end}
 use Rattle.content_match.specs.Private.Alls.{whole, kids_in, needed, wanted_in, no_marks, IsAllPlan, AreRequired, IsMarked, AreMarks, KidTaken}
 use Rattle.content_match.specs.Private.Plans.{own_leaf, is_needed, count_of, pick_one, IsPlan, IsPlanOf, ArePlans}
 use Rattle.content_match.specs.Private.Standing.{AreWithin, spot_among, IsLeafAt, SamePlace}

@@ -1,10 +1,10 @@
 -- A content model, whether it is an all or not.
 use Rattle.std.proofs.Common.{◌≡◌, ℕ, zero, suc, List, [], Option, Some, None, MatchOption, Bool, true, false, nat_eq, refl, sym, ◌∙◌, ap, subst}
-use Rattle.label_tree.specs.Rose.{Rose, node, roses_of}
-use Rattle.xa_base.specs.declared.texts.Name.{Name}
+use Rattle.base_trees.specs.Rose.{Rose, node, roses_of}
+use Rattle.base_texts.specs.declared.texts.Name.{Name}
 use Rattle.content_models.specs.Particle.{Particle, occurs, element, sequence, choice, all, Particles}
 use Rattle.content_models.specs.Clear.{is_zero, Clear, IsNoAll, AreSingle}
-use Rattle.content_spots.specs.Laws.{step_from, may_end}
+use Rattle.content_models.specs.SpotLaws.{step_from, may_end}
 use Rattle.content_match.specs.Private.Alls.{whole, kids_in}
 use Rattle.content_match.specs.Private.Plans.{IsPlan, particle_of}
 use Rattle.content_match.specs.Private.Standing.{OnWay, Stands, spot_of, spot_now, spot_in}

@@ -2,17 +2,17 @@
 ghost use Rattle.std.specs.Prelude.{◌≡◌, ℕ, ◌+◌, ◌^◌, ◌<◌, ◌≤◌, None, length, IfOk, MatchOption};
 ghost use Rattle.std.specs.Vec.{vec_capacity};
 ghost use Rattle.content_models.specs.Clear.{AreSingle};
-ghost use Rattle.content_spots.specs.Laws.{step_from};
+ghost use Rattle.content_models.specs.SpotLaws.{step_from};
 ghost use Rattle.content_match.specs.Private.Alls.{whole, kids_in, levels_in, needed, wanted_in, no_marks, IsAllPlan, IsMarked, AreMarks, KidTaken};
 ghost use Rattle.content_match.specs.Private.Plans.{count_of};
 ghost use Rattle.content_match.specs.Private.Standing.{AreWithin, spot_among, IsLeafAt, SamePlace};
 
 use crate::places::{Leaf, Position};
 use crate::plans::{AllPlan, PlanLabel};
-use label_tree::Tree;
+use base_texts::{Memory, Name, Steps};
+use base_trees::Tree;
 use std::alloc::Global;
 use std::sync::ledger::Ledger;
-use xa_base::{Memory, Name, Steps};
 
 // How many of these kids may not be empty.
 pub(crate) fn count_needed(kids: &[Tree<PlanLabel>]) -> u32

@@ -1,9 +1,9 @@
 //! The next leaf where the last one is a kid of the top: mostly this kid once more, or the one behind it.
 ghost use Rattle.std.specs.Prelude.{◌≡◌, ℕ, ◌+◌, ◌-◌, ◌^◌, ◌<◌, ◌≤◌, MatchOption, IfSome, true, length, vec_len};
 ghost use Rattle.std.specs.Vec.{vec_capacity};
-ghost use Rattle.label_tree.specs.Rose.{height, kids_of};
+ghost use Rattle.base_trees.specs.Rose.{height, kids_of};
 ghost use Rattle.content_models.specs.Particle.{Particle};
-ghost use Rattle.content_spots.specs.Laws.{step_from};
+ghost use Rattle.content_models.specs.SpotLaws.{step_from};
 ghost use Rattle.content_match.specs.Private.Nearby.{IsOrdered, IsNamedKid, LiesBeside, LiesBehind};
 ghost use Rattle.content_match.specs.Private.Plans.{IsPlan};
 ghost use Rattle.content_match.specs.Private.Standing.{Stands, AreWithin, Entered, OnWay, spot_now};
@@ -12,8 +12,8 @@ use crate::names::is_same;
 use crate::places::{Leaf, Turn};
 use crate::plans::{PlanKind, PlanLabel};
 use crate::ways::again_at;
-use label_tree::Tree;
-use xa_base::Name;
+use base_texts::Name;
+use base_trees::Tree;
 
 // A leaf that is a kid of the top: the kid, and which of its occurrences.
 #[derive(Clone, Copy)]

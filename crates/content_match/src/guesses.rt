@@ -1,14 +1,14 @@
 //! The kid of a group that a name begins, which is mostly the first one that may come.
 ghost use Rattle.std.specs.Prelude.{◌≡◌, ℕ, ◌<◌, ◌^◌, slice_get, true, false, IsTrue};
-ghost use Rattle.label_tree.specs.Rose.{label_of, kids_of};
+ghost use Rattle.base_trees.specs.Rose.{label_of, kids_of};
 ghost use Rattle.content_models.specs.Particle.{Particle};
 ghost use Rattle.content_match.specs.Private.Plans.{IsPlan, found_in, is_leaf_of, is_kid_of};
 ghost use Rattle.content_match.specs.declared.plans.PlanKind.TheVariants as kind;
 
 use crate::names::is_same;
 use crate::plans::{Group, PlanKind, PlanLabel};
-use label_tree::Tree;
-use xa_base::Name;
+use base_texts::Name;
+use base_trees::Tree;
 
 // Whether it is an element of this name.
 fn is_leaf_of(label: &PlanLabel, name: &Name) -> bool

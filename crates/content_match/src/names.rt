@@ -1,8 +1,8 @@
 //! Names compared.
 ghost use Rattle.std.specs.Prelude.{◌≡◌};
-ghost use Rattle.xa_base.specs.Names.{name_eq};
+ghost use Rattle.base_texts.specs.Names.{name_eq};
 
-use xa_base::Name;
+use base_texts::Name;
 
 // Whether it is the same name. Those of one schema have one namespace mostly, so that their local names tell them apart and are
 // compared first.

@@ -1,7 +1,7 @@
 //! A step and the end of a content model, whether it is an all or not.
 ghost use Rattle.std.specs.Prelude.{◌≡◌, ℕ, ◌+◌, ◌-◌, ◌*◌, ◌^◌, ◌<◌, ◌≤◌, [], IfOk};
 ghost use Rattle.content_models.specs.Clear.{Clear, empties};
-ghost use Rattle.content_spots.specs.Laws.{may_end};
+ghost use Rattle.content_models.specs.SpotLaws.{may_end};
 ghost use Rattle.content_match.specs.Private.Standing.{AreWithin};
 ghost use Rattle.content_match.specs.Private.Tops.{particle_of_top, height_of, marks_of, required_of, IsTop, HasRoom, StandsAt, spot_at, Gone};
 
@@ -10,9 +10,9 @@ use crate::ends::may_end;
 use crate::going::go_on;
 use crate::places::{Leaf, Position};
 use crate::plans::TopPlan;
+use base_texts::{Memory, Name, Steps};
 use std::alloc::Global;
 use std::sync::ledger::Ledger;
-use xa_base::{Memory, Name, Steps};
 
 impl TopPlan {
     // For each kid of an all, a mark, on none.

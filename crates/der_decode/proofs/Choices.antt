@@ -4,23 +4,23 @@ use Rattle.std.specs.Prelude.{slice_get}
 use Rattle.std.specs.List.{position_from}
 use Rattle.std.proofs.lemmas.Bool.{lt-ltb, le-ltb}
 use Rattle.std.proofs.lemmas.List.{drop_all}
-use Rattle.label_tree.specs.Rose.{Rose, label_of, kids_of}
+use Rattle.base_trees.specs.Rose.{Rose, label_of, kids_of}
 use Rattle.simple_types.specs.declared.labels.ValueLabel.{ValueLabel}
 use Rattle.asn_types.specs.declared.modules.Assignment.{Assignment}
 use Rattle.asn_types.specs.declared.types.Component.{Component}
 use Rattle.asn_types.specs.declared.types.TypeLabel.{TypeLabel}
 use Rattle.asn_types.specs.Roles.{role_of}
 use Rattle.asn_values.specs.Values.{place_of, place_at, below}
-use Rattle.codecs.specs.declared.spots.Spot.{Spot}
-use Rattle.codecs.specs.Reading.{◌>>=◌, stop_if, ended_at}
-use Rattle.codecs.specs.Sequences.{alternative_at}
-use Rattle.codecs.proofs.Steps.{err_bind}
-use Rattle.codecs.proofs.Sequences.{cond_true, cond_false}
+use Rattle.base_codecs.specs.declared.spots.Spot.{Spot}
+use Rattle.base_codecs.specs.Reading.{◌>>=◌, stop_if, ended_at}
+use Rattle.base_codecs.specs.Sequences.{alternative_at}
+use Rattle.base_codecs.proofs.Steps.{err_bind}
+use Rattle.base_codecs.proofs.Sequences.{cond_true, cond_false}
 use Rattle.der_fields.specs.declared.stops.Stop.{Stop}
 use Rattle.der_fields.specs.declared.stops.Why.TheVariants.{Tag}
-use Rattle.der_fields.specs.Reading.{Octets, stop_at}
-use Rattle.der_form.specs.Encoding.{TaggedPlace, tagged_place}
-use Rattle.der_form.specs.Reading.{starts, is_optional, unexpected, parts_from, choice_of, choice_at, is_over, over}
+use Rattle.der_fields.specs.FieldsReading.{Octets, stop_at}
+use Rattle.der_fields.specs.Encoding.{TaggedPlace, tagged_place}
+use Rattle.der_fields.specs.Reading.{starts, is_optional, unexpected, parts_from, choice_of, choice_at, is_over, over}
 use Rattle.der_decode.specs.declared.faults.Fault.{Fault}
 use Rattle.der_decode.specs.declared.faults.Fault.TheVariants as fault
 use Rattle.der_decode.specs.Private.Bodies.{first_start, part_read, kid_at, entered_kid, alternative_read, alternative_place}

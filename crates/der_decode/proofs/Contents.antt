@@ -3,23 +3,23 @@ use Rattle.std.proofs.Common.{◌≡◌, ℕ, ◌≤◌, Bool, true, false, eqb,
 use Rattle.std.proofs.lemmas.Bool.{ne_eqb}
 use Rattle.std.proofs.lemmas.Str.{IsUtf8-from_is_utf8, is_utf8-from_IsUtf8}
 use Rattle.std.specs.Str.{IsUtf8, is_utf8}
-use Rattle.label_tree.specs.Rose.{Rose}
+use Rattle.base_trees.specs.Rose.{Rose}
 use Rattle.simple_types.specs.declared.labels.ValueLabel.{ValueLabel}
 use Rattle.simple_types.specs.declared.labels.ValueLabel.TheVariants as value
 use Rattle.simple_types.specs.Labels.{MayHave}
 use Rattle.simple_types.specs.declared.simples.Class.{Class}
-use Rattle.simple_values.specs.Lexical.{is_from, is_to}
+use Rattle.simple_types.specs.Lexical.{is_from, is_to}
 use Rattle.asn_types.specs.declared.types.Form.{Form}
 use Rattle.asn_types.specs.declared.types.Form.TheVariants as form
 use Rattle.per_fields.specs.Nodes.{is_no_text}
 use Rattle.per_fields.specs.Owning.{owns}
-use Rattle.codecs.specs.declared.spots.Spot.{Spot}
-use Rattle.codecs.specs.Reading.{◌>>=◌, stop_if, with_spot}
-use Rattle.codecs.proofs.Codecs.{stop_not}
+use Rattle.base_codecs.specs.declared.spots.Spot.{Spot}
+use Rattle.base_codecs.specs.Reading.{◌>>=◌, stop_if, with_spot}
+use Rattle.base_codecs.proofs.Codecs.{stop_not}
 use Rattle.der_fields.specs.declared.stops.Stop.{Stop}
 use Rattle.der_fields.specs.declared.stops.Why.TheVariants.{Content, Range, NotUtf8, NotAValue}
-use Rattle.der_fields.specs.Reading.{stop_at}
-use Rattle.der_form.specs.Reading.{leaf_of, bool_of, bool_at, whole_at, int_of, int_at, item_with, item_of, item_at, enum_at, text_at, contents_at, owned_at}
+use Rattle.der_fields.specs.FieldsReading.{stop_at}
+use Rattle.der_fields.specs.Reading.{leaf_of, bool_of, bool_at, whole_at, int_of, int_at, item_with, item_of, item_at, enum_at, text_at, contents_at, owned_at}
 use Rattle.der_decode.specs.declared.faults.Fault.{Fault}
 use Rattle.der_decode.specs.declared.faults.Fault.TheVariants as fault
 use Rattle.der_decode.specs.Private.Leaves.{IsLeaf, IsPlain, end_of, Reads, ReadsLeaf, IsLeafAt, StopsLeaf}

@@ -1,15 +1,15 @@
 -- Whole numbers that fill what is left.
 use Rattle.std.proofs.Common.{◌≡◌, ℕ, ◌+◌, ◌<◌, ◌≤◌, true, false, not, ℤ, List, [], ◌∷◌, length, drop, refl, sym, ap, ◌∙◌, arith, Ok, Err}
 use Rattle.std.proofs.lemmas.List.{length-drop}
-use Rattle.simple_values.specs.Lexical.{is_128_bits}
-use Rattle.codecs.specs.declared.spots.Spot.{Spot}
-use Rattle.codecs.specs.Reading.{◌>>=◌, stop_if, with_spot, left_at}
-use Rattle.codecs.proofs.Codecs.{same_spot, stop_not}
+use Rattle.simple_types.specs.Lexical.{is_128_bits}
+use Rattle.base_codecs.specs.declared.spots.Spot.{Spot}
+use Rattle.base_codecs.specs.Reading.{◌>>=◌, stop_if, with_spot, left_at}
+use Rattle.base_codecs.proofs.Codecs.{same_spot, stop_not}
 use Rattle.der_fields.specs.declared.stops.Stop.{Stop}
 use Rattle.der_fields.specs.declared.stops.Why.TheVariants.{NotShortest, Content, TooWide}
 use Rattle.der_fields.specs.Octets.{signed_value, are_nine_equal}
-use Rattle.der_fields.specs.Reading.{stop_at}
-use Rattle.der_form.specs.Reading.{is_nothing, whole_of, whole_at}
+use Rattle.der_fields.specs.FieldsReading.{stop_at}
+use Rattle.der_fields.specs.Reading.{is_nothing, whole_of, whole_at}
 use Rattle.der_decode.specs.Private.Leaves.{end_of}
 use Rattle.der_decode.proofs.Windows.{stop_so}
 use Rattle.der_decode.proofs.Signs.{too_wide}

@@ -2,7 +2,7 @@
 use Rattle.std.proofs.Common.{◌≡◌, ℕ, zero, suc, ◌<◌, ◌≤◌, List, [], ◌++◌, length, drop, eqb, ltb, false, sym, ap, ◌∙◌, subst, arith, Option, Some, None, Result, Ok, Err}
 use Rattle.std.specs.Prelude.{slice_get}
 use Rattle.std.proofs.lemmas.Bool.{lt-ltb, le-ltb}
-use Rattle.label_tree.specs.Rose.{Rose, node_count}
+use Rattle.base_trees.specs.Rose.{Rose, node_count}
 use Rattle.simple_types.specs.declared.labels.ValueLabel.{ValueLabel}
 use Rattle.asn_types.specs.declared.modules.Assignment.{Assignment}
 use Rattle.asn_types.specs.declared.types.TypeLabel.{TypeLabel}
@@ -10,22 +10,22 @@ use Rattle.asn_types.specs.Bounds.{IsBounded}
 use Rattle.asn_types.specs.Modules.{IsModule}
 use Rattle.asn_types.proofs.Inside.{body-of}
 use Rattle.asn_values.specs.Values.{FitsAt, In}
-use Rattle.codecs.specs.declared.spots.Spot.{Spot}
-use Rattle.codecs.specs.Codec.{Codec}
-use Rattle.codecs.proofs.Sequences.{cond_true, cond_false}
+use Rattle.base_codecs.specs.declared.spots.Spot.{Spot}
+use Rattle.base_codecs.specs.Codec.{Codec}
+use Rattle.base_codecs.proofs.Sequences.{cond_true, cond_false}
 use Rattle.der_fields.specs.declared.stops.Stop.{Stop}
 use Rattle.der_fields.specs.declared.stops.Why.TheVariants.{Short}
-use Rattle.der_fields.specs.Reading.{AreOctets, stop_at}
-use Rattle.der_form.specs.Encoding.{der, distinguished}
-use Rattle.der_form.specs.Reading.{start, node_read, root_at}
-use Rattle.der_form.specs.Laws.{Begins, reading_of}
-use Rattle.der_form.proofs.NodeLaws.{root_codec}
+use Rattle.der_fields.specs.FieldsReading.{AreOctets, stop_at}
+use Rattle.der_fields.specs.Encoding.{der, distinguished}
+use Rattle.der_fields.specs.Reading.{start, node_read, root_at}
+use Rattle.der_fields.specs.Laws.{Begins, reading_of}
+use Rattle.der_fields.proofs.NodeLaws.{root_codec}
 use Rattle.der_decode.specs.Answers.{Says}
 use Rattle.der_decode.specs.declared.faults.Fault.{Fault}
 use Rattle.der_decode.specs.declared.faults.Fault.TheVariants as fault
 use Rattle.der_decode.specs.Private.Showing.{Fails, error_of}
-use Rattle.der_stops.specs.Stopping.{DerStop}
-use Rattle.der_stops.proofs.Law.{stops_as_read}
+use Rattle.der_fields.specs.Stopping.{DerStop}
+use Rattle.der_fields.proofs.StopLaw.{stops_as_read}
 
 pub positive : (n : ℕ) → eqb n 0 ≡ false → 0 < n
 positive zero e = absurd cc

@@ -2,7 +2,7 @@
 use Rattle.std.proofs.Common.{◌≡◌, ℕ, ◌+◌, ◌<◌, ◌≤◌, true, false, cond, not, ltb, eqb, ◌&&◌, List, [], ◌∷◌, length, drop, take, refl, sym, ap, ◌∙◌, arith, Option, Some, None, Result, Ok, Err}
 use Rattle.std.proofs.lemmas.Bool.{and_parts, lt-ltb, le-ltb, lt-leb, le-leb}
 use Rattle.std.proofs.lemmas.List.{length-drop}
-use Rattle.label_tree.specs.Rose.{Rose, label_of, kids_of}
+use Rattle.base_trees.specs.Rose.{Rose, label_of, kids_of}
 use Rattle.simple_types.specs.declared.labels.ValueLabel.{ValueLabel}
 use Rattle.asn_types.specs.declared.modules.Assignment.{Assignment}
 use Rattle.asn_types.specs.declared.types.Component.{Component}
@@ -10,16 +10,16 @@ use Rattle.asn_types.specs.declared.types.Form.{Form}
 use Rattle.asn_types.specs.declared.types.Form.TheVariants as form
 use Rattle.asn_types.specs.declared.types.TypeLabel.{TypeLabel}
 use Rattle.asn_types.specs.Parts.{parts_of}
-use Rattle.codecs.specs.declared.spots.Spot.{Spot}
-use Rattle.codecs.specs.Reading.{stop_if, entered_at, ended_at}
-use Rattle.codecs.proofs.Codecs.{stop_not, same_spot}
-use Rattle.codecs.proofs.Sequences.{cond_true, cond_false}
+use Rattle.base_codecs.specs.declared.spots.Spot.{Spot}
+use Rattle.base_codecs.specs.Reading.{stop_if, entered_at, ended_at}
+use Rattle.base_codecs.proofs.Codecs.{stop_not, same_spot}
+use Rattle.base_codecs.proofs.Sequences.{cond_true, cond_false}
 use Rattle.der_fields.specs.declared.stops.Stop.{Stop}
 use Rattle.der_fields.specs.declared.stops.Why.TheVariants.{Tag, TooDeep, TooMany}
 use Rattle.der_fields.specs.Octets.{begins}
-use Rattle.der_fields.specs.Reading.{stop_at, Octets, sized_at, tagged_at, expected_at}
-use Rattle.der_form.specs.Encoding.{TaggedPlace, identifier, is_open}
-use Rattle.der_form.specs.Reading.{contents_at, sequence_at, choice_at, sequence_of_at, headed_at, is_over, over}
+use Rattle.der_fields.specs.FieldsReading.{stop_at, Octets, sized_at, tagged_at, expected_at}
+use Rattle.der_fields.specs.Encoding.{TaggedPlace, identifier, is_open}
+use Rattle.der_fields.specs.Reading.{contents_at, sequence_at, choice_at, sequence_of_at, headed_at, is_over, over}
 use Rattle.der_decode.specs.declared.faults.Fault.{Fault}
 use Rattle.der_decode.specs.declared.faults.Fault.TheVariants as fault
 use Rattle.der_decode.specs.declared.fields.Window.{Window}

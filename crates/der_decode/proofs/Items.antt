@@ -2,21 +2,21 @@
 use Rattle.std.proofs.Common.{◌≡◌, ℕ, zero, suc, ◌+◌, ◌-◌, ◌<◌, ◌≤◌, Bool, true, false, not, ltb, ◌&&◌, List, [], ◌∷◌, ◌++◌, length, refl, ap, ◌∙◌, arith, Option, Some, None, Result, Ok, Err}
 use Rattle.std.proofs.lemmas.Bool.{lt-ltb, le-ltb, lt-leb, le-leb}
 use Rattle.std.proofs.lemmas.List.{append-nil}
-use Rattle.label_tree.specs.Rose.{Rose, node, roses_of}
+use Rattle.base_trees.specs.Rose.{Rose, node, roses_of}
 use Rattle.simple_types.specs.declared.labels.ValueLabel.{ValueLabel}
 use Rattle.simple_types.specs.declared.labels.ValueLabel.TheVariants as value
-use Rattle.simple_values.specs.Lexical.{is_at_most}
+use Rattle.simple_types.specs.Lexical.{is_at_most}
 use Rattle.asn_values.specs.Values.{ComponentPlace}
-use Rattle.codecs.specs.declared.spots.Spot.{Spot}
-use Rattle.codecs.specs.Reading.{◌>>=◌, stop_if, with_spot}
-use Rattle.codecs.specs.Sequences.{at_most_at, items_at}
-use Rattle.codecs.proofs.Steps.{err_bind}
-use Rattle.codecs.proofs.Sequences.{cond_true, cond_false}
+use Rattle.base_codecs.specs.declared.spots.Spot.{Spot}
+use Rattle.base_codecs.specs.Reading.{◌>>=◌, stop_if, with_spot}
+use Rattle.base_codecs.specs.Sequences.{at_most_at, items_at}
+use Rattle.base_codecs.proofs.Steps.{err_bind}
+use Rattle.base_codecs.proofs.Sequences.{cond_true, cond_false}
 use Rattle.der_fields.specs.declared.stops.Stop.{Stop}
 use Rattle.der_fields.specs.declared.stops.Why.TheVariants.{Range}
-use Rattle.der_fields.specs.Reading.{Octets, stop_at}
-use Rattle.der_form.specs.Encoding.{TaggedPlace, tagged_place}
-use Rattle.der_form.specs.Reading.{node_of, is_size, never, sequence_of_at}
+use Rattle.der_fields.specs.FieldsReading.{Octets, stop_at}
+use Rattle.der_fields.specs.Encoding.{TaggedPlace, tagged_place}
+use Rattle.der_fields.specs.Reading.{node_of, is_size, never, sequence_of_at}
 use Rattle.der_decode.specs.declared.faults.Fault.{Fault}
 use Rattle.der_decode.specs.declared.faults.Fault.TheVariants as fault
 use Rattle.der_decode.specs.Private.Showing.{Fails}

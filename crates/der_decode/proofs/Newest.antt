@@ -1,8 +1,8 @@
 -- The value that was read behind others.
 use Rattle.std.proofs.Common.{◌≡◌, false, List, [], ◌∷◌, ◌++◌, refl, sym, ap, ◌∙◌, subst, Result, Ok, Err}
 use Rattle.std.specs.Prelude.{IfOk}
-use Rattle.label_tree.specs.Rose.{Rose, node, none, roses_of}
-use Rattle.flat_tree.specs.Zips.{Zip, opened, added, closed, closed_in, relabeled, relabeled_in}
+use Rattle.base_trees.specs.Rose.{Rose, node, none, roses_of}
+use Rattle.base_flat_trees.specs.Zips.{Zip, opened, added, closed, closed_in, relabeled, relabeled_in}
 use Rattle.simple_types.specs.declared.labels.ValueLabel.{ValueLabel}
 use Rattle.simple_types.specs.declared.labels.ValueLabel.TheVariants as value
 use Rattle.der_decode.specs.declared.faults.Fault.{Fault}

@@ -2,7 +2,7 @@
 use Rattle.std.proofs.Common.{◌≡◌, ℕ, suc, ◌-◌, ◌<◌, List, [], ◌∷◌, length, take, drop, get_or, sym, ap, ◌∙◌, arith}
 use Rattle.std.proofs.lemmas.List.{take_all, length-drop}
 use Rattle.std.proofs.Math.Seq.{drop-cons}
-use Rattle.der_fields.specs.Reading.{AreOctets}
+use Rattle.der_fields.specs.FieldsReading.{AreOctets}
 
 -- a slice of bytes: h is `λ i. omega (arith, c.type_inv.octets i)`
 pub octets_of_bytes : (xs : List ℕ) → ((i : ℕ) → get_or xs i 0 < 256) → AreOctets xs

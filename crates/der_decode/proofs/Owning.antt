@@ -1,7 +1,7 @@
 -- A node, by what is read of it and its rule; and a part, by its node and its default or fixed value.
 use Rattle.std.proofs.Common.{◌≡◌, ℕ, Bool, true, false, not, List, length, take, refl, sym, ap, ◌∙◌, subst, Option, Result, Ok, Err, inl, inr, ◌⊎◌}
 use Rattle.std.specs.Prelude.{IfOk}
-use Rattle.label_tree.specs.Rose.{Rose, label_of, kids_of}
+use Rattle.base_trees.specs.Rose.{Rose, label_of, kids_of}
 use Rattle.simple_types.specs.declared.labels.ValueLabel.{ValueLabel}
 use Rattle.simple_types.specs.declared.standards.Standard.TheVariants.{Free}
 use Rattle.asn_types.specs.declared.modules.Assignment.{Assignment}
@@ -12,15 +12,15 @@ use Rattle.asn_types.specs.Refs.{resolve, IsOf}
 use Rattle.asn_types.proofs.Chaining.{well-formed, resolved-of-module}
 use Rattle.asn_values.specs.Values.{Own, Kept}
 use Rattle.asn_values.proofs.Standards.{free-kept}
-use Rattle.codecs.specs.declared.spots.Spot.{Spot}
-use Rattle.codecs.specs.Reading.{◌>>=◌, stop_if}
-use Rattle.codecs.proofs.Steps.{err_bind}
+use Rattle.base_codecs.specs.declared.spots.Spot.{Spot}
+use Rattle.base_codecs.specs.Reading.{◌>>=◌, stop_if}
+use Rattle.base_codecs.proofs.Steps.{err_bind}
 use Rattle.der_fields.specs.declared.stops.Stop.{Stop}
 use Rattle.der_fields.specs.declared.stops.Why.TheVariants.{NotUtf8, NotAValue}
-use Rattle.der_fields.specs.Reading.{stop_at}
-use Rattle.der_form.specs.Encoding.{identifier}
-use Rattle.der_form.specs.Reading.{leaf_of, contents_at, owned_at, kept_at, unkept_why, node_read}
-use Rattle.der_form.proofs.Unfolding.{node_recursion}
+use Rattle.der_fields.specs.FieldsReading.{stop_at}
+use Rattle.der_fields.specs.Encoding.{identifier}
+use Rattle.der_fields.specs.Reading.{leaf_of, contents_at, owned_at, kept_at, unkept_why, node_read}
+use Rattle.der_fields.proofs.Unfolding.{node_recursion}
 use Rattle.per_fields.specs.Nodes.{is_no_text}
 use Rattle.per_fields.specs.Owning.{owns, keeps}
 use Rattle.per_fields.proofs.Owns.{owns_own, own_owns, kept_keeps, keeps_kept}

@@ -1,7 +1,7 @@
 -- The parts of a type of a module, as reading finds them.
 use Rattle.std.proofs.Common.{get_or, ◌≡◌, ℕ, zero, suc, ◌+◌, ◌<◌, ◌≤◌, ◌^◌, List, [], ◌∷◌, length, drop, refl, sym, ap, ◌∙◌, subst, arith, Some}
 use Rattle.std.specs.Prelude.{slice_get}
-use Rattle.label_tree.specs.Rose.{Rose, node, label_of, kids_of}
+use Rattle.base_trees.specs.Rose.{Rose, node, label_of, kids_of}
 use Rattle.simple_types.specs.Sound.{IsCounted}
 use Rattle.asn_types.specs.declared.modules.Assignment.{Assignment}
 use Rattle.asn_types.specs.declared.types.Component.{Component}
@@ -16,8 +16,8 @@ use Rattle.asn_values.specs.Values.{below, place_of}
 use Rattle.asn_types.proofs.Chaining.{well-formed, have-parts, parts-of-module}
 use Rattle.asn_types.proofs.Inside.{form-well_formed}
 use Rattle.per_fields.specs.Levels.{levels_needed}
-use Rattle.der_form.specs.Encoding.{tagged_place}
-use Rattle.der_form.specs.Reading.{parts_from}
+use Rattle.der_fields.specs.Encoding.{tagged_place}
+use Rattle.der_fields.specs.Reading.{parts_from}
 use Rattle.der_decode.specs.Private.Bodies.{HasKids}
 use Rattle.der_decode.proofs.Types.{kid-fewer}
 

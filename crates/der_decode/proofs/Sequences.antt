@@ -3,22 +3,22 @@ use Rattle.std.proofs.Common.{◌≡◌, ℕ, ◌+◌, ◌<◌, ◌≤◌, Bool,
 use Rattle.std.specs.Prelude.{slice_get}
 use Rattle.std.proofs.lemmas.Bool.{lt-ltb, le-ltb}
 use Rattle.std.proofs.lemmas.List.{append-nil, drop_all}
-use Rattle.label_tree.specs.Rose.{Rose, roses_of, node}
+use Rattle.base_trees.specs.Rose.{Rose, roses_of, node}
 use Rattle.simple_types.specs.declared.labels.ValueLabel.{ValueLabel}
 use Rattle.simple_types.specs.declared.labels.ValueLabel.TheVariants as value
 use Rattle.asn_types.specs.declared.modules.Assignment.{Assignment}
 use Rattle.asn_types.specs.declared.types.Component.{Component}
 use Rattle.asn_types.specs.declared.types.TypeLabel.{TypeLabel}
 use Rattle.asn_values.specs.Values.{place_of}
-use Rattle.codecs.specs.declared.spots.Spot.{Spot}
-use Rattle.codecs.specs.Reading.{◌>>=◌, stop_if, with_spot}
-use Rattle.codecs.specs.Sequences.{parts_at}
-use Rattle.codecs.proofs.Steps.{err_bind}
-use Rattle.codecs.proofs.Sequences.{cond_true, cond_false}
+use Rattle.base_codecs.specs.declared.spots.Spot.{Spot}
+use Rattle.base_codecs.specs.Reading.{◌>>=◌, stop_if, with_spot}
+use Rattle.base_codecs.specs.Sequences.{parts_at}
+use Rattle.base_codecs.proofs.Steps.{err_bind}
+use Rattle.base_codecs.proofs.Sequences.{cond_true, cond_false}
 use Rattle.der_fields.specs.declared.stops.Stop.{Stop}
-use Rattle.der_fields.specs.Reading.{Octets}
-use Rattle.der_form.specs.Encoding.{TaggedPlace, tagged_place}
-use Rattle.der_form.specs.Reading.{has_some, flags_of, those_of, starts, is_optional, unexpected, parts_from, sequence_of, sequence_at}
+use Rattle.der_fields.specs.FieldsReading.{Octets}
+use Rattle.der_fields.specs.Encoding.{TaggedPlace, tagged_place}
+use Rattle.der_fields.specs.Reading.{has_some, flags_of, those_of, starts, is_optional, unexpected, parts_from, sequence_of, sequence_at}
 use Rattle.der_decode.specs.declared.faults.Fault.{Fault}
 use Rattle.der_decode.specs.declared.faults.Fault.TheVariants as fault
 use Rattle.der_decode.specs.Private.Showing.{Fails, ShowsParts}

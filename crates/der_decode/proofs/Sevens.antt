@@ -5,9 +5,9 @@ use Rattle.std.proofs.lemmas.Bool.{cases_lt, lt-ltb, le-ltb, eq-eqb, ne_eqb}
 use Rattle.std.proofs.lemmas.List.{drop-set}
 use Rattle.std.proofs.lemmas.Nat.{pow-add}
 use Rattle.std.proofs.Math.ListN.{set}
-use Rattle.codecs.proofs.Sequences.{cond_true, cond_false}
+use Rattle.base_codecs.proofs.Sequences.{cond_true, cond_false}
 use Rattle.der_fields.specs.Octets.{high_sevens, sevens, form_bit, context_identifier, begins}
-use Rattle.der_fields.proofs.Numbers.{pick_true, pick_false}
+use Rattle.der_fields.proofs.FieldsNumbers.{pick_true, pick_false}
 
 -- as many turns as the number are enough
 enough : (m k n : ℕ) (tail : List ℕ) → n ≤ m → n ≤ k → high_sevens m n tail ≡ high_sevens k n tail

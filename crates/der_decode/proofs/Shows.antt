@@ -1,9 +1,9 @@
 -- Steps of reading, one behind the other.
 use Rattle.std.proofs.Common.{◌≡◌, Bool, true, false, List, ◌++◌, ◌∷◌, [], refl, sym, ap, subst, append_assoc, Result, Ok, Err}
 use Rattle.std.specs.Prelude.{MatchBool}
-use Rattle.codecs.specs.declared.spots.Spot.{Spot}
-use Rattle.codecs.specs.Reading.{◌>>=◌, with_spot}
-use Rattle.codecs.proofs.Steps.{err_bind}
+use Rattle.base_codecs.specs.declared.spots.Spot.{Spot}
+use Rattle.base_codecs.specs.Reading.{◌>>=◌, with_spot}
+use Rattle.base_codecs.proofs.Steps.{err_bind}
 use Rattle.der_fields.specs.declared.stops.Stop.{Stop}
 use Rattle.der_decode.specs.declared.faults.Fault.{Fault}
 use Rattle.der_decode.specs.declared.faults.Fault.TheVariants as fault

@@ -5,8 +5,8 @@ use Rattle.std.proofs.lemmas.List.{length-map}
 use Rattle.std.proofs.lemmas.Nat.{pow-add}
 use Rattle.std.proofs.Math.Pow.{pow_mono}
 use Rattle.std.proofs.Math.Seq.{drop-cons}
-use Rattle.simple_values.specs.Lexical.{is_128_bits}
-use Rattle.codecs.proofs.Sequences.{cond_true, cond_false}
+use Rattle.simple_types.specs.Lexical.{is_128_bits}
+use Rattle.base_codecs.proofs.Sequences.{cond_true, cond_false}
 use Rattle.der_fields.specs.Octets.{value_from, is_long, flipped, signed_value, are_nine_equal}
 use Rattle.der_decode.specs.Private.Signs.{turned, turned_octet}
 

@@ -1,7 +1,7 @@
 -- Types of a module, as reading goes down them.
 use Rattle.std.proofs.Common.{◌≡◌, ℕ, suc, ◌+◌, ◌-◌, ◌*◌, ◌<◌, ◌≤◌, List, refl, ap, subst, arith, Some, None}
 use Rattle.std.specs.Prelude.{slice_get, option_and_then}
-use Rattle.label_tree.specs.Rose.{Rose, label_of, kids_of}
+use Rattle.base_trees.specs.Rose.{Rose, label_of, kids_of}
 use Rattle.asn_types.specs.declared.modules.Assignment.{Assignment}
 use Rattle.asn_types.specs.declared.types.Component.{Component}
 use Rattle.asn_types.specs.declared.types.Form.{Form}
@@ -16,7 +16,7 @@ use Rattle.asn_types.proofs.Chaining.{well-formed, has-four, no-reference}
 use Rattle.asn_types.proofs.Following.{follow-stops}
 use Rattle.per_fields.specs.Levels.{tallest, levels_needed}
 use Rattle.per_fields.proofs.Levels.{kid-each, kids-need, levels-follow, NeedsFewer, IfPlace, EachKid}
-use Rattle.der_form.proofs.Types.{of-tall}
+use Rattle.der_fields.proofs.Types.{of-tall}
 use Rattle.der_decode.specs.Private.Bodies.{HasKids, HasNoKids}
 use Rattle.der_decode.specs.Private.Leaves.{IsLeaf}
 

@@ -3,14 +3,14 @@ use Rattle.std.proofs.Common.{◌≡◌, ℕ, suc, ◌+◌, ◌-◌, ◌*◌, �
 use Rattle.std.proofs.lemmas.Bool.{cases_lt, lt-ltb, le-ltb, eq-eqb}
 use Rattle.std.proofs.lemmas.List.{drop-take, length-take-le, length-drop}
 use Rattle.std.proofs.Math.Seq.{drop-cons}
-use Rattle.codecs.specs.declared.spots.Spot.{Spot}
-use Rattle.codecs.specs.Reading.{◌>>=◌, moved, stop_if, with_spot, window_at, left_at}
-use Rattle.codecs.proofs.Codecs.{spot, same_spot, stop_not}
-use Rattle.codecs.proofs.Sequences.{cond_true, cond_false}
+use Rattle.base_codecs.specs.declared.spots.Spot.{Spot}
+use Rattle.base_codecs.specs.Reading.{◌>>=◌, moved, stop_if, with_spot, window_at, left_at}
+use Rattle.base_codecs.proofs.Codecs.{spot, same_spot, stop_not}
+use Rattle.base_codecs.proofs.Sequences.{cond_true, cond_false}
 use Rattle.der_fields.specs.declared.stops.Stop.{Stop}
 use Rattle.der_fields.specs.declared.stops.Why.TheVariants.{Short, NotShortest}
 use Rattle.der_fields.specs.Octets.{value_from, is_not_shortest}
-use Rattle.der_fields.specs.Reading.{stop_at, raw_at, number_of, length_from, length_at, sized_at}
+use Rattle.der_fields.specs.FieldsReading.{stop_at, raw_at, number_of, length_from, length_at, sized_at}
 use Rattle.der_decode.specs.Private.Windows.{IsWindow, HasNoWindow}
 use Rattle.der_decode.specs.declared.fields.Window.{Window}
 

@@ -3,7 +3,7 @@ ghost use Rattle.std.specs.Prelude.{◌≡◌, ◌<◌, ℕ, IfOk, length, slice
 ghost use Rattle.asn_types.specs.Modules.{IsModule};
 ghost use Rattle.asn_types.specs.Refs.{IsOf};
 ghost use Rattle.asn_values.specs.Values.{In};
-ghost use Rattle.der_form.specs.Reading.{root_at, start};
+ghost use Rattle.der_fields.specs.Reading.{root_at, start};
 ghost use Rattle.der_decode.specs.Answers.{Says};
 ghost use Rattle.der_decode.specs.Private.Showing.{Shows, error_of};
 
@@ -12,10 +12,10 @@ use crate::errors::DecodeError;
 use crate::faults::Fault;
 use crate::nodes::node;
 use asn_types::{Module, TypeLabel, resolve};
-use codecs::Spot;
+use base_codecs::Spot;
+use base_flat_trees::{Builder, Flat, Whole};
+use base_trees::Tree;
 use der_fields::{Stop, Why};
-use flat_tree::{Builder, Flat, Whole};
-use label_tree::Tree;
 use simple_types::ValueLabel;
 use std::alloc::Global;
 

@@ -2,9 +2,9 @@
 ghost use Rattle.der_decode.specs.declared.faults.Fault.TheVariants as faults;
 ghost use Rattle.std.specs.Prelude.{◌≡◌};
 
+use base_texts::Memory;
 use der_fields::Stop;
 use std::alloc::{AllocError, AllocFailed};
-use xa_base::Memory;
 
 /// Why no value is read: the first fault of the octets, or memory is missing.
 #[derive(Clone, Copy)]

@@ -1,10 +1,10 @@
 //! Lengths, and the contents behind them (X.690, clauses 8.1.3 and 10.1).
 ghost use Rattle.std.specs.Prelude.{◌≡◌, ◌+◌, ◌<◌, ◌≤◌, ◌^◌, IfOk, IfErr, MatchOption, length, slice_index};
 ghost use Rattle.der_fields.specs.Octets.{is_not_shortest};
-ghost use Rattle.der_fields.specs.Reading.{number_of, stop_at};
+ghost use Rattle.der_fields.specs.FieldsReading.{number_of, stop_at};
 ghost use Rattle.der_decode.specs.Private.Windows.{IsWindow, HasNoWindow};
 
-use codecs::Spot;
+use base_codecs::Spot;
 use der_fields::{Stop, Why};
 
 /// Where contents begin, and where they end.

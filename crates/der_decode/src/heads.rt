@@ -1,7 +1,7 @@
 //! What stands before the contents of a node, and whether one more may stand.
 ghost use Rattle.std.specs.Prelude.{◌≡◌, ◌<◌, ◌≤◌, true, false, IfOk, IfErr, OnOk, length};
-ghost use Rattle.der_form.specs.Encoding.{identifier};
-ghost use Rattle.der_form.specs.Reading as reading;
+ghost use Rattle.der_fields.specs.Encoding.{identifier};
+ghost use Rattle.der_fields.specs.Reading as reading;
 ghost use Rattle.der_decode.specs.declared.faults.Fault.TheVariants as faults;
 ghost use Rattle.der_decode.specs.Private.Showing.{ShowsHead};
 
@@ -9,7 +9,7 @@ use crate::faults::Fault;
 use crate::fields::{Window, sized};
 use crate::identifiers::{begins_so, identifier_size};
 use asn_types::Form;
-use codecs::Spot;
+use base_codecs::Spot;
 use der_fields::{Stop, Why};
 
 /// How many elements may stand in one another.

@@ -1,10 +1,10 @@
 //! Identifiers (X.690, clauses 8.1.2, 8.13 and 8.14).
 ghost use Rattle.std.specs.Prelude.{◌≡◌, ◌≤◌, ◌∷◌, [], length, drop};
 ghost use Rattle.der_fields.specs.Octets.{begins, context_identifier, form_bit};
-ghost use Rattle.der_form.specs.Encoding.{identifier, is_open};
+ghost use Rattle.der_fields.specs.Encoding.{identifier, is_open};
 
 use asn_types::Form;
-use der_form::{is_constructed, universal_identifier};
+use der_fields::{is_constructed, universal_identifier};
 use std::marker::Model;
 
 // How many octets there are at most: a number of 32 bits is in five of 7 bits, behind the first octet (clause 8.1.2.4).

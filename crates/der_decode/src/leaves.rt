@@ -3,19 +3,18 @@ ghost use Rattle.std.specs.Prelude.{◌≡◌, ◌<◌, ◌≤◌, ◌^◌, ◌�
 ghost use Rattle.simple_types.specs.Labels.{MayHave};
 ghost use Rattle.simple_types.specs.declared.labels.ValueLabel.TheVariants as value;
 ghost use Rattle.per_fields.specs.Nodes.{is_no_text};
-ghost use Rattle.der_fields.specs.Reading.{stop_at};
-ghost use Rattle.der_form.specs.Reading.{bool_at, int_at, enum_at, item_below, item_with};
+ghost use Rattle.der_fields.specs.FieldsReading.{stop_at};
+ghost use Rattle.der_fields.specs.Reading.{bool_at, int_at, enum_at, item_below, item_with};
 ghost use Rattle.der_decode.specs.Private.Leaves.{IsLeaf, IsLeafAt, IsPlain, Reads, ReadsLeaf, StopsLeaf};
 
 use crate::faults::Fault;
 use crate::wholes::whole;
 use asn_types::Form;
-use codecs::Spot;
+use base_codecs::Spot;
+use base_texts::{Text, TextError};
 use der_fields::{Stop, Why};
-use simple_types::{Integer, ValueLabel};
-use simple_values::{is_within, place_of};
+use simple_types::{Integer, ValueLabel, is_within, place_of};
 use std::alloc::Global;
-use xa_base::{Text, TextError};
 
 // A BOOLEAN (clauses 8.2 and 11.1).
 fn boolean(octets: &[u8], spot: Spot) -> Result<ValueLabel, Stop>

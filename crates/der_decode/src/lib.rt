@@ -1,4 +1,4 @@
-//! Values from the distinguished encoding (X.690, DER).
+//! Decodes values from DER (X.690).
 //!
 //! Read first: `specs/Answers`, then `decode_der` in `src/decoding.rt`.
 #![tactic(auto)]

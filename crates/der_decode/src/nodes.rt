@@ -1,16 +1,16 @@
 //! The nodes of a value.
 ghost use Rattle.std.specs.Prelude.{◌≡◌, [], ◌<◌, ◌≤◌, ◌+◌, IfOk, OnOk, MatchBool, length, false, drop, None};
-ghost use Rattle.label_tree.specs.Rose.{label_of, kids_of};
-ghost use Rattle.flat_tree.specs.Zips.{added};
+ghost use Rattle.base_trees.specs.Rose.{label_of, kids_of};
+ghost use Rattle.base_flat_trees.specs.Zips.{added};
 ghost use Rattle.asn_types.specs.declared.types.Form.TheVariants as form;
 ghost use Rattle.asn_types.specs.Modules.{IsModule};
 ghost use Rattle.asn_types.specs.Parts.{parts_of};
 ghost use Rattle.asn_types.specs.Refs.{IsOf, resolve};
 ghost use Rattle.per_fields.specs.Nodes.{is_no_text};
-ghost use Rattle.codecs.specs.Reading.{ended_at};
-ghost use Rattle.codecs.specs.Sequences.{items_at, parts_at};
-ghost use Rattle.der_fields.specs.Reading.{stop_at};
-ghost use Rattle.der_form.specs.Reading.{starts, is_optional, unexpected, parts_from, never, sequence_at, choice_at, sequence_of_at, node_read};
+ghost use Rattle.base_codecs.specs.Reading.{ended_at};
+ghost use Rattle.base_codecs.specs.Sequences.{items_at, parts_at};
+ghost use Rattle.der_fields.specs.FieldsReading.{stop_at};
+ghost use Rattle.der_fields.specs.Reading.{starts, is_optional, unexpected, parts_from, never, sequence_at, choice_at, sequence_of_at, node_read};
 ghost use Rattle.der_decode.specs.Private.Bodies as bodies;
 ghost use Rattle.der_decode.specs.Private.Newest.{newest};
 ghost use Rattle.der_decode.specs.Private.Showing.{Shows, ShowsParts};
@@ -21,12 +21,11 @@ use crate::identifiers::{begins_so, is_open};
 use crate::leaves::leaf;
 use crate::rules::{has_no_rules, leaf_keeps, owned, unless_standard};
 use asn_types::{Component, Form, Module, Role, TypeLabel, resolve};
-use codecs::Spot;
+use base_codecs::Spot;
+use base_flat_trees::Builder;
+use base_trees::Tree;
 use der_fields::{Stop, Why};
-use flat_tree::Builder;
-use label_tree::Tree;
-use simple_types::{Flags, Standard, ValueLabel};
-use simple_values::is_at_most;
+use simple_types::{Flags, Standard, ValueLabel, is_at_most};
 use std::alloc::Global;
 
 fn below(role: Role, depth: u32) -> u32

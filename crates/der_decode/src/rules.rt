@@ -1,27 +1,26 @@
 //! The rule of a node, and the default or fixed value of a part.
 ghost use Rattle.std.specs.Prelude.{◌≡◌, ◌↔◌, ◌⊎◌, IfOk, IfErr, OnOk, IsTrue};
-ghost use Rattle.label_tree.specs.Rose.{Rose, label_of};
-ghost use Rattle.flat_tree.specs.Zips.{added};
+ghost use Rattle.base_trees.specs.Rose.{Rose, label_of};
+ghost use Rattle.base_flat_trees.specs.Zips.{added};
 ghost use Rattle.simple_types.specs.declared.labels.ValueLabel.{ValueLabel};
 ghost use Rattle.asn_types.specs.Modules.{AreWellFormed, IsModule};
 ghost use Rattle.asn_types.specs.Refs.{IsOf};
 ghost use Rattle.asn_values.specs.Values.{Kept, Own, OwnAt};
 ghost use Rattle.per_fields.specs.Owning as owning;
-ghost use Rattle.der_fields.specs.Reading.{stop_at};
-ghost use Rattle.der_form.specs.Reading as reading;
-ghost use Rattle.der_form.specs.Reading.{leaf_of};
+ghost use Rattle.der_fields.specs.FieldsReading.{stop_at};
+ghost use Rattle.der_fields.specs.Reading as reading;
+ghost use Rattle.der_fields.specs.Reading.{leaf_of};
 ghost use Rattle.der_decode.specs.Private.Bodies.{HasNoKids};
 
 use crate::faults::Fault;
 use asn_types::{Component, Form, Module, TypeLabel, resolve};
 use asn_values::{kept, own, spelling};
+use base_flat_trees::{Builder, Flat, Node};
+use base_texts::{Memory, is_treated};
+use base_trees::Tree;
 use der_fields::{Stop, Why};
-use flat_tree::{Builder, Flat, Node};
-use label_tree::Tree;
-use simple_types::{Standard, ValueLabel};
-use simple_values::has_characters;
+use simple_types::{Standard, ValueLabel, has_characters};
 use std::alloc::Global;
-use xa_base::{Memory, is_treated};
 
 /// Whether every value of a type, which is no reference, keeps the rules of its first node. LIST stands on a SEQUENCE OF
 /// alone, USE-UNION on a CHOICE, EMBED-VALUES and USE-ORDER on a SEQUENCE.

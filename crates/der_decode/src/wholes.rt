@@ -1,12 +1,12 @@
 //! Whole numbers in two's complement (X.690, clause 8.3).
 ghost use Rattle.std.specs.Prelude.{◌≡◌, ◌<◌, ◌≤◌, ◌^◌, ◌∷◌, true, Ok, Err, IfOk, IfErr, length};
-ghost use Rattle.simple_values.specs.Lexical.{is_128_bits};
+ghost use Rattle.simple_types.specs.Lexical.{is_128_bits};
 ghost use Rattle.der_fields.specs.Octets.{are_nine_equal, signed_value, value_from};
-ghost use Rattle.der_form.specs.Reading.{whole_at};
+ghost use Rattle.der_fields.specs.Reading.{whole_at};
 ghost use Rattle.der_decode.specs.Private.Leaves.{end_of};
 ghost use Rattle.der_decode.specs.Private.Signs.{turned, turned_octet};
 
-use codecs::Spot;
+use base_codecs::Spot;
 use der_fields::{Stop, Why};
 
 // Whether the first nine bits are equal, so that fewer octets would do (clause 8.3.2).

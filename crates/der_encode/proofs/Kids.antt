@@ -4,11 +4,11 @@ use Rattle.std.specs.Prelude.{slice_get, replicate, ℤ}
 use Rattle.std.proofs.lemmas.Bool.{ltb-true}
 use Rattle.std.proofs.lemmas.List.{append-nil}
 use Rattle.std.proofs.lemmas.Option.{slice_get_within}
-use Rattle.label_tree.specs.Rose.{Rose, node, Roses, roses_of, list_of, label_of, kids_of, length_all}
-use Rattle.label_tree.proofs.Roses.{length-list_of, roses_of-list_of}
+use Rattle.base_trees.specs.Rose.{Rose, node, Roses, roses_of, list_of, label_of, kids_of, length_all}
+use Rattle.base_trees.proofs.Roses.{length-list_of, roses_of-list_of}
 use Rattle.simple_types.specs.declared.labels.ValueLabel.{ValueLabel}
 use Rattle.simple_types.specs.declared.labels.ValueLabel.TheVariants as value
-use Rattle.simple_values.specs.Lexical.{is_at_most}
+use Rattle.simple_types.specs.Lexical.{is_at_most}
 use Rattle.asn_types.specs.declared.modules.Assignment.{Assignment}
 use Rattle.asn_types.specs.declared.types.Component.{Component}
 use Rattle.asn_types.specs.declared.types.Form.{Form}
@@ -18,7 +18,7 @@ use Rattle.asn_types.specs.Refs.{resolve}
 use Rattle.asn_values.specs.Values.{ComponentPlace, place_of, put_first, present_from, place_at, alone, repeated, none_if, places_in, places, below, FitsAt, FitEach, In}
 use Rattle.asn_values.specs.Private.Placing.{FitPlaces}
 use Rattle.asn_values.proofs.Counting.{fits-kids}
-use Rattle.der_form.specs.Encoding.{tags_from, tags_of, tagged, number_in, contents, headed, identifier, is_open, wrapped, der, each_der, distinguished}
+use Rattle.der_fields.specs.Encoding.{tags_from, tags_of, tagged, number_in, contents, headed, identifier, is_open, wrapped, der, each_der, distinguished}
 use Rattle.der_encode.specs.Private.Kids.{HasItem, FitsSomewhere, PartsFit, parts_octets, ItemsFit, items_octets, FitAt, octets_at, KidsFit, resolved_octets}
 
 pub some_same : {A : Type 0} {x y : A} → Some x ≡ Some y → x ≡ y

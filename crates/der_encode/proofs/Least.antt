@@ -3,7 +3,7 @@ use Rattle.std.proofs.Common.{◌≡◌, ℕ, zero, suc, ◌+◌, ◌-◌, ◌*�
 use Rattle.std.proofs.lemmas.Bool.{cases_lt, lt-ltb, le-ltb}
 use Rattle.std.proofs.lemmas.List.{reverse-append, length-append, length-reverse}
 use Rattle.der_fields.specs.Octets.{octets_from, octets_of}
-use Rattle.der_fields.proofs.Numbers.{pick_true, pick_false}
+use Rattle.der_fields.proofs.FieldsNumbers.{pick_true, pick_false}
 use Rattle.der_encode.specs.Private.Turned.{turned, turned_octet}
 
 module _ (top : ℕ) (some : 0 < top) where

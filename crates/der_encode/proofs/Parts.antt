@@ -1,13 +1,13 @@
 -- Components and items, the last first.
 use Rattle.std.proofs.Common.{◌≡◌, ℕ, suc, ◌+◌, ◌-◌, ◌<◌, ◌≤◌, Bool, true, false, Some, None, Result, Ok, Err, OnOk, List, [], ◌∷◌, ◌++◌, length, get_or, take, reverse, refl, sym, ap, ◌∙◌, subst, arith, append_assoc}
 use Rattle.std.proofs.lemmas.List.{append-nil, reverse-append, length-append, length-reverse, take_more, length-take-le}
-use Rattle.label_tree.specs.Rose.{Rose, roses_of, node_count, count_all}
-use Rattle.label_tree.proofs.Roses.{count_all-push}
+use Rattle.base_trees.specs.Rose.{Rose, roses_of, node_count, count_all}
+use Rattle.base_trees.proofs.Roses.{count_all-push}
 use Rattle.simple_types.specs.declared.labels.ValueLabel.{ValueLabel}
 use Rattle.asn_types.specs.declared.modules.Assignment.{Assignment}
 use Rattle.asn_types.specs.declared.types.TypeLabel.{TypeLabel}
 use Rattle.der_fields.specs.Octets.{length_octets}
-use Rattle.der_form.specs.Encoding.{headed, der}
+use Rattle.der_fields.specs.Encoding.{headed, der}
 use Rattle.der_encode.specs.Private.Kids.{FitsSomewhere, PartsFit, parts_octets, ItemsFit, items_octets}
 
 pub on_ok : {A E : Type 0} (r : Result A E) {P Q : Type 0} → (P → Q) → OnOk r P → OnOk r Q

@@ -2,9 +2,9 @@
 use Rattle.std.proofs.Common.{◌≡◌, ℕ, zero, suc, ◌+◌, ◌/◌, ◌%◌, ◌<◌, ◌≤◌, Bool, ltb, eqb, List, [], ◌∷◌, ◌++◌, reverse, refl, sym, ap, ◌∙◌, arith, append_assoc, inl, inr}
 use Rattle.std.proofs.lemmas.Bool.{cases_lt, le-ltb, eq-eqb, ne_eqb}
 use Rattle.std.proofs.lemmas.List.{reverse-append}
-use Rattle.codecs.proofs.Sequences.{cond_false}
+use Rattle.base_codecs.proofs.Sequences.{cond_false}
 use Rattle.der_fields.specs.Octets.{high_sevens, sevens, form_bit, context_identifier}
-use Rattle.der_fields.proofs.Numbers.{pick_true, pick_false}
+use Rattle.der_fields.proofs.FieldsNumbers.{pick_true, pick_false}
 
 tail_last : (turns n : ℕ) (tail : List ℕ) → high_sevens turns n tail ≡ high_sevens turns n [] ++ tail
 unfolding high_sevens

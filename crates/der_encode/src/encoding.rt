@@ -1,13 +1,13 @@
 //! The distinguished encoding of a value.
 ghost use Rattle.std.specs.Prelude.{◌≡◌, IfOk};
 ghost use Rattle.asn_values.specs.Values.{In};
-ghost use Rattle.der_form.specs.Encoding.{distinguished};
+ghost use Rattle.der_fields.specs.Encoding.{distinguished};
 
 use crate::nodes::put_node;
 use asn_types::Module;
+use base_texts::Memory;
 use simple_types::Value;
 use std::alloc::Global;
-use xa_base::Memory;
 
 /// The octets of a value of the type of the assignment with this number.
 ///

@@ -1,8 +1,8 @@
-//! Values to the distinguished encoding (X.690, DER).
+//! Encodes values in DER (X.690).
 //!
-//! Octets are put from the last to the first, so that each length is known when it is put, and all are turned round at the end.
+//! Octets are written from the last to the first, so that each length is known when it is written, and reversed at the end.
 //!
-//! Read first: `specs/Encoding` of `der_form`, then `encode_der` in `src/encoding.rt`.
+//! Read first: `specs/Encoding` of `der_fields`, then `encode_der` in `src/encoding.rt`.
 #![tactic(auto)]
 
 mod encoding;

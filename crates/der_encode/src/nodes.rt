@@ -1,17 +1,17 @@
 //! The nodes of a value, each from its last octet to its first.
 ghost use Rattle.std.specs.Prelude.{◌≡◌, ◌++◌, OnOk, IfOk, reverse};
-ghost use Rattle.label_tree.specs.Rose.{kids_of};
-ghost use Rattle.der_form.specs.Encoding.{der, identifier, bool_octet, item_number, is_open};
+ghost use Rattle.base_trees.specs.Rose.{kids_of};
+ghost use Rattle.der_fields.specs.Encoding.{der, identifier, bool_octet, item_number, is_open};
 ghost use Rattle.der_encode.specs.Private.Kids.{HasItem, FitsSomewhere, PartsFit, parts_octets, ItemsFit, items_octets, KidsFit, resolved_octets};
 
 use crate::octets::{put_context, put_length, put_signed, put_text};
 use asn_types::{Form, Module, TypeLabel, resolve};
-use der_form::{is_constructed, universal_identifier};
-use flat_tree::Node;
-use label_tree::Tree;
+use base_flat_trees::Node;
+use base_texts::Memory;
+use base_trees::Tree;
+use der_fields::{is_constructed, universal_identifier};
 use simple_types::ValueLabel;
 use std::alloc::Global;
-use xa_base::Memory;
 
 // The kids of a value, side by side: a tree tells them from the first to the last alone, and here the last is wanted first. Each node is
 // in one such list, so all of them take a time that is linear in the nodes.

@@ -3,7 +3,7 @@ ghost use Rattle.std.specs.Prelude.{◌≡◌, ◌<◌, ◌≤◌, ◌++◌, OnO
 ghost use Rattle.der_fields.specs.Octets.{octets_of, length_octets, signed_octets, context_identifier};
 ghost use Rattle.der_encode.specs.Private.Turned.{turned, turned_octet};
 
-use xa_base::Memory;
+use base_texts::Memory;
 
 // An octet with each bit turned over, or as it is.
 fn turn(octet: u8, negative: bool) -> u8

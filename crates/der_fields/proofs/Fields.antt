@@ -2,17 +2,17 @@
 use Rattle.std.proofs.Common.{◌≡◌, ℕ, zero, suc, ◌+◌, ◌-◌, ◌<◌, ◌≤◌, Bool, true, false, cond, eqb, ltb, not, ◌||◌, List, [], ◌∷◌, ◌++◌, length, drop, refl, sym, ap, ◌∙◌, subst, arith, Ok, inl, inr}
 use Rattle.std.proofs.lemmas.Bool.{cases_lt, lt-ltb, le-ltb, ltb-false, ne_eqb, not-false}
 use Rattle.std.proofs.lemmas.List.{drop-drop}
-use Rattle.codecs.specs.declared.spots.Spot.{Spot}
-use Rattle.codecs.specs.Reading.{◌>>=◌, Writer, then_write, moved, stop_if, with_spot, window_at, left_at}
-use Rattle.codecs.specs.Codec.{most_nodes, Stands, Came, CodecBefore, Anything, Codec, Filling}
-use Rattle.codecs.proofs.Codecs.{stop_ok, stop_not, ok_is, same_spot, split, behind, came-then, moved-again, then_codec, check_codec, other_words, other_reader, left_codec, window_codec}
-use Rattle.codecs.proofs.Lists.{all_front, all_take, all_drop}
-use Rattle.codecs.proofs.Sequences.{cond_true, cond_false}
+use Rattle.base_codecs.specs.declared.spots.Spot.{Spot}
+use Rattle.base_codecs.specs.Reading.{◌>>=◌, Writer, then_write, moved, stop_if, with_spot, window_at, left_at}
+use Rattle.base_codecs.specs.Codec.{most_nodes, Stands, Came, CodecBefore, Anything, Codec, Filling}
+use Rattle.base_codecs.proofs.Codecs.{stop_ok, stop_not, ok_is, same_spot, split, behind, came-then, moved-again, then_codec, check_codec, other_words, other_reader, left_codec, window_codec}
+use Rattle.base_codecs.proofs.Lists.{all_front, all_take, all_drop}
+use Rattle.base_codecs.proofs.Sequences.{cond_true, cond_false}
 use Rattle.der_fields.specs.declared.stops.Stop.{Stop}
 use Rattle.der_fields.specs.declared.stops.Why.TheVariants.{Short, Tag, NotShortest}
 use Rattle.der_fields.specs.Octets.{octets_of, value_from, length_octets, is_not_shortest, begins}
-use Rattle.der_fields.specs.Reading.{stop_at, AreOctets, Octets, raw_at, number_of, length_from, length_at, sized_at, tagged_at, expected_at}
-use Rattle.der_fields.proofs.Numbers.{Leads, shape_of, octets_again}
+use Rattle.der_fields.specs.FieldsReading.{stop_at, AreOctets, Octets, raw_at, number_of, length_from, length_at, sized_at, tagged_at, expected_at}
+use Rattle.der_fields.proofs.FieldsNumbers.{Leads, shape_of, octets_again}
 use Rattle.der_fields.proofs.Heads.{begins_all, begins_parts}
 
 -- what was taken of octets are octets

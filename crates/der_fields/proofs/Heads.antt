@@ -1,8 +1,8 @@
 -- No identifier begins another.
 use Rattle.std.proofs.Common.{◌≡◌, ℕ, zero, suc, ◌+◌, ◌-◌, ◌*◌, ◌/◌, ◌%◌, ◌<◌, ◌≤◌, Bool, true, false, cond, eqb, ltb, List, [], ◌∷◌, ◌++◌, length, drop, refl, sym, ap, ◌∙◌, arith, inl, inr}
 use Rattle.std.proofs.lemmas.Bool.{cases_lt, lt-ltb, le-ltb, eqb-true, eq-eqb, ne_eqb, and_parts, and_from}
-use Rattle.codecs.proofs.Sequences.{cond_true, cond_false}
-use Rattle.der_fields.proofs.Numbers.{pick_true, pick_false}
+use Rattle.base_codecs.proofs.Sequences.{cond_true, cond_false}
+use Rattle.der_fields.proofs.FieldsNumbers.{pick_true, pick_false}
 use Rattle.der_fields.specs.Octets.{high_sevens, sevens, form_bit, context_identifier, begins}
 
 pub begins_all : (xs rest : List ℕ) → begins xs (xs ++ rest) ≡ true

@@ -1,159 +1,167 @@
--- Numbers have just one least list of octets.
-use Rattle.std.proofs.Common.{◌≡◌, ℕ, zero, suc, ◌+◌, ◌-◌, ◌*◌, ◌/◌, ◌%◌, ◌<◌, ◌≤◌, Bool, true, false, ltb, ◌||◌, ℤ, pos, negsuc, List, [], ◌∷◌, ◌++◌, refl, sym, ap, ◌∙◌, subst, arith, append_assoc, inl, inr}
-use Rattle.std.proofs.lemmas.Bool.{cases_lt, lt-ltb, le-ltb, ltb-false}
-use Rattle.std.proofs.lemmas.List.{append-nil}
-use Rattle.codecs.proofs.Sequences.{cond_true, cond_false}
-use Rattle.der_fields.specs.Octets.{octets_from, octets_of, value_from, is_long, flipped, signed_octets, signed_value, are_nine_equal}
-use Rattle.der_fields.specs.Reading.{AreOctets}
+-- Whole numbers that fill their contents, and the items of an ENUMERATED by their numbers.
+use Rattle.std.proofs.Common.{◌≡◌, ℕ, zero, suc, ◌+◌, ◌<◌, Bool, true, false, cond, ltb, not, ◌^◌, ℤ, pos, negsuc, Option, Some, None, List, [], ◌∷◌, length, All, refl, sym, ap, ◌∙◌, subst, arith, Result, Ok, Err}
+use Rattle.std.specs.Prelude.{slice_get}
+use Rattle.std.specs.List.{position_from, AllByRecursion}
+use Rattle.std.specs.List.Sorted.{IsStrictlySortedBy}
+use Rattle.std.specs.Ordering.{int_cmp, int_eq, is_eq}
+use Rattle.std.specs.declared.cmp.Ordering.TheVariants.{Less}
+use Rattle.std.proofs.lemmas.Bool.{lt-ltb, ltb-true, not-false}
+use Rattle.std.proofs.lemmas.Bool.Decides.{Decides-int_eq}
+use Rattle.std.proofs.lemmas.List.Elements.{All-head, All-tail}
+use Rattle.simple_types.specs.Lexical.{is_128_bits}
+use Rattle.base_codecs.specs.declared.spots.Spot.{Spot}
+use Rattle.base_codecs.specs.Reading.{with_spot, left_at}
+use Rattle.base_codecs.specs.Codec.{Nothing, Filling}
+use Rattle.base_codecs.proofs.Codecs.{stop_ok, stop_not, ok_is, check_codec, left_codec}
+use Rattle.der_fields.specs.declared.stops.Stop.{Stop}
+use Rattle.der_fields.specs.declared.stops.Why.TheVariants.{NotShortest, Content, TooWide, Range}
+use Rattle.der_fields.specs.Octets.{signed_octets, signed_value, are_nine_equal}
+use Rattle.der_fields.specs.FieldsReading.{stop_at, AreOctets}
+use Rattle.der_fields.proofs.FieldsNumbers.{signed_again, value_again}
+use Rattle.der_fields.proofs.Fields.{octets_codec}
+use Rattle.asn_types.specs.declared.types.Form.{Form}
+use Rattle.asn_types.specs.declared.types.Form.TheVariants as form
+use Rattle.der_fields.specs.Encoding.{number_in, item_number}
+use Rattle.der_fields.specs.Reading.{is_nothing, whole_of, whole_at, item_below, item_with, item_of, item_at}
 
--- the first two octets together are no less than the top
-abbrev pub Leads : ℕ → ℕ → List ℕ → Type 0
-Leads top n [] = Unit {0}
-Leads top n (y ∷ ys) = top ≤ 256 * n + y
+-- WHOLE NUMBERS of 128 bits
+abbrev pub IsWhole : ℤ → Type 0
+IsWhole z = is_128_bits z ≡ true
 
--- what octets there are: the first is below the top, and none are too many
-pub record Shape (top n : ℕ) (tail found : List ℕ) : Type 0 where
-  pub first : ℕ
-  pub others : List ℕ
-  pub is : found ≡ first ∷ others
-  pub small : first < top
-  pub leads : Leads top first others
-  pub octets : AreOctets others
-  pub value : value_from first others ≡ value_from n tail
+abbrev Raw : List ℕ → Type 0
+Raw xs = Unit {0} × AreOctets xs
 
--- what a test picks, where what it doesn't pick need not be computed
-pub pick_true : (b : Bool) (x y : List ℕ) → b ≡ true → elim b as (λ _. List ℕ) [ true ↦ x | false ↦ y ] ≡ x
-pick_true b x y e = ap (λ c. elim c as (λ _. List ℕ) [ true ↦ x | false ↦ y ]) e
+whole_pass : (s r : Spot) (z : ℤ) → IsWhole z → Raw (signed_octets z) × (whole_of s (signed_octets z, r) ≡ Ok (z, r))
+whole_pass s r z h =
+    let k = signed_again z in
+    let raw = signed_octets z in
+    let w = signed_value raw in (
+      (tt, k.octets),
+      stop_not (is_nothing raw) (stop_at s.at Content) _ (ap is_nothing k.is)
+          ∙ stop_not (are_nine_equal raw) (stop_at s.at NotShortest) _ k.short
+          ∙ stop_not (not (is_128_bits w)) (stop_at s.at TooWide) _ (ap (λ m. not (is_128_bits m)) k.value ∙ ap not h)
+          ∙ ap (λ m. with_spot m r) k.value,
+    )
 
-pub pick_false : (b : Bool) (x y : List ℕ) → b ≡ false → elim b as (λ _. List ℕ) [ true ↦ x | false ↦ y ] ≡ y
-pick_false b x y e = ap (λ c. elim c as (λ _. List ℕ) [ true ↦ x | false ↦ y ]) e
+whole_back : (s : Spot) (x : List ℕ × Spot) (y : ℤ × Spot) → Raw x.0 → whole_of s x ≡ Ok y → IsWhole y.0 × (signed_octets y.0 ≡ x.0) × (y.1 ≡ x.1)
+whole_back s ([], r) y v e = absurd cc
+whole_back s (x ∷ xs, r) y v e =
+    let raw = x ∷ xs in
+    let w = signed_value raw in
+    let a = stop_ok (is_nothing raw) (stop_at s.at Content) _ y e in
+    let b = stop_ok (are_nine_equal raw) (stop_at s.at NotShortest) _ y a.1 in
+    let c = stop_ok (not (is_128_bits w)) (stop_at s.at TooWide) (with_spot w r) y b.1 in
+    subst (λ (z : ℤ × Spot). IsWhole z.0 × (signed_octets z.0 ≡ raw) × (z.1 ≡ r)) (ok_is {S = Stop} (w, r) y c.1) (not-false (is_128_bits w) c.0, value_again x xs v.1 b.0, refl)
 
-module _ (top : ℕ) (some : 0 < top) where
-  pub shape : (turns n : ℕ) (tail : List ℕ) → n ≤ turns → Leads top n tail → AreOctets tail → Shape top n tail (octets_from top turns n tail)
-  unfolding octets_from
-  shape zero n tail le leads all = record { first = n; others = tail; is = refl; small = omega (arith, some, le); leads = leads; octets = all; value = refl }
-  shape (suc turns) n tail le leads all = elim (cases_lt n top) [
-    | inl lt ↦ record { first = n; others = tail; is = pick_true (ltb n top) (n ∷ tail) (octets_from top turns (n / 256) (n % 256 ∷ tail)) (lt-ltb n top lt); small = lt; leads = leads; octets = all; value = refl }
-    | inr ge ↦ (
-        let k = shape turns (n / 256) (n % 256 ∷ tail) (omega (arith, le, some, ge)) (omega (arith, ge)) (omega arith, all) in
-        record {
-          first = k.first;
-          others = k.others;
-          is = pick_false (ltb n top) (n ∷ tail) (octets_from top turns (n / 256) (n % 256 ∷ tail)) (le-ltb n top ge) ∙ k.is;
-          small = k.small;
-          leads = k.leads;
-          octets = k.octets;
-          value = k.value ∙ ap (λ m. value_from m tail) (omega arith);
-        })
-  ]
+pub whole_codec : Filling AreOctets IsWhole (λ z. 0) (λ z p. signed_octets z) whole_at
+unfolding whole_at
+whole_codec =
+    check_codec AreOctets Nothing Raw (λ xs. 0) (λ xs p. xs) left_at IsWhole signed_octets whole_of
+    (octets_codec Nothing (λ xs. Unit {0}) (λ xs. 0) (λ xs p. xs) left_at (left_codec AreOctets) (λ xs v p q. refl)) whole_pass whole_back
 
-  -- octets are those of their number
-  abbrev Canonical : ℕ → List ℕ → Type 0
-  Canonical n found = (turns : ℕ) (tail : List ℕ) → n ≤ turns → octets_from top turns n tail ≡ found ++ tail
+-- THE ITEM WITH A NUMBER among numbers that ascend
+found_later : (k j : ℕ) (numbers : List ℤ) (z : ℤ) → IsStrictlySortedBy int_cmp numbers → slice_get numbers j ≡ Some z → position_from (λ n. int_eq n z) k numbers ≡ Some (k + j)
+unfolding IsStrictlySortedBy
+found_later k j [] z sorted e = absurd cc
+found_later k zero (n ∷ numbers) z sorted e =
+    let same : n ≡ z = cc in
+    ap (λ b. cond b (Some k) (position_from (λ n. int_eq n z) (k + 1) numbers)) ((Decides-int_eq n z).1 same) ∙ ap Some (omega arith)
+found_later k (suc j) (n ∷ numbers) z sorted e =
+    ap (λ b. cond b (Some k) (position_from (λ n. int_eq n z) (k + 1) numbers)) (ap is_eq (below j numbers sorted.0 e))
+    ∙ found_later (k + 1) j numbers z sorted.1 e ∙ ap Some (omega arith)
+  where
+    below : (j : ℕ) (numbers : List ℤ) → AllByRecursion (λ y. int_cmp n y ≡ Less) numbers → slice_get numbers j ≡ Some z → int_cmp n z ≡ Less
+    below j [] all e = absurd cc
+    below zero (m ∷ numbers) all e = let same : m ≡ z = cc in subst (λ y. int_cmp n y ≡ Less) same all.0
+    below (suc j) (m ∷ numbers) all e = below j numbers all.1 e
 
-  canonical_one : (n : ℕ) → n < top → Canonical n (n ∷ [])
-  unfolding octets_from
-  canonical_one n lt zero tail le = refl
-  canonical_one n lt (suc turns) tail le = pick_true (ltb n top) (n ∷ tail) (octets_from top turns (n / 256) (n % 256 ∷ tail)) (lt-ltb n top lt)
+pub record IsAt (k : ℕ) (numbers : List ℤ) (z : ℤ) (i : ℕ) : Type 0 where
+  pub behind : ℕ
+  pub place : i ≡ k + behind
+  pub within : behind < length numbers
+  pub is : slice_get numbers behind ≡ Some z
 
-  canonical_more : (n y : ℕ) (found : List ℕ) → Canonical n found → top ≤ 256 * n + y → y < 256 → Canonical (256 * n + y) (found ++ y ∷ [])
-  unfolding octets_from
-  canonical_more n y found h ge lt zero tail le = absurd (omega (arith, ge, le, some))
-  canonical_more n y found h ge lt (suc turns) tail le =
-      let m = 256 * n + y in
-      let q : m / 256 ≡ n = omega (arith, lt) in
-      let r : m % 256 ≡ y = omega (arith, lt) in
-      pick_false (ltb m top) (m ∷ tail) (octets_from top turns (m / 256) (m % 256 ∷ tail)) (le-ltb m top ge)
-      ∙ ap (λ k. octets_from top turns k (m % 256 ∷ tail)) q ∙ ap (λ k. octets_from top turns n (k ∷ tail)) r
-      ∙ h turns (y ∷ tail) (omega (arith, le, ge, some)) ∙ sym (append_assoc found (y ∷ []) tail)
+some_is : {A : Type 0} (x y : A) → Some x ≡ Some y → x ≡ y
+some_is x y e = cc
 
-  canonical_all : (xs : List ℕ) (n : ℕ) (found : List ℕ) → Canonical n found → top ≤ n → AreOctets xs → Canonical (value_from n xs) (found ++ xs)
-  canonical_all [] n found h ge all turns tail le = h turns tail le ∙ ap (λ m. m ++ tail) (sym (append-nil found))
-  canonical_all (x ∷ xs) n found h ge all turns tail le =
-      canonical_all xs (256 * n + x) (found ++ x ∷ []) (canonical_more n x found h (omega (arith, ge)) all.0) (omega (arith, ge)) all.1 turns tail le
-      ∙ ap (λ m. m ++ tail) (append_assoc found (x ∷ []) xs)
+is_there : (k : ℕ) (numbers : List ℤ) (z : ℤ) (i : ℕ) → position_from (λ n. int_eq n z) k numbers ≡ Some i → IsAt k numbers z i
+is_there k [] z i e = absurd cc
+is_there k (n ∷ numbers) z i e = by (int_eq n z) refl e (is_there (k + 1) numbers z i)
+  where
+    by : (b : Bool) → int_eq n z ≡ b → cond b (Some k) (position_from (λ n. int_eq n z) (k + 1) numbers) ≡ Some i
+        → (position_from (λ n. int_eq n z) (k + 1) numbers ≡ Some i → IsAt (k + 1) numbers z i) → IsAt k (n ∷ numbers) z i
+    by true same e later = record { behind = 0; place = sym (some_is k i e) ∙ (omega arith); within = omega arith; is = ap Some ((Decides-int_eq n z).0 same) }
+    by false other e later = let r = later e in record { behind = suc r.behind; place = r.place ∙ (omega arith); within = omega (arith, r.within); is = r.is }
 
-  pub octets_again : (x : ℕ) (xs : List ℕ) → x < top → Leads top x xs → AreOctets xs → octets_of top (value_from x xs) ≡ x ∷ xs
-  octets_again x [] lt leads all = canonical_one x lt x [] (omega arith)
-  octets_again x (y ∷ ys) lt leads all =
-      canonical_all ys (256 * x + y) (x ∷ y ∷ []) (canonical_more x y (x ∷ []) (canonical_one x lt) leads all.0) leads all.1 (value_from (256 * x + y) ys) [] (omega arith)
-      ∙ append-nil (x ∷ y ∷ ys)
+within_some : (i : ℕ) (numbers : List ℤ) → i < length numbers → (z : ℤ) × (slice_get numbers i ≡ Some z)
+within_some i [] h = absurd (omega arith)
+within_some zero (n ∷ numbers) h = (n, refl)
+within_some (suc i) (n ∷ numbers) h = within_some i numbers (omega arith)
 
-  pub shape_of : (n : ℕ) → Shape top n [] (octets_of top n)
-  shape_of n = shape n n [] (omega arith) tt tt
+all_whole : (i : ℕ) (numbers : List ℤ) (z : ℤ) → All IsWhole numbers → slice_get numbers i ≡ Some z → IsWhole z
+all_whole i [] z all e = absurd cc
+all_whole zero (n ∷ numbers) z all e = let same : n ≡ z = cc in subst IsWhole same (All-head IsWhole n numbers all)
+all_whole (suc i) (n ∷ numbers) z all e = all_whole i numbers z (All-tail IsWhole n numbers all) e
 
-pub long_leads : (top x : ℕ) (xs : List ℕ) → is_long top (x ∷ xs) ≡ false → Leads top x xs
-long_leads top x [] e = tt
-long_leads top x (y ∷ ys) e = ltb-false (256 * x + y) top e
+-- what is asked of the items of a form, of which there are so many
+pub record HasItems (f : Form) (items : ℕ) : Type 0 where
+  pub again : (i : ℕ) → i < items → IsWhole (item_number f i) × (item_with f (item_number f i) ≡ Some i)
+  pub back : (z : ℤ) (i : ℕ) → item_with f z ≡ Some i → (i < items) × (item_number f i ≡ z)
 
-pub leads_long : (top x : ℕ) (xs : List ℕ) → Leads top x xs → is_long top (x ∷ xs) ≡ false
-leads_long top x [] h = refl
-leads_long top x (y ∷ ys) h = le-ltb (256 * x + y) top h
+pub numbers_items : (numbers : List ℤ) → IsStrictlySortedBy int_cmp numbers → All IsWhole numbers → HasItems (form.Numbers numbers) (length numbers)
+numbers_items numbers sorted whole = record {
+  again = λ i h.
+      let k = within_some i numbers h in
+      let same : number_in (slice_get numbers i) ≡ k.0 = ap number_in k.1 in
+      (subst IsWhole (sym same) (all_whole i numbers k.0 whole k.1), ap (λ z. position_from (λ n. int_eq n z) 0 numbers) same ∙ found_later 0 i numbers k.0 sorted k.1 ∙ ap Some (omega arith));
+  back = λ z i e.
+      let k = is_there 0 numbers z i e in
+      let same : i ≡ k.behind = k.place ∙ (omega arith) in
+      (omega (arith, same, k.within), ap (λ j. number_in (slice_get numbers j)) same ∙ ap number_in k.is);
+}
 
--- NUMBERS WITH A SIGN
-flip-flip : (xs : List ℕ) → AreOctets xs → flipped (flipped xs) ≡ xs
-flip-flip [] all = refl
-flip-flip (x ∷ xs) all = ap (λ m. m ∷ flipped (flipped xs)) (omega (arith, all.0)) ∙ ap (λ m. x ∷ m) (flip-flip xs all.1)
+-- items that are numbered from 0 on
+counted_whole : (i items : ℕ) → i < items → items < 2 ^ 32 → IsWhole (pos i)
+counted_whole i items h few = lt-ltb i (2 ^ 127) (omega (arith, h, few))
 
-flip_octets : (xs : List ℕ) → AreOctets (flipped xs)
-flip_octets [] = tt
-flip_octets (x ∷ xs) = (omega arith, flip_octets xs)
+below_again : (i items : ℕ) → i < items → item_below items (pos i) ≡ Some i
+below_again i items h = ap (λ b. cond b (Some i) None) (lt-ltb i items h)
 
-or_false : (a b : Bool) → (a || b) ≡ false → (a ≡ false) × (b ≡ false)
-or_false false b e = (refl, e)
-or_false true b e = absurd cc
+below_back : (items : ℕ) (z : ℤ) (i : ℕ) → item_below items z ≡ Some i → (i < items) × (pos i ≡ z)
+below_back items (pos j) i e = by (ltb j items) refl e
+  where
+    by : (b : Bool) → ltb j items ≡ b → cond b (Some j) None ≡ Some i → (i < items) × (pos i ≡ pos j)
+    by true lt e = let same : j ≡ i = some_is j i e in (omega (arith, same, ltb-true j items lt), ap pos (sym same))
+    by false lt e = absurd cc
+below_back items (negsuc j) i e = absurd cc
 
-or_both : (a b : Bool) → a ≡ false → b ≡ false → (a || b) ≡ false
-or_both a b e f = rw e f
+pub words_items : (identifiers words : List (List ℕ)) → length words < 2 ^ 32 → HasItems (form.Words identifiers words) (length words)
+words_items identifiers words few = record {
+  again = λ i h. (counted_whole i (length words) h few, below_again i (length words) h);
+  back = λ z i e. below_back (length words) z i e;
+}
 
--- octets whose first is 128 or more are not those of a small number before others
-large_first : (x : ℕ) (xs : List ℕ) → 128 ≤ x → is_long 128 (x ∷ xs) ≡ false
-large_first x [] ge = refl
-large_first x (y ∷ ys) ge = le-ltb (256 * x + y) 128 (omega (arith, ge))
+pub order_items : (identifiers : List (List ℕ)) → length identifiers < 2 ^ 32 → HasItems (form.Order identifiers) (length identifiers)
+order_items identifiers few = record {
+  again = λ i h. (counted_whole i (length identifiers) h few, below_again i (length identifiers) h);
+  back = λ z i e. below_back (length identifiers) z i e;
+}
 
-pub record Signed (z : ℤ) (found : List ℕ) : Type 0 where
-  pub first : ℕ
-  pub others : List ℕ
-  pub is : found ≡ first ∷ others
-  pub value : signed_value found ≡ z
-  pub short : are_nine_equal found ≡ false
-  pub octets : AreOctets found
+-- its number is read as the item
+pub item_codec : (f : Form) (items : ℕ) → HasItems f items → Filling AreOctets (λ i. i < items) (λ i. 0) (λ i p. signed_octets (item_number f i)) (item_at f)
+unfolding item_at
+item_codec f items has =
+    check_codec AreOctets Nothing IsWhole (λ z. 0) (λ z p. signed_octets z) whole_at (λ i. i < items) (item_number f) (item_of f) whole_codec pass back
+  where
+    found : Spot → Spot → Option ℕ → Result (ℕ × Spot) Stop
+    found s r o = elim o [ None ↦ Err (stop_at s.at Range) | Some i ↦ Ok (i, r) ]
 
--- what is written of a number is the least, and its value is the number
-pub signed_again : (z : ℤ) → Signed z (signed_octets z)
-signed_again (pos n) =
-    let k = shape_of 128 (omega arith) n in
-    let lead : is_long 128 (flipped (k.first ∷ k.others)) ≡ false = large_first (255 - k.first) (flipped k.others) (omega (arith, k.small)) in
-    record {
-      first = k.first;
-      others = k.others;
-      is = k.is;
-      value = ap signed_value k.is ∙ cond_true (ltb k.first 128) (pos (value_from k.first k.others)) (negsuc (value_from (255 - k.first) (flipped k.others))) (lt-ltb k.first 128 k.small) ∙ ap pos k.value;
-      short = ap are_nine_equal k.is ∙ or_both (is_long 128 (k.first ∷ k.others)) (is_long 128 (flipped (k.first ∷ k.others))) (leads_long 128 k.first k.others k.leads) lead;
-      octets = subst AreOctets (sym k.is) (omega (arith, k.small), k.octets);
-    }
-signed_again (negsuc n) =
-    let k = shape_of 128 (omega arith) n in
-    let x = 255 - k.first in
-    let xs = flipped k.others in
-    let back : 255 - x ≡ k.first = omega (arith, k.small) in
-    let again : flipped (x ∷ xs) ≡ k.first ∷ k.others = ap (λ m. m ∷ flipped xs) back ∙ ap (λ m. k.first ∷ m) (flip-flip k.others k.octets) in
-    record {
-      first = x;
-      others = xs;
-      is = ap flipped k.is;
-      value = ap (λ m. signed_value (flipped m)) k.is ∙ cond_false (ltb x 128) (pos (value_from x xs)) (negsuc (value_from (255 - x) (flipped xs))) (le-ltb x 128 (omega (arith, k.small)))
-          ∙ ap negsuc (ap (λ m. value_from m (flipped xs)) back ∙ ap (value_from k.first) (flip-flip k.others k.octets) ∙ k.value);
-      short = ap (λ m. are_nine_equal (flipped m)) k.is ∙ or_both (is_long 128 (x ∷ xs)) (is_long 128 (flipped (x ∷ xs))) (large_first x xs (omega (arith, k.small))) (ap (is_long 128) again ∙ leads_long 128 k.first k.others k.leads);
-      octets = subst (λ m. AreOctets (flipped m)) (sym k.is) (omega arith, flip_octets k.others);
-    }
+    pass : (s r : Spot) (i : ℕ) → i < items → IsWhole (item_number f i) × (item_of f s (item_number f i, r) ≡ Ok (i, r))
+    pass s r i h = let k = has.again i h in (k.0, ap (found s r) k.1)
 
--- the least octets are those of their value
-pub value_again : (x : ℕ) (xs : List ℕ) → AreOctets (x ∷ xs) → are_nine_equal (x ∷ xs) ≡ false → signed_octets (signed_value (x ∷ xs)) ≡ x ∷ xs
-value_again x xs all e =
-    let h = or_false (is_long 128 (x ∷ xs)) (is_long 128 (flipped (x ∷ xs))) e in
-    elim (cases_lt x 128) [
-      | inl lt ↦ ap signed_octets (cond_true (ltb x 128) (pos (value_from x xs)) (negsuc (value_from (255 - x) (flipped xs))) (lt-ltb x 128 lt)) ∙ octets_again 128 (omega arith) x xs lt (long_leads 128 x xs h.0) all.1
-      | inr ge ↦ ap signed_octets (cond_false (ltb x 128) (pos (value_from x xs)) (negsuc (value_from (255 - x) (flipped xs))) (le-ltb x 128 ge))
-          ∙ ap flipped (octets_again 128 (omega arith) (255 - x) (flipped xs) (omega (arith, ge)) (long_leads 128 (255 - x) (flipped xs) h.1) (flip_octets xs)) ∙ flip-flip (x ∷ xs) all
-    ]
+    back : (s : Spot) (x : ℤ × Spot) (y : ℕ × Spot) → IsWhole x.0 → item_of f s x ≡ Ok y → (y.0 < items) × (item_number f y.0 ≡ x.0) × (y.1 ≡ x.1)
+    back s (z, r) y v e = by (item_with f z) refl e
+      where
+        by : (o : Option ℕ) → item_with f z ≡ o → found s r o ≡ Ok y → (y.0 < items) × (item_number f y.0 ≡ z) × (y.1 ≡ r)
+        by None h e = absurd cc
+        by (Some i) h e = let k = has.back z i h in subst (λ (q : ℕ × Spot). (q.0 < items) × (item_number f q.0 ≡ z) × (q.1 ≡ r)) (ok_is {S = Stop} (i, r) y e) (k.0, k.1, refl)

@@ -1,47 +1,221 @@
--- Reading identifiers, lengths and contents (X.690), up to the first fault. An identifier isn't read, but compared with those expected.
-use Rattle.std.specs.Prelude.{ℕ, ◌-◌, ◌<◌, not, List, [], ◌∷◌, length, drop, Ok, nat_lt, if◌then◌else◌}
-use Rattle.codecs.specs.Reading.{◌>>=◌, Reader, moved, stop_if, with_spot, window_at, left_at}
-use Rattle.codecs.specs.Sequences.{AllFit}
+-- Reading the nodes of a value from octets (X.690), up to the first fault. Nodes are taken in the order of their first octets. The list
+-- ends where the contents do that stand round a node, for the root where the input ends.
+use Rattle.std.specs.Prelude.{ℕ, ℤ, pos, negsuc, zero, suc, ◌+◌, ◌&&◌, ◌||◌, ◌==◌, not, Bool, true, false, nat_lt, nat_le, Option, Some, None, List, [], ◌∷◌, length, slice_get, Result, Ok, Err, if◌then◌else◌}
+use Rattle.std.specs.List.{position_from}
+use Rattle.std.specs.Ordering.{int_eq}
+use Rattle.base_trees.specs.Rose.{Rose, node, none, more, roses_of, label_of, kids_of}
+use Rattle.simple_types.specs.declared.labels.ValueLabel.{ValueLabel}
+use Rattle.simple_types.specs.declared.labels.ValueLabel.TheVariants as value
+use Rattle.simple_types.specs.Lexical.{is_128_bits, is_from, is_to, is_at_most}
+use Rattle.asn_types.specs.declared.modules.Assignment.{Assignment}
+use Rattle.asn_types.specs.declared.types.Component.{Component}
+use Rattle.asn_types.specs.declared.types.Form.{Form}
+use Rattle.asn_types.specs.declared.types.Form.TheVariants as form
+use Rattle.asn_types.specs.declared.types.TypeLabel.{TypeLabel}
+use Rattle.asn_types.specs.Parts.{parts_of}
+use Rattle.asn_types.specs.Refs.{resolve}
+use Rattle.asn_values.specs.Values.{ComponentPlace, place_of, place_at, below}
+use Rattle.base_codecs.specs.declared.spots.Spot.{Spot}
+use Rattle.base_codecs.specs.Reading.{◌>>=◌, stop_if, with_spot, ended_at, left_at, entered_at}
+use Rattle.base_codecs.specs.Codec.{most_nodes}
+use Rattle.base_codecs.specs.Sequences.{items_at, parts_at, alternative_at}
 use Rattle.der_fields.specs.declared.stops.Stop.{Stop}
 use Rattle.der_fields.specs.declared.stops.Why.{Why}
-use Rattle.der_fields.specs.declared.stops.Why.TheVariants.{Short, Tag, NotShortest}
-use Rattle.der_fields.specs.Octets.{value_from, is_not_shortest, begins}
+use Rattle.der_fields.specs.declared.stops.Why.TheVariants.{Short, Missing, Tag, TooDeep, TooMany, NotShortest, Content, TooWide, Range, NotUtf8, DefaultWritten, NotAValue}
+use Rattle.der_fields.specs.Octets.{signed_value, are_nine_equal, begins}
+use Rattle.der_fields.specs.FieldsReading.{stop_at, Octets, sized_at, tagged_at, expected_at}
+use Rattle.per_fields.specs.Nodes.{is_no_text, most_deep}
+use Rattle.per_fields.specs.Owning.{owns, keeps, is_standard}
+use Rattle.per_fields.specs.Levels.{levels_needed}
+use Rattle.der_fields.specs.Encoding.{TaggedPlace, tagged_place, identifier, is_open}
 
-abbrev pub stop_at : ℕ → Why → Stop
-stop_at at why = record { at = at; why = why }
+-- a value without kids
+abbrev pub leaf_of : ValueLabel → Rose ValueLabel
+leaf_of l = node l none
 
-abbrev pub AreOctets : List ℕ → Type 0
-AreOctets xs = AllFit (λ x. x < 256) xs
+abbrev pub node_of : ValueLabel → List (Rose ValueLabel) → Rose ValueLabel
+node_of l vs = node l (roses_of vs)
 
-abbrev pub Octets : Type 0 → Type 0
-Octets A = Reader ℕ Stop A
+-- CONTENTS THAT ARE OCTETS: all that is left
+abbrev pub bool_of : Spot → List ℕ × Spot → Result (Rose ValueLabel × Spot) Stop
+bool_of s a = elim a.0 [
+  | [] ↦ Err (stop_at s.at Content)
+  | x ∷ xs ↦ elim xs [
+    | [] ↦ stop_if (not (x == 0x00 || x == 0xFF)) (stop_at s.at Content) (Ok (leaf_of (value.Bool (x == 0xFF)), a.1))
+    | y ∷ ys ↦ Err (stop_at s.at Content)
+  ]
+]
 
--- the next n octets, of a field that begins at an octet
-unfoldable pub raw_at : ℕ → ℕ → Octets (List ℕ)
-raw_at begin n X s = window_at (stop_at begin Short) n left_at X s
+unfoldable pub bool_at : Octets (Rose ValueLabel)
+bool_at X s = left_at X s >>= bool_of s
 
--- the one number that octets stand for
-abbrev pub number_of : List ℕ → ℕ
-number_of [] = 0
-number_of (x ∷ xs) = value_from x xs
+abbrev pub is_nothing : List ℕ → Bool
+is_nothing [] = true
+is_nothing (x ∷ xs) = false
 
--- A LENGTH, behind its first octet: that is the length, or tells how many octets have it (clauses 8.1.3.4 and 8.1.3.5)
-unfoldable pub length_from : ℕ → ℕ → Octets ℕ
-length_from begin x X s =
-    if nat_lt x 128 then Ok (x, s)
-    else raw_at begin (x - 128) X s >>= λ a. stop_if (is_not_shortest a.0) (stop_at begin NotShortest) (with_spot (number_of a.0) a.1)
+-- a number of 128 bits
+abbrev pub whole_of : Spot → List ℕ × Spot → Result (ℤ × Spot) Stop
+whole_of s a =
+    stop_if (is_nothing a.0) (stop_at s.at Content)
+    (stop_if (are_nine_equal a.0) (stop_at s.at NotShortest)
+    (stop_if (not (is_128_bits (signed_value a.0))) (stop_at s.at TooWide)
+    (with_spot (signed_value a.0) a.1)))
 
-unfoldable pub length_at : Octets ℕ
-length_at X s = raw_at s.at 1 X s >>= λ x. length_from s.at (number_of x.0) X x.1
+unfoldable pub whole_at : Octets ℤ
+whole_at X s = left_at X s >>= whole_of s
 
--- a length, and contents that fill it (clause 8.1.1)
-unfoldable pub sized_at : {A : Type 0} → Octets A → Octets A
-sized_at contents X s = length_at X s >>= λ n. window_at (stop_at s.at Short) n.0 contents X n.1
+-- within its bounds
+abbrev pub int_of : Option ℤ → Option ℤ → Spot → ℤ × Spot → Result (Rose ValueLabel × Spot) Stop
+int_of least greatest s z = stop_if (not (is_from least z.0 && is_to greatest z.0)) (stop_at s.at Range) (Ok (leaf_of (value.Int z.0), z.1))
 
--- what stands behind these octets
-unfoldable pub tagged_at : {A : Type 0} → List ℕ → Octets A → Octets A
-tagged_at head read X s = stop_if (not (begins head (drop s.at X))) (stop_at s.at Tag) (read X (moved s (length head) 0))
+unfoldable pub int_at : Option ℤ → Option ℤ → Octets (Rose ValueLabel)
+int_at least greatest X s = whole_at X s >>= int_of least greatest s
 
--- what begins with these octets
-unfoldable pub expected_at : {A : Type 0} → List ℕ → Octets A → Octets A
-expected_at head read X s = stop_if (not (begins head (drop s.at X))) (stop_at s.at Tag) (read X s)
+-- the item with a number, where there is one
+abbrev pub item_below : ℕ → ℤ → Option ℕ
+item_below items (pos i) = if nat_lt i items then Some i else None
+item_below items (negsuc i) = None
+
+abbrev pub item_with : Form → ℤ → Option ℕ
+item_with (form.Numbers numbers) z = position_from (λ n. int_eq n z) 0 numbers
+item_with (form.Words identifiers words) z = item_below (length words) z
+item_with (form.Order identifiers) z = item_below (length identifiers) z
+item_with _ z = None
+
+abbrev pub item_of : Form → Spot → ℤ × Spot → Result (ℕ × Spot) Stop
+item_of f s z = elim (item_with f z.0) [ None ↦ Err (stop_at s.at Range) | Some i ↦ Ok (i, z.1) ]
+
+unfoldable pub item_at : Form → Octets ℕ
+item_at f X s = whole_at X s >>= item_of f s
+
+unfoldable pub enum_at : Form → Octets (Rose ValueLabel)
+enum_at f X s = item_at f X s >>= λ i. with_spot (leaf_of (value.Enum i.0)) i.1
+
+unfoldable pub text_at : Octets (Rose ValueLabel)
+text_at X s = left_at X s >>= λ a. with_spot (leaf_of (value.Utf8 a.0)) a.1
+
+-- CONTENTS THAT ARE NODES
+-- what stands here is none of what is expected, or nothing does
+abbrev pub unexpected : List ℕ → Spot → Stop
+unexpected X s = stop_at s.at (if nat_lt s.at (length X) then Tag else Missing)
+
+abbrev pub is_optional : TaggedPlace → Bool
+is_optional p = p.place.part.optional
+
+-- whether octets begin as a part does: a part that has a tag has an identifier, also where it is a CHOICE
+abbrev pub starts : List Assignment → TaggedPlace → List ℕ → Bool
+starts M p xs = begins (identifier p.tag (label_of (resolve M p.place.type)).form) xs
+
+-- all parts from the one with number i on, each with its number
+abbrev pub parts_from : TypeLabel → ℕ → List Component → List (Rose TypeLabel) → List TaggedPlace
+parts_from l i (part ∷ parts) (t ∷ ts) = tagged_place (Some i) (place_of l i part t) ∷ parts_from l (i + 1) parts ts
+parts_from _ _ _ _ = []
+
+abbrev pub has_some : {A : Type 0} → Option A → Bool
+has_some None = false
+has_some (Some a) = true
+
+-- which are present, and those that are
+abbrev pub flags_of : List (Option (Rose ValueLabel)) → List Bool
+flags_of [] = []
+flags_of (o ∷ os) = has_some o ∷ flags_of os
+
+abbrev pub those_of : List (Option (Rose ValueLabel)) → List (Rose ValueLabel)
+those_of [] = []
+those_of (None ∷ os) = those_of os
+those_of (Some v ∷ os) = v ∷ those_of os
+
+abbrev pub sequence_of : List (Option (Rose ValueLabel)) → Rose ValueLabel
+sequence_of os = node_of (value.Sequence (flags_of os)) (those_of os)
+
+abbrev pub choice_of : ℕ × Rose ValueLabel → Rose ValueLabel
+choice_of a = node (value.Choice a.0) (more a.1 none)
+
+abbrev pub is_size : ℕ → Option ℕ → ℕ → Bool
+is_size least most n = nat_le least n && is_at_most n most
+
+-- an item of more than the list has: there is none, since each has an octet
+abbrev pub never : Spot → Stop
+never s = stop_at s.at Short
+
+-- what no module asks for
+abbrev pub nothing_at : Octets (Rose ValueLabel)
+nothing_at X s = Err (stop_at s.at NotAValue)
+
+module _ (M : List Assignment) (kid : TaggedPlace → Octets (Rose ValueLabel)) where
+  unfoldable pub sequence_at : TypeLabel → List (Rose TypeLabel) → List Component → Octets (Rose ValueLabel)
+  sequence_at l ts parts X s = parts_at (starts M) is_optional unexpected kid (parts_from l 0 parts ts) X s >>= λ a. with_spot (sequence_of a.0) a.1
+
+  unfoldable pub choice_at : TypeLabel → List (Rose TypeLabel) → List Component → Octets (Rose ValueLabel)
+  choice_at l ts parts X s = alternative_at (starts M) is_optional unexpected kid (parts_from l 0 parts ts) X s >>= λ a. with_spot (choice_of a.0) a.1
+
+-- a count outside its bounds is told at the node, which begins at an octet
+unfoldable pub sequence_of_at : (TaggedPlace → Octets (Rose ValueLabel)) → ℕ → ℕ → Option ℕ → Option ComponentPlace → Octets (Rose ValueLabel)
+sequence_of_at kid begin least most None X s = nothing_at X s
+sequence_of_at kid begin least most (Some p) X s =
+    items_at never (kid (tagged_place None p)) X s
+    >>= λ a. stop_if (not (is_size least most (length a.0))) (stop_at begin Range) (with_spot (node_of value.SequenceOf a.0) a.1)
+
+-- what fills the contents of a node that begins at an octet; behind the CHOICE of an explicit tag nothing stands
+unfoldable pub contents_at : List Assignment → (TaggedPlace → Octets (Rose ValueLabel)) → ℕ → TypeLabel → List (Rose TypeLabel) → Form → Octets (Rose ValueLabel)
+contents_at M kid begin l ts form.Bool X s = bool_at X s
+contents_at M kid begin l ts (form.Int least greatest) X s = int_at least greatest X s
+contents_at M kid begin l ts (form.Numbers numbers) X s = enum_at (form.Numbers numbers) X s
+contents_at M kid begin l ts (form.Words identifiers words) X s = enum_at (form.Words identifiers words) X s
+contents_at M kid begin l ts (form.Order identifiers) X s = enum_at (form.Order identifiers) X s
+contents_at M kid begin l ts (form.Utf8 least most class) X s = text_at X s
+contents_at M kid begin l ts (form.Sequence parts) X s = sequence_at M kid l ts parts X s
+contents_at M kid begin l ts (form.Choice parts) X s = ended_at (λ r. stop_at r.at Tag) (choice_at M kid l ts parts) X s
+contents_at M kid begin l ts (form.SequenceOf part least most) X s = sequence_of_at kid begin least most (place_at l 0 (Some part) (slice_get ts 0)) X s
+contents_at M kid begin l ts (form.Ref to) X s = nothing_at X s
+
+-- NODES. A node would be the 65th of the elements that stand in one another, or one too many. Only an element is ever too deep.
+abbrev pub is_over : ℕ → Spot → Bool
+is_over depth s = not (nat_le depth most_deep && nat_lt s.nodes most_nodes)
+
+abbrev pub over : ℕ → Spot → Stop
+over depth s = stop_at s.at (if nat_le depth most_deep then TooMany else TooDeep)
+
+-- A node of a type that is no reference: its identifier, whether one more may stand, its length and contents. A CHOICE without a tag
+-- has the identifier of an alternative, and is entered before it.
+unfoldable pub headed_at : List Assignment → (TaggedPlace → Octets (Rose ValueLabel)) → ℕ → Option ℕ → TypeLabel → List (Rose TypeLabel) → Octets (Rose ValueLabel)
+headed_at M kid depth tag l ts X s =
+    if is_open tag l.form then choice_at M (λ p. entered_at (is_over depth) (over depth) (kid p)) l ts (parts_of l.form) X s
+    else expected_at (identifier tag l.form) (entered_at (is_over depth) (over depth) (tagged_at (identifier tag l.form) (sized_at (contents_at M kid s.at l ts l.form)))) X s
+
+module _ (M : List Assignment) where
+  -- the rule of a node that begins at an octet, after all its contents
+  unfoldable pub owned_at : ℕ → Rose TypeLabel → Rose ValueLabel × Spot → Result (Rose ValueLabel × Spot) Stop
+  owned_at begin t v =
+      stop_if (is_no_text (label_of v.0)) (stop_at begin NotUtf8) (stop_if (not (owns M t v.0)) (stop_at begin NotAValue) (Ok v))
+
+  -- why a part that is present isn't kept
+  abbrev pub unkept_why : Component → Rose TypeLabel → Rose ValueLabel → Why
+  unkept_why part t v = if part.optional && is_standard M part t v then DefaultWritten else NotAValue
+
+  -- the rule of a part that begins at an octet and was read
+  unfoldable pub kept_at : Component → Rose TypeLabel → ℕ → Rose ValueLabel × Spot → Result (Rose ValueLabel × Spot) Stop
+  kept_at part t begin v = stop_if (not (keeps M part t v.0)) (stop_at begin (unkept_why part t v.0)) (Ok v)
+
+  -- a part: its node, and then its default or fixed value
+  abbrev pub part_at : ComponentPlace → Octets (Rose ValueLabel) → Octets (Rose ValueLabel)
+  part_at p read X s = read X s >>= kept_at p.part p.type s.at
+
+  -- A node of a type, where no more levels of nodes than these stand in one another. In a module `levels_needed` are always
+  -- enough, so that the first case is never met.
+  unfoldable pub node_at : ℕ → ℕ → Option ℕ → Rose TypeLabel → Octets (Rose ValueLabel)
+  node_at zero depth tag t X s = Err (stop_at s.at TooDeep)
+  node_at (suc levels) depth tag t X s =
+      headed_at M (λ p. part_at p.place (node_at levels (below p.place.role depth) p.tag p.place.type)) depth tag (label_of (resolve M t)) (kids_of (resolve M t)) X s
+      >>= owned_at s.at (resolve M t)
+
+-- a node of a type of a module
+abbrev pub node_read : List Assignment → ℕ → Option ℕ → Rose TypeLabel → Octets (Rose ValueLabel)
+node_read M depth tag t X s = node_at M (levels_needed M depth t) depth tag t X s
+
+abbrev pub start : Spot
+start = record { at = 0; nodes = 0 }
+
+-- the root, which isn't at the end of the input
+unfoldable pub root_at : List Assignment → Rose TypeLabel → Octets (Rose ValueLabel)
+root_at M t X s = if nat_lt s.at (length X) then node_read M 1 None t X s else Err (stop_at s.at Short)

@@ -3,7 +3,7 @@ use Rattle.std.proofs.Common.{◌≡◌, arith, inl, inr, List, [], Option, Some
 use Rattle.std.specs.Prelude.{MatchOption}
 use Rattle.std.specs.List.{All}
 use Rattle.std.proofs.lemmas.List.Elements.{All-nil, All-cons, All-contains}
-use Rattle.label_tree.specs.Rose.{Rose}
+use Rattle.base_trees.specs.Rose.{Rose}
 use Rattle.content_models.specs.Breaches.{Placed, all_placed, KeepsRules, Breaks, StandsFrom, IsFirstBreach}
 use Rattle.content_models.specs.Clear.{Clear}
 use Rattle.content_models.specs.Seen.{seen}

@@ -2,14 +2,14 @@
 use Rattle.std.proofs.Common.{◌≡◌, arith, Bool, true, false, ◌⊎◌, inl, inr, List, [], ◌∷◌, ◌++◌, Option, Some, None, refl, sym, ap, ◌∙◌, subst}
 use Rattle.std.specs.Prelude.{cond}
 use Rattle.std.proofs.lemmas.Bool.{cases_order, cases_lt, cases_Bool}
-use Rattle.xa_base.specs.declared.texts.Name.{Name}
-use Rattle.xa_base.proofs.Lists.{in_parts, in_front, in_end}
+use Rattle.base_texts.specs.declared.texts.Name.{Name}
+use Rattle.base_texts.proofs.Lists.{in_parts, in_front, in_end}
 use Rattle.link_names.specs.declared.places.Place.{Place}
 use Rattle.link_names.specs.Order.{is_before}
 use Rattle.link_names.specs.Private.Tables.{lesser, stands_before}
 use Rattle.link_names.proofs.Firsts.{Before, before_true, true_before, before_false}
 use Rattle.link_complex.specs.ElementTypes.{TypeIdentity, TypedParticle, IsOther}
-use Rattle.xa_base.specs.Lists.{HasItem}
+use Rattle.base_texts.specs.Lists.{HasItem}
 use Rattle.link_complex.specs.Private.Leading.{Leader, leading, joined, has_other}
 
 -- the order of places

@@ -7,9 +7,9 @@ use Rattle.std.specs.BTreeMap as tree
 use Rattle.std.specs.BTreeMap.{BTreeMap, get_by}
 use Rattle.std.proofs.lemmas.List.{map_more}
 use Rattle.std.proofs.lemmas.Bool.{true≢false}
-use Rattle.xa_base.specs.declared.texts.Name.{Name}
-use Rattle.xa_base.specs.Names.{name_eq, name_cmp}
-use Rattle.xa_base.proofs.NameLaws.{name_eq-Decides}
+use Rattle.base_texts.specs.declared.texts.Name.{Name}
+use Rattle.base_texts.specs.Names.{name_eq, name_cmp}
+use Rattle.base_texts.proofs.NameLaws.{name_eq-Decides}
 use Rattle.link_names.specs.declared.faults.LinkingFault.{LinkingFault}
 use Rattle.link_names.specs.declared.faults.LinkWhy.TheVariants.{TypesDiffer}
 use Rattle.link_names.specs.Order.{fault, precedes, IsFirstSuch, OneHas, earlier, first_of}

@@ -2,14 +2,14 @@
 -- the order of the parts of the documents.
 use Rattle.std.specs.Prelude.{ℕ, List, [], ◌∷◌, Option, Some, None}
 use Rattle.std.specs.List.{flat_map}
-use Rattle.xa_base.specs.declared.texts.Name.{Name}
-use Rattle.label_tree.specs.Rose.{Rose}
+use Rattle.base_texts.specs.declared.texts.Name.{Name}
+use Rattle.base_trees.specs.Rose.{Rose}
 use Rattle.content_models.specs.declared.particles.ParticleLabel.{ParticleLabel}
-use Rattle.schema_parts.specs.declared.declarations.RawContent.{RawContent}
-use Rattle.schema_parts.specs.declared.declarations.RawContent.TheVariants as content
-use Rattle.schema_parts.specs.Raw.{Complex, Document}
-use Rattle.schema_walk.specs.Parts as part
-use Rattle.schema_walk.specs.Parts.{What, Part, in_document}
+use Rattle.schema_components.specs.declared.declarations.RawContent.{RawContent}
+use Rattle.schema_components.specs.declared.declarations.RawContent.TheVariants as content
+use Rattle.schema_components.specs.Raw.{Complex, Document}
+use Rattle.link_names.specs.Parts as part
+use Rattle.link_names.specs.Parts.{What, Part, in_document}
 use Rattle.link_names.specs.declared.places.Place.{Place}
 use Rattle.link_names.specs.Order.{place}
 

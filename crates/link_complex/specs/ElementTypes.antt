@@ -2,16 +2,16 @@
 -- Declarations Consistent').
 use Rattle.std.specs.Prelude.{◌≡◌, ℕ, true, List, [], ◌∷◌, map, Option, Some, None, slice_get, if◌then◌else◌}
 use Rattle.std.specs.List.{flat_map}
-use Rattle.xa_base.specs.declared.texts.Name.{Name}
-use Rattle.xa_base.specs.Lists.{HasItem}
-use Rattle.xa_base.specs.Names.{name_eq}
+use Rattle.base_texts.specs.declared.texts.Name.{Name}
+use Rattle.base_texts.specs.Lists.{HasItem}
+use Rattle.base_texts.specs.Names.{name_eq}
 use Rattle.simple_types.specs.declared.simples.Builtin.{Builtin}
 use Rattle.content_models.specs.declared.particles.ParticleLabel.{ParticleLabel}
 use Rattle.content_models.specs.declared.particles.ParticleKind.TheVariants as particle
-use Rattle.schema_parts.specs.declared.simple_definitions.RawRef.TheVariants as reference
-use Rattle.schema_parts.specs.Raw.{Kind, NamedKind, SimpleKind, ComplexKind, Element, Local, Reference, Own, Document}
-use Rattle.schema_walk.specs.Parts as part
-use Rattle.schema_walk.specs.Parts.{What, in_content}
+use Rattle.schema_components.specs.declared.simple_definitions.RawRef.TheVariants as reference
+use Rattle.schema_components.specs.Raw.{Kind, NamedKind, SimpleKind, ComplexKind, Element, Local, Reference, Own, Document}
+use Rattle.link_names.specs.Parts as part
+use Rattle.link_names.specs.Parts.{What, in_content}
 use Rattle.link_names.specs.declared.places.Place.{Place}
 use Rattle.link_names.specs.declared.faults.LinkingFault.{LinkingFault}
 use Rattle.link_names.specs.declared.faults.LinkWhy.TheVariants.{TypesDiffer}

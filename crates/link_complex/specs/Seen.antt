@@ -2,8 +2,8 @@
 use Rattle.std.specs.Prelude.{List, map}
 use Rattle.std.specs.Borrow.{Bor}
 use Rattle.std.specs.Option.{option_map}
-use Rattle.xa_base.specs.declared.texts.Name.{Name}
-use Rattle.schema_parts.specs.Seen.{complex_of}
+use Rattle.base_texts.specs.declared.texts.Name.{Name}
+use Rattle.schema_components.specs.Seen.{complex_of}
 use Rattle.link_complex.specs.ComplexTypes.{ComplexDefinition}
 use Rattle.link_complex.specs.declared.definitions.ComplexType.{ComplexType}
 

@@ -2,7 +2,7 @@
 -- Correct').
 use Rattle.std.specs.Prelude.{ℕ, List, map}
 use Rattle.std.specs.List.{flat_map}
-use Rattle.schema_parts.specs.Raw.{Use, Document}
+use Rattle.schema_components.specs.Raw.{Use, Document}
 use Rattle.link_names.specs.declared.faults.LinkingFault.{LinkingFault}
 use Rattle.link_names.specs.declared.faults.LinkWhy.TheVariants.{DuplicateUse}
 use Rattle.link_names.specs.Order.{place}

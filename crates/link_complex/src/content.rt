@@ -1,16 +1,16 @@
 //! Content models that can't be read without looking ahead.
 ghost use Rattle.std.specs.Prelude.{map, IfOk, Some};
-ghost use Rattle.schema_parts.specs.Documents.{doc_of};
+ghost use Rattle.schema_components.specs.Documents.{doc_of};
 ghost use Rattle.link_names.specs.Order.{IsFirstSuch};
 ghost use Rattle.link_complex.specs.ComplexTypes.{model_of};
 ghost use Rattle.link_complex.specs.Content.{BreaksIn, IsUnclear};
 
 use crate::definitions::complex_types;
+use base_texts::Memory;
 use content_models::{Particle, first_breach};
 use link_names::{LinkWhy, LinkingFault, Place, first_of};
-use schema_parts::{RawContent, RawDoc};
+use schema_components::{RawContent, RawDoc};
 use std::alloc::Global;
-use xa_base::Memory;
 
 // The first particle of a content model that breaks a rule.
 fn first_in_model(alloc: Global, model: &Particle) -> Result<Option<LinkingFault>, Memory>

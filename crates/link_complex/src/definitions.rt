@@ -1,16 +1,15 @@
 //! The complex types of several documents.
 ghost use Rattle.std.specs.Prelude.{◌≡◌, ◌++◌, map, IfOk, OnOk};
 ghost use Rattle.std.specs.List.{flat_map};
-ghost use Rattle.schema_parts.specs.Documents.{doc_of};
-ghost use Rattle.schema_walk.specs.Seen.{part_of, parts_of};
+ghost use Rattle.schema_components.specs.Documents.{doc_of};
+ghost use Rattle.link_names.specs.WalkSeen.{part_of, parts_of};
 ghost use Rattle.link_complex.specs.ComplexTypes as told;
 ghost use Rattle.link_complex.specs.Seen.{definitions_of};
 
-use link_names::Place;
-use schema_parts::{RawComplex, RawDoc};
-use schema_walk::{Part, What, document_parts};
+use base_texts::{Memory, Name};
+use link_names::{Part, Place, What, document_parts};
+use schema_components::{RawComplex, RawDoc};
 use std::alloc::Global;
-use xa_base::{Memory, Name};
 
 /// A complex type definition of a document, at the place of its `complexType`. One that was written in place has no
 /// name.

@@ -1,6 +1,6 @@
 //! Element particles of one name whose types differ.
 ghost use Rattle.std.specs.Prelude.{map, IfOk};
-ghost use Rattle.schema_parts.specs.Documents.{doc_of};
+ghost use Rattle.schema_components.specs.Documents.{doc_of};
 ghost use Rattle.link_names.specs.Order.{IsFirstSuch};
 ghost use Rattle.link_complex.specs.ElementTypes.{HasOtherOf, DiffersIn, Differs};
 ghost use Rattle.link_complex.specs.Private.Identities.{type_in, types_in};
@@ -11,11 +11,11 @@ use crate::element_types::element_types;
 use crate::identities::TypeIdentity;
 use crate::leaders::first_other;
 use crate::particles::typed_particles;
+use base_texts::{Memory, Name};
 use link_names::{LinkingFault, first_of};
-use schema_parts::RawDoc;
+use schema_components::RawDoc;
 use std::alloc::Global;
 use std::collections::BTreeMap;
-use xa_base::{Memory, Name};
 
 fn first_in_type<'a>(
     alloc: Global,

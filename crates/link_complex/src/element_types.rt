@@ -1,15 +1,15 @@
 //! The types of global elements, by their names.
 ghost use Rattle.std.specs.Prelude.{◌≡◌, ◌++◌, map, IfOk, OnOk};
-ghost use Rattle.xa_base.specs.declared.texts.Name.{Name};
-ghost use Rattle.schema_parts.specs.Documents.{doc_of};
+ghost use Rattle.base_texts.specs.declared.texts.Name.{Name};
+ghost use Rattle.schema_components.specs.Documents.{doc_of};
 ghost use Rattle.link_complex.specs.ElementTypes as told;
 ghost use Rattle.link_complex.specs.Private.Identities.{elements_of, type_in};
 
 use crate::identities::TypeIdentity;
-use schema_parts::RawDoc;
+use base_texts::{Memory, Name};
+use schema_components::RawDoc;
 use std::alloc::Global;
 use std::collections::BTreeMap;
-use xa_base::{Memory, Name};
 
 #[derive(Clone, Copy)]
 pub(crate) struct TypedElement<'a> {

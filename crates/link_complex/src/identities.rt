@@ -1,13 +1,13 @@
 //! Which definition a type is.
 ghost use Rattle.std.specs.Prelude.{◌≡◌, ◌↔◌, IsTrue};
-ghost use Rattle.schema_parts.specs.Seen.{kind_of};
+ghost use Rattle.schema_components.specs.Seen.{kind_of};
 ghost use Rattle.link_complex.specs.ElementTypes.{identity, BuiltIn, ByName, InPlace};
 ghost use Rattle.link_complex.specs.Private.Identities.{identity_of, type_of};
 
+use base_texts::Name;
 use link_names::Place;
-use schema_parts::{RawKind, RawRef};
+use schema_components::{RawKind, RawRef};
 use simple_types::Builtin;
-use xa_base::Name;
 
 /// A type by its definition: a built-in one, the one of this name, or one that was written in place.
 #[derive(Clone, Copy)]

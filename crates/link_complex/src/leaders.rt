@@ -8,10 +8,10 @@ ghost use Rattle.link_complex.specs.Private.Leading as told;
 
 use crate::identities::{TypeIdentity, is_same};
 use crate::particles::TypedParticle;
+use base_texts::{Memory, Name};
 use link_names::{LinkWhy, LinkingFault, Place, earlier};
 use std::alloc::Global;
 use std::collections::BTreeMap;
-use xa_base::{Memory, Name};
 
 /// The place and the type of the first particle of a name, and the place of the first whose type is another.
 #[derive(Clone, Copy)]

@@ -1,4 +1,4 @@
-//! The complex types of several schema documents, and what their attributes and content models may not have.
+//! Reports what the attributes and the content models of complex types may not have.
 //!
 //! Read first: `specs/Uses`, `ElementTypes` and `Content`, one for each of the three passes, then `src/content.rt`.
 #![tactic(auto)]

@@ -1,21 +1,20 @@
 //! The element particles of a complex type, with their types.
 ghost use Rattle.std.specs.Prelude.{◌≡◌, ◌++◌, IfOk, OnOk};
 ghost use Rattle.std.specs.List.{flat_map};
-ghost use Rattle.schema_parts.specs.Seen.{local_of};
-ghost use Rattle.schema_walk.specs.Seen.{part_of, parts_of};
+ghost use Rattle.schema_components.specs.Seen.{local_of};
+ghost use Rattle.link_names.specs.WalkSeen.{part_of, parts_of};
 ghost use Rattle.link_complex.specs.ElementTypes as told;
 ghost use Rattle.link_complex.specs.Private.Identities.{type_of, kept_in, type_in, types_in, particles_of};
 ghost use Rattle.link_complex.specs.Seen.{definition_of};
 
 use crate::definitions::ComplexType;
 use crate::identities::TypeIdentity;
+use base_texts::{Memory, Name};
 use content_models::{ParticleKind, ParticleLabel};
-use link_names::Place;
-use schema_parts::{RawDoc, RawLocal};
-use schema_walk::{Part, What, content_parts};
+use link_names::{Part, Place, What, content_parts};
+use schema_components::{RawDoc, RawLocal};
 use std::alloc::Global;
 use std::collections::BTreeMap;
-use xa_base::{Memory, Name};
 
 /// An element particle, where it was written, and its type. A reference that names nothing has none.
 #[derive(Clone, Copy)]

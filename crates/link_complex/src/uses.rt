@@ -1,6 +1,6 @@
 //! Attributes of one name in a complex type.
 ghost use Rattle.std.specs.Prelude.{◌≡◌, ◌++◌, List, map, IfOk};
-ghost use Rattle.schema_parts.specs.Documents.{doc_of};
+ghost use Rattle.schema_components.specs.Documents.{doc_of};
 ghost use Rattle.link_names.specs.declared.faults.LinkingFault.{LinkingFault};
 ghost use Rattle.link_names.specs.Order.{IsFirstOf};
 ghost use Rattle.link_names.specs.Seen.{globals_of};
@@ -8,10 +8,10 @@ ghost use Rattle.link_complex.specs.Seen.{definition_of};
 ghost use Rattle.link_complex.specs.Uses.{uses_of_type, double_uses_of, double_uses};
 
 use crate::definitions::{ComplexType, complex_types};
+use base_texts::Memory;
 use link_names::{LinkWhy, LinkingFault, NamedPart, Place, first_repeated};
-use schema_parts::RawDoc;
+use schema_components::RawDoc;
 use std::alloc::Global;
-use xa_base::Memory;
 
 fn uses<'a>(alloc: Global, complex: ComplexType<'a>) -> Result<Vec<NamedPart<'a>>, Memory>
     ensures { IfOk result (λ found. globals_of found.items ≡ uses_of_type (definition_of complex.entry)) }

@@ -4,8 +4,8 @@ use Rattle.std.specs.Option.{option_map}
 use Rattle.std.proofs.Math.Seq.{drop-cons}
 use Rattle.std.proofs.lemmas.Option.{slice_get-map, slice_get-get_or}
 use Rattle.std.proofs.lemmas.List.{length-map}
-use Rattle.schema_parts.specs.Documents.{doc_of}
-use Rattle.schema_parts.specs.declared.documents.RawDoc.{RawDoc}
+use Rattle.schema_components.specs.Documents.{doc_of}
+use Rattle.schema_components.specs.declared.documents.RawDoc.{RawDoc}
 use Rattle.link_names.specs.Order.{place}
 use Rattle.link_names.specs.Limits.{counted_places}
 

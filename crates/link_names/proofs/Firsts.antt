@@ -2,11 +2,11 @@
 use Rattle.std.proofs.Common.{◌≡◌, ◌<◌, ◌≤◌, append-nil, subst, arith, Bool, true, false, ◌⊎◌, inl, inr, List, [], ◌∷◌, ◌++◌, Option, Some, None, refl, sym, ◌∙◌}
 use Rattle.std.specs.Prelude.{◌&&◌, ◌||◌, not, nat_eq, nat_lt, cond}
 use Rattle.std.proofs.lemmas.Bool.{ltb-true, lt-ltb, eqb-true, eq-eqb, cases_order, cases_lt, or_cases, and_parts, and_from, cases_Bool, true≢false}
-use Rattle.xa_base.proofs.Lists.{has_left, has_right}
+use Rattle.base_texts.proofs.Lists.{has_left, has_right}
 use Rattle.link_names.specs.declared.places.Place.{Place}
 use Rattle.link_names.specs.declared.faults.LinkingFault.{LinkingFault}
 use Rattle.link_names.specs.Order.{is_before, rank_of, precedes, NonePrecedes, IsFirst, IsFirstOf, IsFirstSuch, OneHas, earlier, first_of}
-use Rattle.xa_base.specs.Lists.{HasItem}
+use Rattle.base_texts.specs.Lists.{HasItem}
 
 -- by files, places and reasons
 abbrev pub Earlier : LinkingFault → LinkingFault → Type 0

@@ -3,3 +3,7 @@ pub mod Firsts
 pub mod OneFirst
 pub mod Placing
 pub mod Resolving
+pub mod Flat
+pub mod First
+pub mod Numbering
+pub mod Walks

@@ -13,9 +13,9 @@ use Rattle.std.proofs.lemmas.List.{map_more, map-append}
 use Rattle.std.proofs.lemmas.List.Elements.{filter-append}
 use Rattle.std.proofs.lemmas.Cmp.{tied_itself}
 use Rattle.std.proofs.lemmas.Bool.{cases_Bool, cases_lt, cases_order}
-use Rattle.xa_base.specs.declared.texts.Name.{Name}
-use Rattle.xa_base.specs.Names.{name_eq, name_cmp}
-use Rattle.xa_base.proofs.NameLaws.{name_eq-Decides, name_cmp_total, exact_names}
+use Rattle.base_texts.specs.declared.texts.Name.{Name}
+use Rattle.base_texts.specs.Names.{name_eq, name_cmp}
+use Rattle.base_texts.proofs.NameLaws.{name_eq-Decides, name_cmp_total, exact_names}
 use Rattle.link_names.specs.declared.places.Place.{Place}
 use Rattle.link_names.specs.declared.global_names.NamedPart.{NamedPart}
 use Rattle.link_names.specs.Order.{is_before, fault, IsFirstOf, earlier}

@@ -9,9 +9,9 @@ use Rattle.std.specs.BTreeSet.{BTreeSet}
 use Rattle.std.proofs.lemmas.List.{map_more}
 use Rattle.std.proofs.lemmas.List.Elements.{filter_map-append}
 use Rattle.std.proofs.lemmas.List.Folds.{list_any-append}
-use Rattle.xa_base.specs.declared.texts.Name.{Name}
-use Rattle.xa_base.specs.Names.{name_eq, name_cmp}
-use Rattle.xa_base.proofs.NameLaws.{name_eq-Decides}
+use Rattle.base_texts.specs.declared.texts.Name.{Name}
+use Rattle.base_texts.specs.Names.{name_eq, name_cmp}
+use Rattle.base_texts.proofs.NameLaws.{name_eq-Decides}
 use Rattle.link_names.specs.declared.faults.LinkingFault.{LinkingFault}
 use Rattle.link_names.specs.declared.global_names.NamedPart.{NamedPart}
 use Rattle.link_names.specs.declared.references.Mention.{Mention as Kept}

@@ -1,11 +1,11 @@
 -- The global components of several documents by their names (XML Schema Part 1, section 2.2).
 use Rattle.std.specs.Prelude.{Bool, ◌&&◌, List, [], ◌∷◌, ◌++◌, map, Option, Some, None}
 use Rattle.std.specs.List.{flat_map, filter, list_any}
-use Rattle.xa_base.specs.declared.texts.Name.{Name}
-use Rattle.xa_base.specs.Names.{name_eq}
-use Rattle.schema_parts.specs.Raw.{Document}
-use Rattle.schema_walk.specs.Parts as part
-use Rattle.schema_walk.specs.Parts.{What, Part, parts}
+use Rattle.base_texts.specs.declared.texts.Name.{Name}
+use Rattle.base_texts.specs.Names.{name_eq}
+use Rattle.schema_components.specs.Raw.{Document}
+use Rattle.link_names.specs.Parts as part
+use Rattle.link_names.specs.Parts.{What, Part, parts}
 use Rattle.link_names.specs.declared.places.Place.{Place}
 use Rattle.link_names.specs.declared.global_names.NameKind.{NameKind}
 use Rattle.link_names.specs.declared.global_names.NameKind.TheVariants as kind

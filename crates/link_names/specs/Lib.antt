@@ -5,3 +5,10 @@ pub mod References
 pub mod Resolution
 pub mod Seen
 pub mod Private
+pub mod Parts
+pub mod WalkSeen
+pub mod Cycles
+pub mod Graphs
+pub mod CyclesSeen
+pub mod SimpleTypes
+pub mod Tables

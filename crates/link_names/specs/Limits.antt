@@ -1,7 +1,7 @@
 -- How many components a set of documents may have.
 use Rattle.std.specs.Prelude.{List, [], ◌∷◌, map, Option, Some, None, slice_get}
 use Rattle.std.specs.List.{flat_map}
-use Rattle.schema_parts.specs.Raw.{Document}
+use Rattle.schema_components.specs.Raw.{Document}
 use Rattle.link_names.specs.declared.places.Place.{Place}
 use Rattle.link_names.specs.declared.faults.LinkingFault.{LinkingFault}
 use Rattle.link_names.specs.declared.faults.LinkWhy.TheVariants.{Limit}

@@ -1,8 +1,8 @@
 -- The order of faults: by files and places, and at one place by their reasons.
 use Rattle.std.specs.Prelude.{◌≡◌, ℕ, Bool, false, ◌&&◌, ◌||◌, not, nat_eq, nat_lt, ◌⊎◌, List, [], ◌∷◌, Option, Some, None, MatchOption, if◌then◌else◌}
-use Rattle.xa_base.specs.Lists.{HasItem}
-use Rattle.facet_rules.specs.declared.refusals.FacetWhy.{FacetWhy}
-use Rattle.facet_rules.specs.declared.refusals.FacetWhy.TheVariants as facet
+use Rattle.base_texts.specs.Lists.{HasItem}
+use Rattle.simple_facets.specs.declared.refusals.FacetWhy.{FacetWhy}
+use Rattle.simple_facets.specs.declared.refusals.FacetWhy.TheVariants as facet
 use Rattle.link_names.specs.declared.places.Place.{Place}
 use Rattle.link_names.specs.declared.faults.LinkWhy.{LinkWhy}
 use Rattle.link_names.specs.declared.faults.LinkWhy.TheVariants as why

@@ -2,14 +2,14 @@
 -- place of the element that has it.
 use Rattle.std.specs.Prelude.{List, [], ◌∷◌, if◌then◌else◌}
 use Rattle.std.specs.List.{flat_map}
-use Rattle.xa_base.specs.declared.texts.Name.{Name}
-use Rattle.schema_parts.specs.declared.simple_definitions.RawRef.{RawRef}
-use Rattle.schema_parts.specs.declared.simple_definitions.RawRef.TheVariants as reference
-use Rattle.schema_parts.specs.Raw.{Use, Document}
-use Rattle.schema_walk.specs.Parts as part
-use Rattle.schema_walk.specs.Parts.{What, Part, parts}
-use Rattle.schema_walk.specs.declared.parts.TypeRole.{TypeRole}
-use Rattle.schema_walk.specs.declared.parts.TypeRole.TheVariants as role
+use Rattle.base_texts.specs.declared.texts.Name.{Name}
+use Rattle.schema_components.specs.declared.simple_definitions.RawRef.{RawRef}
+use Rattle.schema_components.specs.declared.simple_definitions.RawRef.TheVariants as reference
+use Rattle.schema_components.specs.Raw.{Use, Document}
+use Rattle.link_names.specs.Parts as part
+use Rattle.link_names.specs.Parts.{What, Part, parts}
+use Rattle.link_names.specs.declared.parts.TypeRole.{TypeRole}
+use Rattle.link_names.specs.declared.parts.TypeRole.TheVariants as role
 use Rattle.link_names.specs.declared.places.Place.{Place}
 use Rattle.link_names.specs.declared.references.Need.{Need}
 use Rattle.link_names.specs.declared.references.Need.TheVariants as need

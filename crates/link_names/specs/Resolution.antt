@@ -2,9 +2,9 @@
 use Rattle.std.specs.Prelude.{Bool, List, Option, Some, None, if◌then◌else◌}
 use Rattle.std.specs.List.{filter_map}
 use Rattle.std.specs.Option.{option_map}
-use Rattle.xa_base.specs.declared.texts.Name.{Name}
-use Rattle.schema_parts.specs.Raw.{Document}
-use Rattle.schema_walk.specs.Parts.{Part, parts}
+use Rattle.base_texts.specs.declared.texts.Name.{Name}
+use Rattle.schema_components.specs.Raw.{Document}
+use Rattle.link_names.specs.Parts.{Part, parts}
 use Rattle.link_names.specs.declared.faults.LinkingFault.{LinkingFault}
 use Rattle.link_names.specs.declared.faults.LinkWhy.{LinkWhy}
 use Rattle.link_names.specs.declared.faults.LinkWhy.TheVariants.{Unresolved, ComplexBase}

@@ -1,8 +1,8 @@
 //! Global components of one name.
 ghost use Rattle.std.specs.Prelude.{◌≡◌, ◌++◌, List, map, IfOk};
-ghost use Rattle.xa_base.specs.declared.texts.Name.{Name};
-ghost use Rattle.schema_parts.specs.Documents.{doc_of};
-ghost use Rattle.schema_walk.specs.Seen.{parts_of};
+ghost use Rattle.base_texts.specs.declared.texts.Name.{Name};
+ghost use Rattle.schema_components.specs.Documents.{doc_of};
+ghost use Rattle.link_names.specs.WalkSeen.{parts_of};
 ghost use Rattle.link_names.specs.declared.faults.LinkingFault.{LinkingFault};
 ghost use Rattle.link_names.specs.declared.faults.LinkWhy.TheVariants.{Duplicate};
 ghost use Rattle.link_names.specs.Globals.{duplicates, globals_among, repeated};
@@ -12,12 +12,13 @@ ghost use Rattle.link_names.specs.Private.Tables.{place_in, first_place, lesser,
 
 use crate::faults::{LinkWhy, LinkingFault, earlier};
 use crate::global_names::{NameKind, NamedPart, globals_among};
+use crate::parts::Part;
 use crate::places::Place;
-use schema_parts::RawDoc;
-use schema_walk::{Part, all_parts};
+use crate::walk::all_parts;
+use base_texts::{Memory, Name};
+use schema_components::RawDoc;
 use std::alloc::Global;
 use std::collections::BTreeMap;
-use xa_base::{Memory, Name};
 
 // The place, or that of a component of the name further on, if it is before.
 fn lesser<'a>(table: &BTreeMap<&'a Name, Place>, name: &'a Name, place: Place) -> Place

@@ -3,7 +3,7 @@ ghost use Rattle.std.specs.Prelude.{◌≡◌};
 ghost use Rattle.link_names.specs.Order.{rank_of, rank_of_facet, precedes, earlier, first_of};
 
 use crate::places::Place;
-use facet_rules::FacetWhy;
+use simple_facets::FacetWhy;
 
 /// Why documents can't be linked. At one place the reasons come in this order,
 /// and those of facets in the order of `FacetWhy`.

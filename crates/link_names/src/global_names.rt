@@ -1,13 +1,13 @@
 //! The global components of several documents, each kind in one list.
 ghost use Rattle.std.specs.Prelude.{◌≡◌, ◌++◌, IfOk, OnOk};
-ghost use Rattle.schema_walk.specs.Seen.{name_of, what_of, part_of, parts_of};
+ghost use Rattle.link_names.specs.WalkSeen.{name_of, what_of, part_of, parts_of};
 ghost use Rattle.link_names.specs.Globals as told;
 ghost use Rattle.link_names.specs.Seen.{globals_of};
 
+use crate::parts::{Part, What};
 use crate::places::Place;
-use schema_walk::{Part, What};
+use base_texts::{Memory, Name};
 use std::alloc::Global;
-use xa_base::{Memory, Name};
 
 /// Global components whose names are looked up together.
 #[derive(Clone, Copy)]

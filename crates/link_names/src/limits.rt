@@ -1,12 +1,12 @@
 //! How many components a set may have.
 ghost use Rattle.std.specs.Prelude.{map};
-ghost use Rattle.schema_parts.specs.Documents.{doc_of};
+ghost use Rattle.schema_components.specs.Documents.{doc_of};
 ghost use Rattle.link_names.specs.Order.{IsFirstOf};
 ghost use Rattle.link_names.specs.Limits.{beyond_limit};
 
 use crate::faults::{LinkWhy, LinkingFault};
 use crate::places::Place;
-use schema_parts::RawDoc;
+use schema_components::RawDoc;
 
 /// The greatest number of the components of a set that count.
 const MOST_COUNTED: usize = 10_000;

@@ -1,6 +1,6 @@
 //! Tables of the names of global components.
+use base_texts::Name;
 use std::collections::BTreeSet;
-use xa_base::Name;
 
 /// The names of the types, and those of the complex ones.
 #[derive(Drop)]

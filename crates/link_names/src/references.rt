@@ -1,16 +1,16 @@
 //! The references of schema documents to components by their names.
 ghost use Rattle.std.specs.Prelude.{◌≡◌, ◌++◌, ◌∷◌, [], IfOk, OnOk};
 ghost use Rattle.std.specs.List.{flat_map};
-ghost use Rattle.schema_parts.specs.Seen.{use_of};
-ghost use Rattle.schema_walk.specs.Seen.{part_of, parts_of};
+ghost use Rattle.schema_components.specs.Seen.{use_of};
+ghost use Rattle.link_names.specs.WalkSeen.{part_of, parts_of};
 ghost use Rattle.link_names.specs.References as told;
 ghost use Rattle.link_names.specs.Private.Mentioned.{mentions_of};
 
+use crate::parts::{Part, TypeRole, What};
 use crate::places::Place;
-use schema_parts::{RawRef, RawUse};
-use schema_walk::{Part, TypeRole, What};
+use base_texts::{Memory, Name};
+use schema_components::{RawRef, RawUse};
 use std::alloc::Global;
-use xa_base::{Memory, Name};
 
 /// What a reference has to name.
 #[derive(Clone, Copy, PartialEq, Eq)]

@@ -1,9 +1,9 @@
 //! Which references name what they need.
 ghost use Rattle.std.specs.Prelude.{◌≡◌, map, IfOk};
 ghost use Rattle.std.specs.List.{filter_map};
-ghost use Rattle.xa_base.specs.declared.texts.Name.{Name};
-ghost use Rattle.schema_parts.specs.Documents.{doc_of};
-ghost use Rattle.schema_walk.specs.Seen.{parts_of};
+ghost use Rattle.base_texts.specs.declared.texts.Name.{Name};
+ghost use Rattle.schema_components.specs.Documents.{doc_of};
+ghost use Rattle.link_names.specs.WalkSeen.{parts_of};
 ghost use Rattle.link_names.specs.Globals.{globals_among, is_there};
 ghost use Rattle.link_names.specs.declared.global_names.NameKind.TheVariants as kind;
 ghost use Rattle.link_names.specs.Private.Mentioned.{mentions_of};
@@ -17,12 +17,13 @@ ghost use Rattle.link_names.specs.Private.NameTables.{told_by, Agree};
 use crate::faults::{LinkWhy, LinkingFault, earlier};
 use crate::global_names::{NameKind, NamedPart, globals_among};
 use crate::name_tables::{NameTable, TypeNames};
+use crate::parts::Part;
 use crate::references::{Mention, Need, mentions};
-use schema_parts::RawDoc;
-use schema_walk::{Part, all_parts};
+use crate::walk::all_parts;
+use base_texts::{Memory, Name};
+use schema_components::RawDoc;
 use std::alloc::Global;
 use std::collections::BTreeSet;
-use xa_base::{Memory, Name};
 
 fn names_of<'a>(alloc: Global, globals: &[NamedPart<'a>]) -> Result<BTreeSet<&'a Name>, Memory>
     ensures { IfOk result (λ names. (a : Name) → holds names a ≡ is_there (globals_of globals.now) a) }

@@ -5,9 +5,9 @@ use Rattle.std.specs.BTreeMap as tree
 use Rattle.std.specs.BTreeMap.{BTreeMap, get_by}
 use Rattle.std.specs.Option.{option_map}
 use Rattle.std.specs.Ordering.{is_eq}
-use Rattle.xa_base.specs.declared.texts.Name.{Name}
-use Rattle.xa_base.specs.Names.{name_eq, name_cmp}
-use Rattle.schema_parts.specs.declared.components.GlobalAttribute.{GlobalAttribute}
+use Rattle.base_texts.specs.declared.texts.Name.{Name}
+use Rattle.base_texts.specs.Names.{name_eq, name_cmp}
+use Rattle.schema_components.specs.declared.components.GlobalAttribute.{GlobalAttribute}
 use Rattle.link_names.proofs.Placing.{name_test, cut}
 use Rattle.link_set.specs.Numbering.{ComponentNumbers}
 use Rattle.link_set.specs.Private.Seen.{attributes_of}

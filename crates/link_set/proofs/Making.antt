@@ -1,9 +1,9 @@
 -- Definitions with their spaces, with one space more.
 use Rattle.std.proofs.Common.{◌≡◌, ◌<◌, ◌≤◌, arith, List, [], ◌∷◌, ◌++◌, length, get_or, refl, sym, ap, ◌∙◌}
 use Rattle.simple_types.specs.Space.{Space}
-use Rattle.link_cycles.specs.SimpleTypes.{SimpleDefinition}
-use Rattle.link_cycles.specs.Seen.{definition_of, definitions_of}
-use Rattle.link_cycles.specs.declared.definitions.SimpleType.{SimpleType}
+use Rattle.link_names.specs.SimpleTypes.{SimpleDefinition}
+use Rattle.link_names.specs.CyclesSeen.{definition_of, definitions_of}
+use Rattle.link_names.specs.declared.definitions.SimpleType.{SimpleType}
 use Rattle.link_set.specs.Sets.{made_type, made_types}
 
 pub none_made : (ds : List SimpleDefinition) → made_types ds [] ≡ []

@@ -1,8 +1,8 @@
 -- A content model with other numbers, from its label and its kids.
 use Rattle.std.proofs.Common.{◌≡◌, ℕ, suc, List, [], ◌∷◌, map, refl, sym, ap, ap₂, ◌∙◌, subst}
-use Rattle.label_tree.specs.Rose.{Rose, Roses, node, roses_of, label_of, kids_of, length_all, Allowed, AllowedAll}
-use Rattle.label_tree.specs.Rose as rose
-use Rattle.label_tree.proofs.Roses.{roses_of-list_of}
+use Rattle.base_trees.specs.Rose.{Rose, Roses, node, roses_of, label_of, kids_of, length_all, Allowed, AllowedAll}
+use Rattle.base_trees.specs.Rose as rose
+use Rattle.base_trees.proofs.Roses.{roses_of-list_of}
 use Rattle.content_models.specs.Kids.{MayHave, KindMayHave}
 use Rattle.content_models.specs.declared.particles.ParticleKind.{ParticleKind}
 use Rattle.content_models.specs.declared.particles.ParticleKind.TheVariants as particle

@@ -7,12 +7,12 @@ use Rattle.std.specs.BTreeMap as tree
 use Rattle.std.specs.BTreeMap.{BTreeMap}
 use Rattle.std.proofs.lemmas.Bool.Decides.{nat_tests}
 use Rattle.std.proofs.lemmas.List.{length-map}
-use Rattle.xa_base.specs.declared.texts.Name.{Name}
+use Rattle.base_texts.specs.declared.texts.Name.{Name}
 use Rattle.simple_types.specs.declared.simples.Builtin.{Builtin}
 use Rattle.link_names.specs.declared.places.Place.{Place}
 use Rattle.link_names.proofs.Placing.{cut}
-use Rattle.link_cycles.specs.Tables.{named_in, placed_in, names}
-use Rattle.link_cycles.proofs.Numbering.{put_placed}
+use Rattle.link_names.specs.Tables.{named_in, placed_in, names}
+use Rattle.link_names.proofs.Numbering.{put_placed}
 use Rattle.link_set.specs.Builtins.{rank, is_builtin}
 use Rattle.std.specs.List.{position_from}
 use Rattle.link_set.specs.Numbering as told

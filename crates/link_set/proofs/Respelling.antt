@@ -7,9 +7,9 @@ use Rattle.simple_types.specs.Seen.{space_of}
 use Rattle.simple_types.specs.Space.{Space}
 use Rattle.simple_types.specs.declared.standards.Standard.{Standard}
 use Rattle.simple_types.specs.declared.standards.Standard.TheVariants.{Free, Default, Fixed}
-use Rattle.schema_parts.specs.declared.components.ComplexDef.{ComplexDef}
-use Rattle.schema_parts.specs.declared.components.SimpleDef.{SimpleDef}
-use Rattle.link_standards.specs.Spellings.{in_spelling}
+use Rattle.schema_components.specs.declared.components.ComplexDef.{ComplexDef}
+use Rattle.schema_components.specs.declared.components.SimpleDef.{SimpleDef}
+use Rattle.link_simple.specs.Spellings.{in_spelling}
 use Rattle.link_set.specs.Parts.{HasWholeModel}
 use Rattle.link_set.specs.Sets.{NamedSpace, named_space, named_spaces, space_at, or_free, spelled_standard, spelled_complex}
 

@@ -9,9 +9,9 @@ use Rattle.simple_types.specs.Builtins.{builtin_space}
 use Rattle.simple_types.specs.Seen.{space_of}
 use Rattle.simple_types.specs.Sound.{Sound}
 use Rattle.simple_types.specs.Space.{Space}
-use Rattle.schema_parts.specs.declared.components.SimpleDef.{SimpleDef}
-use Rattle.schema_parts.specs.Raw.{Document}
-use Rattle.link_cycles.specs.SimpleTypes.{SimpleDefinition, simple_types}
+use Rattle.schema_components.specs.declared.components.SimpleDef.{SimpleDef}
+use Rattle.schema_components.specs.Raw.{Document}
+use Rattle.link_names.specs.SimpleTypes.{SimpleDefinition, simple_types}
 use Rattle.link_set.specs.Builtins.{used_builtins}
 use Rattle.link_set.specs.Ordered.{inserted, in_order}
 use Rattle.link_set.specs.Sets.{NamedSpace, named_space, named_spaces, MadeType, made_type, made_types, made_before, space_of_made, space_of_builtin, simples, set_of}

@@ -3,13 +3,13 @@
 use Rattle.std.specs.Prelude.{List, [], ◌∷◌}
 use Rattle.std.specs.List.{flat_map}
 use Rattle.simple_types.specs.declared.simples.Builtin.{Builtin}
-use Rattle.schema_parts.specs.declared.simple_definitions.RawRef.{RawRef}
-use Rattle.schema_parts.specs.declared.simple_definitions.RawRef.TheVariants as reference
-use Rattle.schema_parts.specs.Raw.{Document}
-use Rattle.schema_walk.specs.Parts as part
-use Rattle.schema_walk.specs.Parts.{What, Part, parts}
-use Rattle.schema_walk.specs.declared.parts.TypeRole.{TypeRole}
-use Rattle.schema_walk.specs.declared.parts.TypeRole.TheVariants as role
+use Rattle.schema_components.specs.declared.simple_definitions.RawRef.{RawRef}
+use Rattle.schema_components.specs.declared.simple_definitions.RawRef.TheVariants as reference
+use Rattle.schema_components.specs.Raw.{Document}
+use Rattle.link_names.specs.Parts as part
+use Rattle.link_names.specs.Parts.{What, Part, parts}
+use Rattle.link_names.specs.declared.parts.TypeRole.{TypeRole}
+use Rattle.link_names.specs.declared.parts.TypeRole.TheVariants as role
 
 abbrev pub in_reference : RawRef → List Builtin
 in_reference (reference.Builtin which) = which ∷ []

@@ -2,12 +2,12 @@
 -- then the local ones, the simple types and then the built-in ones that are used, the complex types.
 use Rattle.std.specs.Prelude.{ℕ, Bool, false, ◌&&◌, nat_eq, List, length, map, Option, Some, None}
 use Rattle.std.specs.List.{position_from}
-use Rattle.xa_base.specs.declared.texts.Name.{Name}
-use Rattle.xa_base.specs.Names.{name_eq}
+use Rattle.base_texts.specs.declared.texts.Name.{Name}
+use Rattle.base_texts.specs.Names.{name_eq}
 use Rattle.simple_types.specs.declared.simples.Builtin.{Builtin}
 use Rattle.link_names.specs.declared.places.Place.{Place}
 use Rattle.link_names.specs.Order.{place}
-use Rattle.link_cycles.specs.SimpleTypes.{SimpleDefinition}
+use Rattle.link_names.specs.SimpleTypes.{SimpleDefinition}
 use Rattle.link_complex.specs.ComplexTypes.{ComplexDefinition}
 use Rattle.link_set.specs.Builtins.{is_builtin, used_builtins}
 use Rattle.link_set.specs.Written.{WrittenElement, Lists}

@@ -1,9 +1,9 @@
 -- What the parts of a set of the code stand for.
 use Rattle.std.specs.Prelude.{IfSome}
-use Rattle.label_tree.specs.Rose.{Allowed}
+use Rattle.base_trees.specs.Rose.{Allowed}
 use Rattle.content_models.specs.Kids.{MayHave}
-use Rattle.schema_parts.specs.Components.{components, model_of}
-use Rattle.schema_parts.specs.declared.components.ComplexDef.{ComplexDef}
+use Rattle.schema_components.specs.Components.{components, model_of}
+use Rattle.schema_components.specs.declared.components.ComplexDef.{ComplexDef}
 use Rattle.link_set.specs.Sets.{SetParts, parts_of}
 use Rattle.link_set.specs.declared.parts.SetParts.{SetParts as KeptParts}
 

@@ -2,12 +2,12 @@
 -- each component once, with a number in place of each name and of each type that was written in place. Where a name names
 -- nothing, which is a fault, the number here is 0.
 use Rattle.std.specs.Prelude.{ℕ, Bool, ◌-◌, List, [], ◌∷◌, ◌++◌, length, map, Option, Some, None, if◌then◌else◌, slice_get}
-use Rattle.xa_base.specs.declared.texts.Name.{Name}
-use Rattle.xa_base.specs.Names.{name_eq, name_cmp}
+use Rattle.base_texts.specs.declared.texts.Name.{Name}
+use Rattle.base_texts.specs.Names.{name_eq, name_cmp}
 use Rattle.std.specs.Option.{option_map}
 use Rattle.std.specs.Ordering.{is_lt}
-use Rattle.label_tree.specs.Rose.{Rose, node, Roses}
-use Rattle.label_tree.specs.Rose as rose
+use Rattle.base_trees.specs.Rose.{Rose, node, Roses}
+use Rattle.base_trees.specs.Rose as rose
 use Rattle.simple_types.specs.declared.simples.Builtin.{Builtin}
 use Rattle.simple_types.specs.Builtins.{builtin_space}
 use Rattle.simple_types.specs.Space.{Space}
@@ -16,23 +16,23 @@ use Rattle.simple_types.specs.declared.standards.Standard.TheVariants.{Free, Def
 use Rattle.content_models.specs.declared.particles.ParticleLabel.{ParticleLabel}
 use Rattle.content_models.specs.declared.particles.ParticleKind.{ParticleKind}
 use Rattle.content_models.specs.declared.particles.ParticleKind.TheVariants as particle
-use Rattle.schema_parts.specs.declared.simple_definitions.RawRef.{RawRef}
-use Rattle.schema_parts.specs.declared.simple_definitions.RawRef.TheVariants as reference
-use Rattle.schema_parts.specs.declared.declarations.RawContent.{RawContent}
-use Rattle.schema_parts.specs.declared.declarations.RawContent.TheVariants as raw
-use Rattle.schema_parts.specs.Raw.{Base, Named, Inner, Use, Kind, NamedKind, SimpleKind, ComplexKind, Local, Reference, Own, Document}
-use Rattle.schema_parts.specs.declared.components.ElementDecl.{ElementDecl}
-use Rattle.schema_parts.specs.declared.components.TypeOf.{TypeOf}
-use Rattle.schema_parts.specs.declared.components.TypeOf.TheVariants as kind
-use Rattle.schema_parts.specs.declared.components.AttributeUse.{AttributeUse}
-use Rattle.schema_parts.specs.declared.components.ComplexDef.{ComplexDef}
-use Rattle.schema_parts.specs.declared.components.Content.{Content}
-use Rattle.schema_parts.specs.declared.components.Content.TheVariants as content
-use Rattle.schema_parts.specs.declared.components.GlobalAttribute.{GlobalAttribute}
-pub use Rattle.schema_parts.specs.SetParts.{NamedSpace, SetParts, named_space, named_spaces, parts_of}
+use Rattle.schema_components.specs.declared.simple_definitions.RawRef.{RawRef}
+use Rattle.schema_components.specs.declared.simple_definitions.RawRef.TheVariants as reference
+use Rattle.schema_components.specs.declared.declarations.RawContent.{RawContent}
+use Rattle.schema_components.specs.declared.declarations.RawContent.TheVariants as raw
+use Rattle.schema_components.specs.Raw.{Base, Named, Inner, Use, Kind, NamedKind, SimpleKind, ComplexKind, Local, Reference, Own, Document}
+use Rattle.schema_components.specs.declared.components.ElementDecl.{ElementDecl}
+use Rattle.schema_components.specs.declared.components.TypeOf.{TypeOf}
+use Rattle.schema_components.specs.declared.components.TypeOf.TheVariants as kind
+use Rattle.schema_components.specs.declared.components.AttributeUse.{AttributeUse}
+use Rattle.schema_components.specs.declared.components.ComplexDef.{ComplexDef}
+use Rattle.schema_components.specs.declared.components.Content.{Content}
+use Rattle.schema_components.specs.declared.components.Content.TheVariants as content
+use Rattle.schema_components.specs.declared.components.GlobalAttribute.{GlobalAttribute}
+pub use Rattle.schema_components.specs.SetParts.{NamedSpace, SetParts, named_space, named_spaces, parts_of}
 use Rattle.link_names.specs.Order.{place, is_before}
-use Rattle.link_cycles.specs.SimpleTypes.{SimpleDefinition, simple_types}
-use Rattle.link_standards.specs.Spellings.{in_spelling}
+use Rattle.link_names.specs.SimpleTypes.{SimpleDefinition, simple_types}
+use Rattle.link_simple.specs.Spellings.{in_spelling}
 use Rattle.link_complex.specs.ComplexTypes.{ComplexDefinition}
 use Rattle.link_set.specs.Builtins.{used_builtins}
 use Rattle.link_set.specs.Numbering.{ComponentNumbers, numbers_in}

@@ -3,9 +3,9 @@
 use Rattle.std.specs.Prelude.{ℕ, Bool, List, [], ◌∷◌, map}
 use Rattle.std.specs.List.{flat_map}
 use Rattle.simple_types.specs.declared.simples.Builtin.{Builtin}
-use Rattle.schema_parts.specs.Raw.{Element, Local, Reference, Own, Attribute, Document}
+use Rattle.schema_components.specs.Raw.{Element, Local, Reference, Own, Attribute, Document}
 use Rattle.link_names.specs.Order.{is_before}
-use Rattle.link_cycles.specs.SimpleTypes.{SimpleDefinition, simple_types}
+use Rattle.link_names.specs.SimpleTypes.{SimpleDefinition, simple_types}
 use Rattle.link_complex.specs.ComplexTypes.{ComplexDefinition, complex_types}
 use Rattle.link_set.specs.NamedBuiltins.{named_builtins}
 use Rattle.link_set.specs.Ordered.{in_order}

@@ -1,18 +1,18 @@
 //! The built-in types that elements, attributes and extensions name.
 ghost use Rattle.std.specs.Prelude.{◌≡◌, ◌++◌, map, IfOk, OnOk};
 ghost use Rattle.std.specs.List.{flat_map, filter};
-ghost use Rattle.schema_parts.specs.Documents.{doc_of};
-ghost use Rattle.schema_walk.specs.Seen.{part_of, parts_of};
+ghost use Rattle.schema_components.specs.Documents.{doc_of};
+ghost use Rattle.link_names.specs.WalkSeen.{part_of, parts_of};
 ghost use Rattle.link_set.specs.Builtins as told;
 ghost use Rattle.link_set.specs.NamedBuiltins as named_told;
 ghost use Rattle.link_set.specs.Private.Told.{listed_by};
 
 use crate::listing::Listed;
-use schema_parts::{RawDoc, RawRef};
-use schema_walk::{Part, TypeRole, What, all_parts};
+use base_texts::Memory;
+use link_names::{Part, TypeRole, What, all_parts};
+use schema_components::{RawDoc, RawRef};
 use simple_types::Builtin;
 use std::alloc::Global;
-use xa_base::Memory;
 
 /// All built-in types, in their order.
 const BUILTINS: [Builtin; 23] = [

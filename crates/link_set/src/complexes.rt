@@ -2,12 +2,12 @@
 ghost use Rattle.std.specs.Prelude.{◌≡◌, Some, map, IfOk, IfSome, if◌then◌else◌};
 ghost use Rattle.std.specs.List.{All};
 ghost use Rattle.std.specs.Option.{option_map};
-ghost use Rattle.label_tree.specs.Rose.{Allowed};
+ghost use Rattle.base_trees.specs.Rose.{Allowed};
 ghost use Rattle.content_models.specs.Kids.{MayHave};
 ghost use Rattle.simple_types.specs.declared.standards.Standard.TheVariants.{Free};
-ghost use Rattle.schema_parts.specs.Components.{model_of};
-ghost use Rattle.schema_parts.specs.Documents.{doc_of};
-ghost use Rattle.schema_parts.specs.Seen.{base_of, use_of, uses_in};
+ghost use Rattle.schema_components.specs.Components.{model_of};
+ghost use Rattle.schema_components.specs.Documents.{doc_of};
+ghost use Rattle.schema_components.specs.Seen.{base_of, use_of, uses_in};
 ghost use Rattle.link_complex.specs.Seen.{definition_of, definitions_of};
 ghost use Rattle.link_set.specs.Ordered.{in_order};
 ghost use Rattle.link_set.specs.Parts.{HasWholeModel};
@@ -16,15 +16,15 @@ ghost use Rattle.link_set.specs.Private.Told.{found_in, told_by};
 
 use crate::elements::AttributeNames;
 use crate::tables::ComponentNumbers;
+use base_texts::{Memory, Name};
+use base_trees::{Tree, Whole};
 use content_models::{Particle, ParticleKind, ParticleLabel};
-use label_tree::{Tree, Whole};
 use link_complex::ComplexType;
-use schema_parts::{
+use schema_components::{
     AttributeUse, ComplexDef, Content, GlobalAttribute, RawBase, RawContent, RawDoc, RawUse, Uses,
 };
 use simple_types::Standard;
 use std::alloc::Global;
-use xa_base::{Memory, Name};
 
 fn uses_by_name(mut uses: Vec<AttributeUse>) -> Result<Vec<AttributeUse>, Memory>
     ensures { IfOk result (λ sorted. sorted.items ≡ in_order told.use_before uses.items) }

@@ -1,9 +1,9 @@
 //! Element and attribute declarations with the numbers of their types.
 ghost use Rattle.std.specs.Prelude.{◌≡◌, ◌++◌, Some, cond, map, IfOk, OnOk};
 ghost use Rattle.std.specs.Option.{option_map};
-ghost use Rattle.xa_base.specs.declared.texts.Name.{Name as NameOf};
-ghost use Rattle.xa_base.specs.Names.{name_eq};
-ghost use Rattle.schema_parts.specs.declared.components.GlobalAttribute.{GlobalAttribute as GlobalAttributeOf};
+ghost use Rattle.base_texts.specs.declared.texts.Name.{Name as NameOf};
+ghost use Rattle.base_texts.specs.Names.{name_eq};
+ghost use Rattle.schema_components.specs.declared.components.GlobalAttribute.{GlobalAttribute as GlobalAttributeOf};
 ghost use Rattle.link_set.specs.Private.Seen.{written_of, elements_of, told_attribute, attributes_of};
 ghost use Rattle.link_set.specs.Sets as told;
 ghost use Rattle.link_set.specs.Private.Told.{attribute_in, found_in, listed_by, told_by};
@@ -11,10 +11,10 @@ ghost use Rattle.link_set.specs.Private.Told.{attribute_in, found_in, listed_by,
 use crate::listing::Listed;
 use crate::tables::ComponentNumbers;
 use crate::written::{WrittenAttribute, WrittenElement};
-use schema_parts::{ElementDecl, GlobalAttribute};
+use base_texts::{Memory, Name};
+use schema_components::{ElementDecl, GlobalAttribute};
 use std::alloc::Global;
 use std::collections::BTreeMap;
-use xa_base::{Memory, Name};
 
 impl<'a> ComponentNumbers<'a> {
     fn element(&self, alloc: Global, written: WrittenElement<'a>) -> Result<ElementDecl, Memory>

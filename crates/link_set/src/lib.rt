@@ -1,4 +1,4 @@
-//! The linked set that several schema documents stand for, once no fault was found in them.
+//! Builds the linked set of several schema documents in which no fault was found.
 //!
 //! Read first: `specs/Sets` (`set_of`), then `set_parts` in `src/parts.rt`.
 #![tactic(auto)]

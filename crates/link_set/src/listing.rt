@@ -1,7 +1,7 @@
 //! The components of several documents, each kind in the order of its numbers.
 ghost use Rattle.std.specs.Prelude.{◌≡◌, map, IfOk};
-ghost use Rattle.schema_parts.specs.Documents.{doc_of};
-ghost use Rattle.link_cycles.specs.Seen.{definitions_of as simples_of};
+ghost use Rattle.schema_components.specs.Documents.{doc_of};
+ghost use Rattle.link_names.specs.CyclesSeen.{definitions_of as simples_of};
 ghost use Rattle.link_complex.specs.Seen.{definitions_of as complexes_of};
 ghost use Rattle.link_set.specs.Private.Seen.{elements_of};
 ghost use Rattle.link_set.specs.NamedBuiltins as named_told;
@@ -13,12 +13,12 @@ use crate::ordering::{complexes_in_order, simples_in_order};
 use crate::written::{
     WrittenAttribute, WrittenElement, global_attributes, global_elements, local_elements,
 };
+use base_texts::Memory;
 use link_complex::ComplexType;
-use link_cycles::SimpleType;
-use schema_parts::RawDoc;
+use link_names::SimpleType;
+use schema_components::RawDoc;
 use simple_types::Builtin;
 use std::alloc::Global;
-use xa_base::Memory;
 
 /// The elements.
 #[derive(Drop)]

@@ -1,19 +1,19 @@
 //! The numbers of components, by their names and by the places where they were written.
 ghost use Rattle.std.specs.Prelude.{◌≡◌, ◌+◌, ◌≤◌, Some, cond, length, IfOk, OnOk};
-ghost use Rattle.xa_base.specs.declared.texts.Name.{Name as NameOf};
+ghost use Rattle.base_texts.specs.declared.texts.Name.{Name as NameOf};
 ghost use Rattle.simple_types.specs.declared.simples.Builtin.{Builtin as BuiltinOf};
 ghost use Rattle.link_names.specs.declared.places.Place.{Place as PlaceOf};
-ghost use Rattle.link_cycles.specs.Tables.{named_in, placed_in, names};
+ghost use Rattle.link_names.specs.Tables.{named_in, placed_in, names};
 ghost use Rattle.link_set.specs.Builtins.{rank};
 ghost use Rattle.link_set.specs.Numbering as told;
 ghost use Rattle.link_set.specs.Private.Told.{entries_of, ranked_in};
 
 use crate::builtins;
+use base_texts::{Memory, Name};
 use link_names::Place;
 use simple_types::Builtin;
 use std::alloc::Global;
 use std::collections::BTreeMap;
-use xa_base::{Memory, Name};
 
 /// A component by its name, if it has one, and by the place where it was written.
 #[derive(Clone, Copy)]

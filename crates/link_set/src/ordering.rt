@@ -1,16 +1,16 @@
 //! Components in the order of files and places.
 ghost use Rattle.std.specs.Prelude.{◌≡◌, map, IfOk};
-ghost use Rattle.schema_parts.specs.Documents.{doc_of};
-ghost use Rattle.link_cycles.specs.Seen.{definitions_of as simples_of};
+ghost use Rattle.schema_components.specs.Documents.{doc_of};
+ghost use Rattle.link_names.specs.CyclesSeen.{definitions_of as simples_of};
 ghost use Rattle.link_complex.specs.Seen.{definitions_of as complexes_of};
 ghost use Rattle.link_set.specs.Ordered.{in_order};
 ghost use Rattle.link_set.specs.Written as told;
 
+use base_texts::Memory;
 use link_complex::{ComplexType, complex_types};
-use link_cycles::{SimpleType, simple_types};
-use schema_parts::RawDoc;
+use link_names::{SimpleType, simple_types};
+use schema_components::RawDoc;
 use std::alloc::Global;
-use xa_base::Memory;
 
 fn simples_by_place<'a>(mut found: Vec<SimpleType<'a>>) -> Result<Vec<SimpleType<'a>>, Memory>
     ensures { IfOk result (λ sorted. simples_of sorted.items ≡ in_order told.simple_before (simples_of found.entry.items)) }

@@ -3,8 +3,8 @@ ghost use Rattle.std.specs.Prelude.{◌≡◌, length, map, IfOk};
 ghost use Rattle.std.specs.List.{All};
 ghost use Rattle.simple_types.specs.Seen.{space_of};
 ghost use Rattle.simple_types.specs.Sound.{Sound};
-ghost use Rattle.schema_parts.specs.declared.components.SimpleDef.{SimpleDef as SimpleDefOf};
-ghost use Rattle.schema_parts.specs.Documents.{doc_of};
+ghost use Rattle.schema_components.specs.declared.components.SimpleDef.{SimpleDef as SimpleDefOf};
+ghost use Rattle.schema_components.specs.Documents.{doc_of};
 ghost use Rattle.link_simple.specs.Answering.{AreSound};
 ghost use Rattle.link_set.specs.Builtins as builtins_told;
 ghost use Rattle.link_set.specs.Few.{AreFew};
@@ -19,10 +19,10 @@ use crate::listing::Listed;
 use crate::simples::simples;
 use crate::spelling::{spelled_attributes, spelled_complexes};
 use crate::tables::{ComponentNumbers, count};
-use schema_parts::{ComplexDef, ElementDecl, GlobalAttribute, RawDoc, SimpleDef};
+use base_texts::Memory;
+use schema_components::{ComplexDef, ElementDecl, GlobalAttribute, RawDoc, SimpleDef};
 use simple_types::{Builtin, Simple};
 use std::alloc::Global;
-use xa_base::Memory;
 
 /// The components of a set, each kind in the order of its numbers; the first `globals` elements are the global ones.
 #[derive(Drop)]
@@ -129,7 +129,7 @@ fn parts_with<'a>(
 }
 
 /// The parts of the set of the documents, of which there are few, and whose simple types have these spaces in the order of
-/// `link_cycles::simple_types`. The time grows as n log n with the number of components.
+/// `link_names::simple_types`. The time grows as n log n with the number of components.
 pub fn set_parts(alloc: Global, docs: &[RawDoc], spaces: Vec<Simple>) -> Result<SetParts, Memory>
     requires few { AreFew (lists_of (map doc_of docs.now)) }
     requires sound { AreSound spaces.items }

@@ -1,18 +1,18 @@
 //! Types and elements by their numbers.
 ghost use Rattle.std.specs.Prelude.{◌≡◌, map};
-ghost use Rattle.schema_parts.specs.Documents.{doc_of};
-ghost use Rattle.schema_parts.specs.Seen.{base_of, kind_of, local_of};
+ghost use Rattle.schema_components.specs.Documents.{doc_of};
+ghost use Rattle.schema_components.specs.Seen.{base_of, kind_of, local_of};
 ghost use Rattle.link_names.specs.Order.{place};
-ghost use Rattle.link_cycles.specs.Tables.{named_in, placed_in};
+ghost use Rattle.link_names.specs.Tables.{named_in, placed_in};
 ghost use Rattle.link_set.specs.Sets as told;
 ghost use Rattle.link_set.specs.Private.Told.{ranked_in, told_types, told_by};
 
 use crate::builtins::rank;
 use crate::tables::{ComponentNumbers, TypeNumbers};
-use schema_parts::{RawBase, RawDoc, RawKind, RawLocal, RawRef, TypeOf};
+use base_texts::Name;
+use schema_components::{RawBase, RawDoc, RawKind, RawLocal, RawRef, TypeOf};
 use simple_types::Builtin;
 use std::collections::BTreeMap;
-use xa_base::Name;
 
 /// The number at the name.
 pub(crate) fn number_named<'a>(table: &BTreeMap<&'a Name, u32>, name: &'a Name) -> Option<u32>

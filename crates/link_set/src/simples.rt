@@ -1,19 +1,19 @@
 //! Simple types with their spaces, in the order of their numbers.
 ghost use Rattle.std.specs.Prelude.{◌≡◌, ◌++◌, map, IfOk, OnOk};
 ghost use Rattle.simple_types.specs.Seen.{space_of};
-ghost use Rattle.schema_parts.specs.Documents.{doc_of};
-ghost use Rattle.link_cycles.specs.SimpleTypes.{simple_types as simple_types_told};
-ghost use Rattle.link_cycles.specs.Seen.{definitions_of};
+ghost use Rattle.schema_components.specs.Documents.{doc_of};
+ghost use Rattle.link_names.specs.SimpleTypes.{simple_types as simple_types_told};
+ghost use Rattle.link_names.specs.CyclesSeen.{definitions_of};
 ghost use Rattle.link_set.specs.Private.Made.{made_of};
 ghost use Rattle.link_set.specs.Ordered.{in_order};
 ghost use Rattle.link_set.specs.Sets as told;
 
 use crate::complexes::name_copy;
-use link_cycles::{SimpleType, simple_types};
-use schema_parts::{RawDoc, SimpleDef};
+use base_texts::Memory;
+use link_names::{SimpleType, simple_types};
+use schema_components::{RawDoc, SimpleDef};
 use simple_types::{Builtin, Simple, builtin};
 use std::alloc::Global;
-use xa_base::Memory;
 
 /// A simple type with its space.
 #[derive(Drop)]
@@ -87,7 +87,7 @@ fn defined<'a>(
     simple_defs(alloc, sorted)
 }
 
-/// The simple types: those of the documents, which have these spaces in the order of `link_cycles::simple_types`, and then
+/// The simple types: those of the documents, which have these spaces in the order of `link_names::simple_types`, and then
 /// the built-in ones.
 pub(crate) fn simples(
     alloc: Global,

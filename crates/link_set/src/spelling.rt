@@ -3,14 +3,14 @@ ghost use Rattle.std.specs.Prelude.{◌≡◌, map, IfOk};
 ghost use Rattle.std.specs.List.{All};
 ghost use Rattle.simple_types.specs.Seen.{space_of};
 ghost use Rattle.simple_types.specs.Sound.{Sound};
-ghost use Rattle.schema_parts.specs.declared.components.SimpleDef.{SimpleDef as SimpleDefOf};
+ghost use Rattle.schema_components.specs.declared.components.SimpleDef.{SimpleDef as SimpleDefOf};
 ghost use Rattle.link_set.specs.Sets as told;
 
-use link_standards::in_spelling;
-use schema_parts::{AttributeUse, ComplexDef, GlobalAttribute, SimpleDef, Uses};
+use base_texts::Memory;
+use link_simple::in_spelling;
+use schema_components::{AttributeUse, ComplexDef, GlobalAttribute, SimpleDef, Uses};
 use simple_types::Standard;
 use std::alloc::Global;
-use xa_base::Memory;
 
 fn or_free(found: Option<Standard>) -> Standard
     ensures { result ≡ told.or_free found }

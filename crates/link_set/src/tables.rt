@@ -1,10 +1,10 @@
 //! The numbers of all components of several documents.
 ghost use Rattle.std.specs.Prelude.{◌≡◌, ◌+◌, ◌≤◌, length, map, IfOk};
-ghost use Rattle.xa_base.specs.declared.texts.Name.{Name as NameOf};
+ghost use Rattle.base_texts.specs.declared.texts.Name.{Name as NameOf};
 ghost use Rattle.simple_types.specs.declared.simples.Builtin.{Builtin as BuiltinOf};
 ghost use Rattle.link_names.specs.declared.places.Place.{Place as PlaceOf};
-ghost use Rattle.link_cycles.specs.Seen.{definitions_of as simples_of};
-ghost use Rattle.link_cycles.specs.Tables.{named_in, placed_in};
+ghost use Rattle.link_names.specs.CyclesSeen.{definitions_of as simples_of};
+ghost use Rattle.link_names.specs.Tables.{named_in, placed_in};
 ghost use Rattle.link_complex.specs.Seen.{definitions_of as complexes_of};
 ghost use Rattle.link_set.specs.Builtins as builtins_told;
 ghost use Rattle.link_set.specs.Few.{AreFew};
@@ -15,13 +15,12 @@ ghost use Rattle.link_set.specs.Private.Told.{entries_of, ranked_in, listed_by, 
 use crate::listing::Listed;
 use crate::numbers::{NamedPlace, by_name, by_place, by_rank};
 use crate::written::WrittenElement;
+use base_texts::{Memory, Name};
 use link_complex::ComplexType;
-use link_cycles::SimpleType;
-use link_names::Place;
+use link_names::{Place, SimpleType};
 use simple_types::Builtin;
 use std::alloc::Global;
 use std::collections::BTreeMap;
-use xa_base::{Memory, Name};
 
 /// The numbers of global elements by their names, and of local ones by their places.
 #[derive(Drop)]

@@ -1,14 +1,14 @@
 //! The components of several documents.
 ghost use Rattle.std.specs.Prelude.{◌≡◌, ◌++◌, map, IfOk, OnOk};
 ghost use Rattle.std.specs.List.{flat_map};
-ghost use Rattle.schema_parts.specs.Documents.{doc_of};
-ghost use Rattle.schema_parts.specs.Seen.{local_of};
+ghost use Rattle.schema_components.specs.Documents.{doc_of};
+ghost use Rattle.schema_components.specs.Seen.{local_of};
 ghost use Rattle.link_set.specs.Written as told;
 ghost use Rattle.link_set.specs.Private.Seen.{elements_of, attributes_of};
 
-use schema_parts::{RawAttribute, RawDoc, RawElement, RawLocal};
+use base_texts::Memory;
+use schema_components::{RawAttribute, RawDoc, RawElement, RawLocal};
 use std::alloc::Global;
-use xa_base::Memory;
 
 /// An element declaration, and the number of the file in which it was written.
 #[derive(Clone, Copy)]

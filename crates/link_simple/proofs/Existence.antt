@@ -12,27 +12,27 @@ use Rattle.std.proofs.lemmas.Bool.Decides.{Decides-int_eq}
 use Rattle.std.proofs.lemmas.Cmp.{int_cmp_total, nat_list_cmp_total}
 use Rattle.std.proofs.lemmas.Map.Text.{is_eq-slice_cmp}
 use Rattle.std.proofs.lemmas.Slice.Eq.{bytes_eq-Decides}
-use Rattle.xa_base.specs.declared.white_space.WhiteSpace.{WhiteSpace}
+use Rattle.base_texts.specs.declared.white_space.WhiteSpace.{WhiteSpace}
 use Rattle.simple_types.specs.Joining.{flattened}
 use Rattle.simple_types.specs.Sound.{has_list}
 use Rattle.simple_types.specs.Space.{Space, Spaces, Booleans, Wholes, Numbers, Words, Characters, count_members}
 use Rattle.simple_types.specs.Space as space
 use Rattle.simple_types.specs.declared.facets.Facet.{Facet}
-use Rattle.facet_rules.specs.declared.refusals.FacetWhy.{FacetWhy}
-use Rattle.facet_rules.specs.declared.refusals.FacetWhy.TheVariants as reason
-use Rattle.facet_rules.specs.Making.{AreWithinLimits, count_all_items}
-use Rattle.facet_rules.specs.Restricting.{Restricted, Enumerated, EnumeratedBy, ByItems, IsNumbersOf, IsWordsOf, with_facets, no_constraints, narrowed, is_empty, items_of, each_item, number_item, word_item}
-use Rattle.schema_parts.specs.Raw.{How, Restrict, ListOf, UnionOf, Document}
+use Rattle.simple_facets.specs.declared.refusals.FacetWhy.{FacetWhy}
+use Rattle.simple_facets.specs.declared.refusals.FacetWhy.TheVariants as reason
+use Rattle.simple_facets.specs.Making.{AreWithinLimits, count_all_items}
+use Rattle.simple_facets.specs.Restricting.{Restricted, Enumerated, EnumeratedBy, ByItems, IsNumbersOf, IsWordsOf, with_facets, no_constraints, narrowed, is_empty, items_of, each_item, number_item, word_item}
+use Rattle.schema_components.specs.Raw.{How, Restrict, ListOf, UnionOf, Document}
 use Rattle.link_names.specs.declared.faults.LinkWhy.{LinkWhy}
 use Rattle.link_names.specs.declared.faults.LinkWhy.TheVariants as why
 use Rattle.link_names.specs.Order.{IsFirstSuch}
-use Rattle.link_cycles.specs.Cycles as cycles
-use Rattle.link_cycles.specs.Cycles.{numbers_in, parts_in, edges, IsCircular}
-use Rattle.link_cycles.specs.Graphs.{IsEdge, Leads, IsOnCycle}
-use Rattle.xa_base.specs.Lists.{HasItem}
-use Rattle.link_cycles.specs.Private.Searching.{mark, unseen}
-use Rattle.link_cycles.specs.SimpleTypes.{SimpleDefinition, simple_types}
-use Rattle.link_cycles.proofs.Walks.{one_step_more, set_parts, set_less, unmarked}
+use Rattle.link_names.specs.Cycles as cycles
+use Rattle.link_names.specs.Cycles.{numbers_in, parts_in, edges, IsCircular}
+use Rattle.link_names.specs.Graphs.{IsEdge, Leads, IsOnCycle}
+use Rattle.base_texts.specs.Lists.{HasItem}
+use Rattle.link_names.specs.Private.Searching.{mark, unseen}
+use Rattle.link_names.specs.SimpleTypes.{SimpleDefinition, simple_types}
+use Rattle.link_names.proofs.Walks.{one_step_more, set_parts, set_less, unmarked}
 use Rattle.link_simple.specs.Making.{entry_at, part_space, part_spaces, IsRestriction, IsList, IsUnion, IsLeft, IsEntry, IsMaking}
 use Rattle.link_simple.proofs.Inserting.{some_ascending}
 use Rattle.link_simple.proofs.Once.{once, same_entry}

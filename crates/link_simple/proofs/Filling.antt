@@ -2,18 +2,18 @@
 use Rattle.std.proofs.Common.{◌≡◌, ℕ, inl, List, refl, sym, ap, ◌∙◌, subst, Option, Some, None, Result}
 use Rattle.std.specs.Prelude.{IsSome}
 use Rattle.std.proofs.lemmas.Bool.{true≢false}
-use Rattle.xa_base.specs.Lists.{HasItem}
-use Rattle.xa_base.proofs.Lists.{has_left, has_right}
+use Rattle.base_texts.specs.Lists.{HasItem}
+use Rattle.base_texts.proofs.Lists.{has_left, has_right}
 use Rattle.simple_types.specs.Builtins.{builtin_space}
 use Rattle.simple_types.specs.Space.{Space, Spaces}
 use Rattle.simple_types.specs.Space as space
-use Rattle.schema_parts.specs.declared.simple_definitions.RawRef.TheVariants as reference
-use Rattle.schema_parts.specs.Raw.{Base, Named, Inner, Bases, none, more, How, Restrict, ListOf, UnionOf}
+use Rattle.schema_components.specs.declared.simple_definitions.RawRef.TheVariants as reference
+use Rattle.schema_components.specs.Raw.{Base, Named, Inner, Bases, none, more, How, Restrict, ListOf, UnionOf}
 use Rattle.link_names.specs.declared.faults.LinkWhy.{LinkWhy}
 use Rattle.link_names.specs.Order.{place}
-use Rattle.link_cycles.specs.Cycles as cycles
-use Rattle.link_cycles.specs.Cycles.{numbers_in, one_of, part_of, parts_of_bases, parts_of, parts_in}
-use Rattle.link_cycles.specs.SimpleTypes.{SimpleDefinition}
+use Rattle.link_names.specs.Cycles as cycles
+use Rattle.link_names.specs.Cycles.{numbers_in, one_of, part_of, parts_of_bases, parts_of, parts_in}
+use Rattle.link_names.specs.SimpleTypes.{SimpleDefinition}
 use Rattle.link_simple.specs.declared.leaving.Left.{Left}
 use Rattle.link_simple.specs.declared.leaving.Left.TheVariants as left
 use Rattle.link_simple.specs.Making.{entry_at, space_at, part_space, with_space, part_spaces, IsRestriction, IsList, IsUnion, IsLeft}

@@ -1,6 +1,6 @@
 -- All types are done, where as many steps as there are types do one more each.
 use Rattle.std.proofs.Common.{◌≡◌, ℕ, zero, suc, ◌<◌, arith, Bool, true, false, List, [], ◌∷◌, length, replicate, refl, ap}
-use Rattle.link_cycles.specs.Private.Searching.{mark, unseen}
+use Rattle.link_names.specs.Private.Searching.{mark, unseen}
 
 pub none_unseen : (bs : List Bool) → unseen bs ≡ 0 → (n : ℕ) → n < length bs → mark bs n ≡ true
 none_unseen [] none n lt = absurd (omega (arith, lt))

@@ -3,11 +3,11 @@ use Rattle.std.proofs.Common.{◌≡◌, ℕ, zero, suc, ◌+◌, ◌*◌, ◌-�
 use Rattle.std.specs.Prelude.{slice_index}
 use Rattle.std.proofs.Math.ListN.{length-append, length-set, length-replicate}
 use Rattle.std.proofs.lemmas.Bool.{cases_Bool, true≢false}
-use Rattle.xa_base.specs.Lists.{HasItem}
-use Rattle.xa_base.proofs.Lists.{in_parts, in_front, in_end}
-use Rattle.link_cycles.specs.Graphs.{row, IsEdge}
-use Rattle.link_cycles.specs.Private.Searching.{mark, unseen}
-use Rattle.link_cycles.proofs.Walks.{one_step_more, set_parts, set_here, set_kept, set_less}
+use Rattle.base_texts.specs.Lists.{HasItem}
+use Rattle.base_texts.proofs.Lists.{in_parts, in_front, in_end}
+use Rattle.link_names.specs.Graphs.{row, IsEdge}
+use Rattle.link_names.specs.Private.Searching.{mark, unseen}
+use Rattle.link_names.proofs.Walks.{one_step_more, set_parts, set_here, set_kept, set_less}
 use Rattle.link_simple.specs.declared.orders.Step.{Step}
 use Rattle.link_simple.proofs.Finishing.{all_unseen}
 use Rattle.link_simple.specs.Private.Ordering.{IsAcyclic, IsInside, IsReady, Follow, Reaches, IsOpen, IsWay, all_done, Walked, IsHeld, IsFirstOpen, step}

@@ -6,7 +6,7 @@ use Rattle.std.specs.Cmp.{IsTotalOrder}
 use Rattle.std.specs.Ordering.{ordering_reverse}
 use Rattle.std.specs.declared.cmp.Ordering.{Ordering}
 use Rattle.std.specs.declared.cmp.Ordering.TheVariants.{Less, Equal, Greater}
-use Rattle.facet_rules.specs.Restricting.{IsAscendingOf}
+use Rattle.simple_facets.specs.Restricting.{IsAscendingOf}
 use Rattle.link_simple.proofs.Ascending.{or_later, later, here, nowhere}
 
 by_ordering : {P : Type 0} (o : Ordering) → (o ≡ Less → P) → (o ≡ Equal → P) → (o ≡ Greater → P) → P

@@ -9,10 +9,10 @@ use Rattle.simple_types.specs.Sound.{Sound}
 use Rattle.simple_types.specs.Space.{Space, Spaces, none, more}
 use Rattle.simple_types.specs.Joining.{joined}
 use Rattle.simple_types.proofs.Copies.{joined-none}
-use Rattle.facet_rules.specs.Making.{AreEachSound, lent_spaces}
-use Rattle.facet_rules.proofs.Counting.{cut, lent_more}
-use Rattle.schema_parts.specs.Raw.{Base}
-use Rattle.link_cycles.specs.Cycles as cycles
+use Rattle.simple_facets.specs.Making.{AreEachSound, lent_spaces}
+use Rattle.simple_facets.proofs.Counting.{cut, lent_more}
+use Rattle.schema_components.specs.Raw.{Base}
+use Rattle.link_names.specs.Cycles as cycles
 use Rattle.link_simple.specs.declared.parts.Part.{Part}
 use Rattle.link_simple.specs.Answering.{made_of}
 use Rattle.link_simple.specs.Making.{entry_at, part_space, with_space}

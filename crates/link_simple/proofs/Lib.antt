@@ -10,3 +10,5 @@ pub mod Standing
 pub mod Told
 pub mod Uniqueness
 pub mod Varied
+mod Declaring
+mod Misfits

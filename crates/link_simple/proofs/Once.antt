@@ -7,23 +7,23 @@ use Rattle.std.specs.Ordering.{int_cmp, nat_cmp}
 use Rattle.std.specs.Cmp.Lexicographic.{slice_cmp}
 use Rattle.std.proofs.lemmas.Bool.{true≢false}
 use Rattle.std.proofs.lemmas.Cmp.{int_cmp_total, nat_list_cmp_total}
-use Rattle.xa_base.specs.declared.white_space.WhiteSpace.{WhiteSpace}
+use Rattle.base_texts.specs.declared.white_space.WhiteSpace.{WhiteSpace}
 use Rattle.simple_types.specs.declared.facets.Facet.{Facet}
 use Rattle.simple_types.specs.Space.{Space, Spaces, Booleans, Wholes, Numbers, Words, Characters}
 use Rattle.simple_types.specs.Space as space
-use Rattle.facet_rules.specs.declared.refusals.FacetWhy.{FacetWhy}
-use Rattle.facet_rules.specs.declared.refusals.FacetWhy.TheVariants as reason
-use Rattle.facet_rules.specs.Restricting.{Restricted, Enumerated, EnumeratedBy, ByItems, IsNumbersOf, IsWordsOf, with_facets, no_constraints, narrowed, is_empty, items_of, each_item, number_item, word_item}
-use Rattle.schema_parts.specs.declared.simple_definitions.RawRef.TheVariants as reference
-use Rattle.schema_parts.specs.Raw.{Base, Named, Inner, Bases, none, more, How, Restrict, ListOf, UnionOf}
+use Rattle.simple_facets.specs.declared.refusals.FacetWhy.{FacetWhy}
+use Rattle.simple_facets.specs.declared.refusals.FacetWhy.TheVariants as reason
+use Rattle.simple_facets.specs.Restricting.{Restricted, Enumerated, EnumeratedBy, ByItems, IsNumbersOf, IsWordsOf, with_facets, no_constraints, narrowed, is_empty, items_of, each_item, number_item, word_item}
+use Rattle.schema_components.specs.declared.simple_definitions.RawRef.TheVariants as reference
+use Rattle.schema_components.specs.Raw.{Base, Named, Inner, Bases, none, more, How, Restrict, ListOf, UnionOf}
 use Rattle.link_names.specs.declared.faults.LinkWhy.{LinkWhy}
 use Rattle.link_names.specs.declared.faults.LinkWhy.TheVariants as why
 use Rattle.link_names.specs.Order.{place}
-use Rattle.link_cycles.specs.Cycles as cycles
-use Rattle.link_cycles.specs.Cycles.{one_of, part_of, parts_of_bases, parts_of, parts_in}
-use Rattle.xa_base.specs.Lists.{HasItem}
-use Rattle.xa_base.proofs.Lists.{has_left, has_right}
-use Rattle.link_cycles.specs.SimpleTypes.{SimpleDefinition}
+use Rattle.link_names.specs.Cycles as cycles
+use Rattle.link_names.specs.Cycles.{one_of, part_of, parts_of_bases, parts_of, parts_in}
+use Rattle.base_texts.specs.Lists.{HasItem}
+use Rattle.base_texts.proofs.Lists.{has_left, has_right}
+use Rattle.link_names.specs.SimpleTypes.{SimpleDefinition}
 use Rattle.link_simple.specs.Making.{entry_at, space_at, part_space, with_space, part_spaces, IsRestriction, IsList, IsUnion, IsLeft, IsEntry}
 use Rattle.link_simple.proofs.Ascending.{one_ascending}
 

@@ -14,12 +14,12 @@ use Rattle.link_names.specs.declared.faults.LinkingFault.{LinkingFault}
 use Rattle.link_names.specs.declared.faults.LinkWhy.{LinkWhy}
 use Rattle.link_names.specs.Order.{fault, precedes, first_of, IsFirstSuch}
 use Rattle.link_names.proofs.Firsts.{precedes_itself, such_joined}
-use Rattle.link_cycles.specs.Cycles.{numbers_in, parts_in, edges}
-use Rattle.link_cycles.specs.Graphs.{IsEdge}
-use Rattle.xa_base.specs.Lists.{HasItem}
-use Rattle.link_cycles.specs.Private.Searching.{mark}
-use Rattle.link_cycles.specs.SimpleTypes.{SimpleDefinition}
-use Rattle.link_cycles.proofs.Walks.{set_parts, set_here, set_kept, unmarked}
+use Rattle.link_names.specs.Cycles.{numbers_in, parts_in, edges}
+use Rattle.link_names.specs.Graphs.{IsEdge}
+use Rattle.base_texts.specs.Lists.{HasItem}
+use Rattle.link_names.specs.Private.Searching.{mark}
+use Rattle.link_names.specs.SimpleTypes.{SimpleDefinition}
+use Rattle.link_names.proofs.Walks.{set_parts, set_here, set_kept, unmarked}
 use Rattle.link_simple.specs.declared.leaving.Left.{Left}
 use Rattle.link_simple.specs.declared.leaving.Left.TheVariants as left
 use Rattle.link_simple.specs.Answering.{made_of, AreSound}

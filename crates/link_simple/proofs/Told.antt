@@ -5,23 +5,23 @@ use Rattle.std.specs.List.{flat_map, filter_map, cons_option, position_from}
 use Rattle.std.specs.Option.{option_map, is_some}
 use Rattle.std.proofs.lemmas.Bool.{cases_Bool, or_parts, true≢false, eq-eqb}
 use Rattle.std.proofs.lemmas.List.{length-map}
-use Rattle.xa_base.specs.declared.texts.Name.{Name}
-use Rattle.xa_base.specs.Lists.{HasItem}
-use Rattle.xa_base.specs.Names.{name_eq}
-use Rattle.xa_base.proofs.Lists.{has_left, has_right}
-use Rattle.xa_base.proofs.NameLaws.{name_eq-Decides}
-use Rattle.label_tree.specs.Rose.{Rose, node, Roses}
-use Rattle.label_tree.specs.Rose as rose
+use Rattle.base_texts.specs.declared.texts.Name.{Name}
+use Rattle.base_texts.specs.Lists.{HasItem}
+use Rattle.base_texts.specs.Names.{name_eq}
+use Rattle.base_texts.proofs.Lists.{has_left, has_right}
+use Rattle.base_texts.proofs.NameLaws.{name_eq-Decides}
+use Rattle.base_trees.specs.Rose.{Rose, node, Roses}
+use Rattle.base_trees.specs.Rose as rose
 use Rattle.content_models.specs.declared.particles.ParticleLabel.{ParticleLabel}
-use Rattle.schema_parts.specs.declared.declarations.RawContent.{RawContent}
-use Rattle.schema_parts.specs.declared.declarations.RawContent.TheVariants as content
-use Rattle.schema_parts.specs.declared.simple_definitions.RawRef.TheVariants as reference
-use Rattle.schema_parts.specs.Raw as raw
-use Rattle.schema_parts.specs.Raw.{Base, Named, Inner, Bases, How, Restrict, ListOf, UnionOf, Use, Complex, Kind, NamedKind, SimpleKind, ComplexKind, Element, Local, Reference, Own, Attribute, TypeDefinition, SimpleType, ComplexType, Document}
-use Rattle.schema_walk.specs.Parts as part
-use Rattle.schema_walk.specs.Parts.{What, Part, simple, in_base, in_how, in_bases, in_simple, in_model, in_models, in_mixed, in_content, in_use_type, in_use, in_complex, in_kind, in_element, in_attribute, in_definition, in_local, in_document, parts}
-use Rattle.schema_walk.specs.declared.parts.TypeRole.{TypeRole}
-use Rattle.schema_walk.specs.declared.parts.TypeRole.TheVariants as role
+use Rattle.schema_components.specs.declared.declarations.RawContent.{RawContent}
+use Rattle.schema_components.specs.declared.declarations.RawContent.TheVariants as content
+use Rattle.schema_components.specs.declared.simple_definitions.RawRef.TheVariants as reference
+use Rattle.schema_components.specs.Raw as raw
+use Rattle.schema_components.specs.Raw.{Base, Named, Inner, Bases, How, Restrict, ListOf, UnionOf, Use, Complex, Kind, NamedKind, SimpleKind, ComplexKind, Element, Local, Reference, Own, Attribute, TypeDefinition, SimpleType, ComplexType, Document}
+use Rattle.link_names.specs.Parts as part
+use Rattle.link_names.specs.Parts.{What, Part, simple, in_base, in_how, in_bases, in_simple, in_model, in_models, in_mixed, in_content, in_use_type, in_use, in_complex, in_kind, in_element, in_attribute, in_definition, in_local, in_document, parts}
+use Rattle.link_names.specs.declared.parts.TypeRole.{TypeRole}
+use Rattle.link_names.specs.declared.parts.TypeRole.TheVariants as role
 use Rattle.link_names.specs.declared.faults.LinkingFault.{LinkingFault}
 use Rattle.link_names.specs.declared.faults.LinkWhy.{LinkWhy}
 use Rattle.link_names.specs.declared.faults.LinkWhy.TheVariants as why
@@ -30,9 +30,9 @@ use Rattle.link_names.specs.Globals.{GlobalComponent, type_name, complex_name, n
 use Rattle.link_names.specs.Order.{place, fault, IsFirstSuch}
 use Rattle.link_names.specs.References as references
 use Rattle.link_names.specs.Resolution.{names_among, wrong, fault_of, unresolved}
-use Rattle.link_cycles.specs.Cycles.{numbers_in, one_of, part_of, parts_of_bases, parts_of, parts_in, edges, is_named, stands_at}
-use Rattle.link_cycles.specs.Cycles as cycles
-use Rattle.link_cycles.specs.SimpleTypes.{SimpleDefinition, of_what, of_part, simple_types}
+use Rattle.link_names.specs.Cycles.{numbers_in, one_of, part_of, parts_of_bases, parts_of, parts_in, edges, is_named, stands_at}
+use Rattle.link_names.specs.Cycles as cycles
+use Rattle.link_names.specs.SimpleTypes.{SimpleDefinition, of_what, of_part, simple_types}
 use Rattle.link_simple.specs.Private.Ordering.{IsInside}
 use Rattle.link_simple.specs.Private.Told.{IsPartTold, ArePartsTold, IsHowTold, AreTold}
 use Rattle.link_simple.proofs.Uniqueness.{row_of, row_within, some_at}

@@ -5,15 +5,15 @@ use Rattle.std.proofs.Math.ListN.{length-set}
 use Rattle.std.proofs.lemmas.List.{length-map, length-replicate}
 use Rattle.std.proofs.lemmas.Bool.{cases_Bool, cases_lt}
 use Rattle.simple_types.specs.Space.{Space}
-use Rattle.schema_parts.specs.Raw.{Document}
+use Rattle.schema_components.specs.Raw.{Document}
 use Rattle.link_names.specs.declared.faults.LinkWhy.TheVariants.{CircularType}
 use Rattle.link_names.specs.Order.{fault, IsFirstSuch}
-use Rattle.link_cycles.specs.Cycles.{numbers_in, parts_in, edges, IsCircular}
-use Rattle.link_cycles.specs.Graphs.{row, IsEdge, Leads, IsOnCycle}
-use Rattle.xa_base.specs.Lists.{HasItem}
-use Rattle.link_cycles.specs.Private.Searching.{mark, unseen}
-use Rattle.link_cycles.specs.SimpleTypes.{SimpleDefinition, simple_types}
-use Rattle.link_cycles.proofs.Walks.{one_step_more, set_parts, set_less, unmarked}
+use Rattle.link_names.specs.Cycles.{numbers_in, parts_in, edges, IsCircular}
+use Rattle.link_names.specs.Graphs.{row, IsEdge, Leads, IsOnCycle}
+use Rattle.base_texts.specs.Lists.{HasItem}
+use Rattle.link_names.specs.Private.Searching.{mark, unseen}
+use Rattle.link_names.specs.SimpleTypes.{SimpleDefinition, simple_types}
+use Rattle.link_names.proofs.Walks.{one_step_more, set_parts, set_less, unmarked}
 use Rattle.link_simple.specs.Making.{entry_at, IsMaking}
 use Rattle.link_simple.proofs.Once.{same_entry}
 

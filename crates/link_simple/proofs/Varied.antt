@@ -6,28 +6,28 @@ use Rattle.std.specs.Borrow.{Bor}
 use Rattle.std.proofs.lemmas.Bool.{and_parts, leb-true, true≢false}
 use Rattle.std.proofs.lemmas.Grind.{flat_map-append}
 use Rattle.std.proofs.lemmas.List.Sums.{sum_by-cons}
-use Rattle.xa_base.specs.Lists.{HasItem}
-use Rattle.label_tree.specs.Rose.{Rose, node, Roses}
-use Rattle.label_tree.specs.Rose as rose
+use Rattle.base_texts.specs.Lists.{HasItem}
+use Rattle.base_trees.specs.Rose.{Rose, node, Roses}
+use Rattle.base_trees.specs.Rose as rose
 use Rattle.content_models.specs.declared.particles.ParticleLabel.{ParticleLabel}
 use Rattle.simple_types.specs.declared.facets.Facet.{Facet}
 use Rattle.simple_types.specs.declared.facets.Facet.TheVariants as facet
 use Rattle.simple_types.specs.declared.simples.Simple.{Simple}
 use Rattle.simple_types.specs.Space.{Space, Spaces, none}
-use Rattle.facet_rules.specs.Restricting.{items_of}
-use Rattle.facet_rules.specs.Making.{lent_spaces}
-use Rattle.schema_parts.specs.declared.declarations.RawContent.{RawContent}
-use Rattle.schema_parts.specs.declared.declarations.RawContent.TheVariants as content
-use Rattle.schema_parts.specs.declared.documents.RawDoc.{RawDoc}
-use Rattle.schema_parts.specs.Documents.{doc_of}
-use Rattle.schema_parts.specs.Raw as raw
-use Rattle.schema_parts.specs.Raw.{Base, Named, Inner, Bases, How, Restrict, ListOf, UnionOf, Use, Complex, Kind, NamedKind, SimpleKind, ComplexKind, Element, Local, Reference, Own, Attribute, TypeDefinition, SimpleType, ComplexType, Document}
-use Rattle.schema_parts.specs.Varieties.{is_enumeration, has_few_enumerations, has_member, base_varied, how_varied, bases_varied, use_varied, uses_varied, kind_varied, local_varied, type_varied, elements_varied, attributes_varied, types_varied, locals_varied, all_varied}
-use Rattle.schema_walk.specs.Parts.{Part, in_base, in_how, in_bases, in_model, in_models, in_mixed, in_content, in_use_type, in_use, in_kind, in_element, in_attribute, in_definition, in_local, in_document, parts}
-use Rattle.schema_walk.specs.declared.parts.TypeRole.{TypeRole}
-use Rattle.schema_walk.specs.declared.parts.TypeRole.TheVariants as role
-use Rattle.link_cycles.specs.Cycles as cycles
-use Rattle.link_cycles.specs.SimpleTypes.{SimpleDefinition, of_part, simple_types}
+use Rattle.simple_facets.specs.Restricting.{items_of}
+use Rattle.simple_facets.specs.Making.{lent_spaces}
+use Rattle.schema_components.specs.declared.declarations.RawContent.{RawContent}
+use Rattle.schema_components.specs.declared.declarations.RawContent.TheVariants as content
+use Rattle.schema_components.specs.declared.documents.RawDoc.{RawDoc}
+use Rattle.schema_components.specs.Documents.{doc_of}
+use Rattle.schema_components.specs.Raw as raw
+use Rattle.schema_components.specs.Raw.{Base, Named, Inner, Bases, How, Restrict, ListOf, UnionOf, Use, Complex, Kind, NamedKind, SimpleKind, ComplexKind, Element, Local, Reference, Own, Attribute, TypeDefinition, SimpleType, ComplexType, Document}
+use Rattle.schema_components.specs.Varieties.{is_enumeration, has_few_enumerations, has_member, base_varied, how_varied, bases_varied, use_varied, uses_varied, kind_varied, local_varied, type_varied, elements_varied, attributes_varied, types_varied, locals_varied, all_varied}
+use Rattle.link_names.specs.Parts.{Part, in_base, in_how, in_bases, in_model, in_models, in_mixed, in_content, in_use_type, in_use, in_kind, in_element, in_attribute, in_definition, in_local, in_document, parts}
+use Rattle.link_names.specs.declared.parts.TypeRole.{TypeRole}
+use Rattle.link_names.specs.declared.parts.TypeRole.TheVariants as role
+use Rattle.link_names.specs.Cycles as cycles
+use Rattle.link_names.specs.SimpleTypes.{SimpleDefinition, of_part, simple_types}
 use Rattle.link_simple.specs.declared.parts.Part as lending
 use Rattle.link_simple.specs.Making.{with_space, part_space, part_spaces}
 use Rattle.link_simple.specs.Private.Parts.{seen_all}

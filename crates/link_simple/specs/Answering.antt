@@ -7,10 +7,10 @@ use Rattle.simple_types.specs.declared.simples.Simple.{Simple}
 use Rattle.simple_types.specs.Seen.{space_of}
 use Rattle.simple_types.specs.Sound.{Sound}
 use Rattle.simple_types.specs.Space.{Space}
-use Rattle.schema_parts.specs.Raw.{Document}
+use Rattle.schema_components.specs.Raw.{Document}
 use Rattle.link_names.specs.Order.{IsFirstSuch}
 use Rattle.link_names.specs.declared.faults.LinkingFault.{LinkingFault}
-use Rattle.link_cycles.specs.SimpleTypes.{SimpleDefinition, simple_types}
+use Rattle.link_names.specs.SimpleTypes.{SimpleDefinition, simple_types}
 use Rattle.link_simple.specs.declared.making.MakingError.{MakingError}
 use Rattle.link_simple.specs.declared.making.MakingError.TheVariants as error
 use Rattle.link_simple.specs.Making.{IsMaking, IsNotMadeOf}

@@ -8,18 +8,18 @@ use Rattle.simple_types.specs.Joining.{flattened}
 use Rattle.simple_types.specs.Sound.{has_list}
 use Rattle.simple_types.specs.Space as space
 use Rattle.simple_types.specs.Space.{Space, Spaces}
-use Rattle.facet_rules.specs.declared.refusals.FacetWhy.{FacetWhy}
-use Rattle.facet_rules.specs.Making.{AreWithinLimits}
-use Rattle.facet_rules.specs.Restricting.{Restricted}
+use Rattle.simple_facets.specs.declared.refusals.FacetWhy.{FacetWhy}
+use Rattle.simple_facets.specs.Making.{AreWithinLimits}
+use Rattle.simple_facets.specs.Restricting.{Restricted}
 use Rattle.simple_types.specs.declared.facets.Facet.{Facet}
-use Rattle.schema_parts.specs.declared.simple_definitions.RawRef.TheVariants as reference
-use Rattle.schema_parts.specs.Raw.{Base, Named, Inner, Bases, none, more, How, Restrict, ListOf, UnionOf, Document}
+use Rattle.schema_components.specs.declared.simple_definitions.RawRef.TheVariants as reference
+use Rattle.schema_components.specs.Raw.{Base, Named, Inner, Bases, none, more, How, Restrict, ListOf, UnionOf, Document}
 use Rattle.link_names.specs.declared.faults.LinkingFault.{LinkingFault}
 use Rattle.link_names.specs.declared.faults.LinkWhy.{LinkWhy}
 use Rattle.link_names.specs.declared.faults.LinkWhy.TheVariants as why
 use Rattle.link_names.specs.Order.{place}
-use Rattle.link_cycles.specs.Cycles.{SimpleNumbers, numbers_in}
-use Rattle.link_cycles.specs.SimpleTypes.{SimpleDefinition, simple_types}
+use Rattle.link_names.specs.Cycles.{SimpleNumbers, numbers_in}
+use Rattle.link_names.specs.SimpleTypes.{SimpleDefinition, simple_types}
 
 -- the space with the number, if that type is made
 abbrev pub entry_at : List (Option Space) → ℕ → Option Space

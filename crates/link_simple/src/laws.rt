@@ -2,12 +2,12 @@
 ghost use Rattle.std.specs.Prelude.{◌≡◌, List, Option, None, Result};
 ghost use Rattle.simple_types.specs.declared.facets.Facet.{Facet};
 ghost use Rattle.simple_types.specs.Space.{Space};
-ghost use Rattle.facet_rules.specs.declared.refusals.FacetWhy.{FacetWhy};
-ghost use Rattle.facet_rules.specs.Restricting.{Restricted};
-ghost use Rattle.schema_parts.specs.Raw.{Document};
+ghost use Rattle.simple_facets.specs.declared.refusals.FacetWhy.{FacetWhy};
+ghost use Rattle.simple_facets.specs.Restricting.{Restricted};
+ghost use Rattle.schema_components.specs.Raw.{Document};
 ghost use Rattle.link_names.specs.Order.{IsFirstSuch};
-ghost use Rattle.link_cycles.specs.Cycles.{IsCircular};
-ghost use Rattle.link_cycles.specs.SimpleTypes.{simple_types};
+ghost use Rattle.link_names.specs.Cycles.{IsCircular};
+ghost use Rattle.link_names.specs.SimpleTypes.{simple_types};
 ghost use Rattle.link_simple.specs.Making.{IsMaking};
 
 /// Facets leave of a base one space, or one reason against them, and never two answers.

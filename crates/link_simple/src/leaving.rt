@@ -1,23 +1,22 @@
 //! What is left of a simple type whose parts are made.
 ghost use Rattle.std.specs.Prelude.{◌≡◌, ◌<◌, IfOk, true, Some, Ok};
-ghost use Rattle.schema_parts.specs.Seen.{base_of, how_of, bases_in};
-ghost use Rattle.schema_parts.specs.Varieties.{has_few_enumerations, has_member, how_varied};
+ghost use Rattle.schema_components.specs.Seen.{base_of, how_of, bases_in};
+ghost use Rattle.schema_components.specs.Varieties.{has_few_enumerations, has_member, how_varied};
 ghost use Rattle.simple_types.specs.Seen.{space_of};
 ghost use Rattle.simple_types.specs.Sound.{Sound};
-ghost use Rattle.link_cycles.specs.Tables.{told_by};
+ghost use Rattle.link_names.specs.Tables.{told_by};
 ghost use Rattle.link_simple.specs.Making.{IsRestriction, IsList, IsUnion, IsLeft, part_space, part_spaces};
 ghost use Rattle.link_simple.specs.Private.Parts.{entries_of, AreEntriesSound};
 ghost use Rattle.link_simple.specs.Private.Leaving.{LeftBy};
 
 use crate::parts::{part_of, parts_of};
 use crate::unions::union;
-use facet_rules::{Facet, ItemError, list_of, restrict};
-use link_cycles::{SimpleNumbers, SimpleType};
-use link_names::LinkWhy;
-use schema_parts::{RawBase, RawHow};
+use base_texts::Memory;
+use link_names::{LinkWhy, SimpleNumbers, SimpleType};
+use schema_components::{RawBase, RawHow};
+use simple_facets::{Facet, ItemError, list_of, restrict};
 use simple_types::Simple;
 use std::alloc::Global;
-use xa_base::Memory;
 
 /// What the parts of a type leave.
 #[derive(Drop)]

@@ -1,12 +1,12 @@
 //! Making all simple types, or the first fault.
 ghost use Rattle.std.specs.Prelude.{◌≡◌, map, None, IfOk};
-ghost use Rattle.xa_base.specs.Lists.{HasItem};
-ghost use Rattle.schema_parts.specs.Documents.{doc_of};
+ghost use Rattle.base_texts.specs.Lists.{HasItem};
+ghost use Rattle.schema_components.specs.Documents.{doc_of};
 ghost use Rattle.link_names.specs.Order.{IsFirstSuch};
 ghost use Rattle.link_names.specs.Resolution.{unresolved};
-ghost use Rattle.link_cycles.specs.Cycles.{numbers_in, edges, IsCircular};
-ghost use Rattle.link_cycles.specs.Seen.{definitions_of};
-ghost use Rattle.link_cycles.specs.Tables.{told_by};
+ghost use Rattle.link_names.specs.Cycles.{numbers_in, edges, IsCircular};
+ghost use Rattle.link_names.specs.CyclesSeen.{definitions_of};
+ghost use Rattle.link_names.specs.Tables.{told_by};
 ghost use Rattle.link_simple.specs.Answering.{AnswersMaking, AnswersMakingOf};
 ghost use Rattle.link_simple.specs.Private.Ordering.{IsAcyclic};
 ghost use Rattle.link_simple.specs.Private.Told.{AreTold};
@@ -15,13 +15,12 @@ ghost use Rattle.link_simple.specs.Private.Working.{FinishedIn};
 
 use crate::orders::order_of;
 use crate::working::{Work, work_in_order};
-use link_cycles::{SimpleNumbers, SimpleType, simple_types};
-use link_names::LinkingFault;
-use schema_parts::RawDoc;
+use base_texts::Memory;
+use link_names::{LinkingFault, SimpleNumbers, SimpleType, simple_types};
+use schema_components::RawDoc;
 use simple_types::Simple;
 use std::alloc::Global;
 use thiserror::Error;
-use xa_base::Memory;
 
 /// Why the simple types aren't made.
 #[derive(Clone, Copy, Debug, PartialEq, Eq, Error)]
@@ -75,7 +74,7 @@ fn made_of<'a>(
     work.end(alloc)
 }
 
-/// The simple types of the documents, in the order of `link_cycles::simple_types`, or the first fault: at a type that can't
+/// The simple types of the documents, in the order of `link_names::simple_types`, or the first fault: at a type that can't
 /// be made although its parts can. Each reference has to name what it needs, and no type may be made of itself. The time
 /// grows with the number of parts, and as n log n with that of names and places; beside it stands what restricting by
 /// facets takes and the size of the types.

@@ -1,12 +1,12 @@
 //! An order of the nodes of a graph without cycles, in which each stands after those that its edges lead to.
 ghost use Rattle.std.specs.Prelude.{◌≡◌, ◌<◌, ◌≤◌, ◌+◌, ◌*◌, ◌∷◌, ◌++◌, [], ◌⊎◌, ℕ, true, false, length, take, replicate, set, IfOk, OnOk};
-ghost use Rattle.xa_base.specs.Lists.{HasItem};
-ghost use Rattle.link_cycles.specs.Graphs.{rows_of};
-ghost use Rattle.link_cycles.specs.Private.Searching.{mark, unseen};
+ghost use Rattle.base_texts.specs.Lists.{HasItem};
+ghost use Rattle.link_names.specs.Graphs.{rows_of};
+ghost use Rattle.link_names.specs.Private.Searching.{mark, unseen};
 ghost use Rattle.link_simple.specs.Private.Ordering.{IsAcyclic, IsInside, IsOrder, Walked, IsHeld, IsFirstOpen, step};
 
+use base_texts::Memory;
 use std::alloc::Global;
-use xa_base::Memory;
 
 /// A node on the way of the walk, and how many of its edges were followed.
 #[derive(Clone, Copy)]

@@ -1,22 +1,22 @@
 //! The simple types that one is made from.
 ghost use Rattle.std.specs.Prelude.{◌≡◌, ℕ, IfOk, IfSome};
 ghost use Rattle.std.specs.Option.{option_map};
-ghost use Rattle.schema_parts.specs.Raw.{Named};
-ghost use Rattle.schema_parts.specs.Seen.{base_of, bases_in};
+ghost use Rattle.schema_components.specs.Raw.{Named};
+ghost use Rattle.schema_components.specs.Seen.{base_of, bases_in};
 ghost use Rattle.simple_types.specs.Seen.{space_of};
 ghost use Rattle.simple_types.specs.Sound.{Sound};
-ghost use Rattle.facet_rules.specs.Making.{AreEachSound};
-ghost use Rattle.link_cycles.specs.Tables.{told_by};
+ghost use Rattle.simple_facets.specs.Making.{AreEachSound};
+ghost use Rattle.link_names.specs.Tables.{told_by};
 ghost use Rattle.link_simple.specs.Answering.{made_of, AreSound};
 ghost use Rattle.link_simple.specs.Making.{space_at, part_space, part_spaces};
 ghost use Rattle.link_simple.specs.Seen.{seen};
 ghost use Rattle.link_simple.specs.Private.Parts.{entries_of, AreEntriesSound, seen_all};
 
-use link_cycles::SimpleNumbers;
-use schema_parts::{RawBase, RawRef};
+use base_texts::Memory;
+use link_names::SimpleNumbers;
+use schema_components::{RawBase, RawRef};
 use simple_types::{Simple, builtin};
 use std::alloc::Global;
-use xa_base::Memory;
 
 /// A part: a built-in type, or one that was made before.
 #[derive(Drop)]
@@ -155,7 +155,7 @@ fn named_type<'m, 'a>(
 }
 
 /// The simple type that a component has, named or written in place, where all simple types are made: `simples` has them in
-/// the order of `link_cycles::simple_types`. `None` where the name is that of no simple type.
+/// the order of `link_names::simple_types`. `None` where the name is that of no simple type.
 pub fn made_type<'m, 'a>(
     alloc: Global,
     numbers: &SimpleNumbers<'a>,

@@ -1,17 +1,17 @@
 //! Unions of parts.
 ghost use Rattle.std.specs.Prelude.{◌≡◌, ◌<◌, IfOk, Some, length};
-ghost use Rattle.facet_rules.specs.Making.{AreEachSound, lent_spaces};
+ghost use Rattle.simple_facets.specs.Making.{AreEachSound, lent_spaces};
 ghost use Rattle.link_simple.specs.Making.{IsUnion};
 ghost use Rattle.link_simple.specs.Private.Parts.{seen_all};
 ghost use Rattle.link_simple.specs.Private.Leaving.{LeftBy};
 
 use crate::leaving::Left;
 use crate::parts::Part;
-use facet_rules::{UnionError, union_of_lent};
+use base_texts::Memory;
 use link_names::LinkWhy;
+use simple_facets::{UnionError, union_of_lent};
 use simple_types::Simple;
 use std::alloc::Global;
-use xa_base::Memory;
 
 // The types of the parts, which stay where they are.
 fn lent_parts<'p>(alloc: Global, parts: &'p [Part<'_>]) -> Result<Vec<&'p Simple>, Memory>

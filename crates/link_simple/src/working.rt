@@ -1,10 +1,10 @@
 //! The making of types, one after another, each after its parts.
 ghost use Rattle.std.specs.Prelude.{◌≡◌, ◌<◌, ℕ, Bool, List, set, replicate, None, length, true, false, IsSome, IfOk, OnOk};
 ghost use Rattle.link_names.specs.Order.{first_of};
-ghost use Rattle.link_cycles.specs.Cycles.{numbers_in, edges};
-ghost use Rattle.link_cycles.specs.SimpleTypes.{SimpleDefinition};
-ghost use Rattle.link_cycles.specs.Seen.{definitions_of};
-ghost use Rattle.link_cycles.specs.Tables.{told_by};
+ghost use Rattle.link_names.specs.Cycles.{numbers_in, edges};
+ghost use Rattle.link_names.specs.SimpleTypes.{SimpleDefinition};
+ghost use Rattle.link_names.specs.CyclesSeen.{definitions_of};
+ghost use Rattle.link_names.specs.Tables.{told_by};
 ghost use Rattle.link_simple.specs.Answering.{made_of, AnswersMakingOf};
 ghost use Rattle.link_simple.specs.Making.{entry_at};
 ghost use Rattle.link_simple.specs.Private.Ordering.{IsReady, IsOrder};
@@ -15,11 +15,10 @@ ghost use Rattle.link_simple.specs.Private.Working.{space_left, fault_left, Stan
 
 use crate::leaving::{Left, left_of};
 use crate::making::MakingError;
-use link_cycles::{SimpleNumbers, SimpleType};
-use link_names::{LinkingFault, Place, first_of};
+use base_texts::Memory;
+use link_names::{LinkingFault, Place, SimpleNumbers, SimpleType, first_of};
 use simple_types::Simple;
 use std::alloc::Global;
-use xa_base::Memory;
 
 /// The types made so far, by their numbers, and the first fault of those that can't be made.
 #[derive(Drop)]

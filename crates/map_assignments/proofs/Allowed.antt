@@ -1,6 +1,6 @@
 -- Each part of a type that is made has its type.
 use Rattle.std.proofs.Common.{◌≡◌, ℕ, suc, List, [], ◌∷◌, ◌++◌, length, refl, sym, ap, subst, ◌∙◌}
-use Rattle.label_tree.specs.Rose.{Rose, Roses, length_all, Allowed, AllowedAll}
+use Rattle.base_trees.specs.Rose.{Rose, Roses, length_all, Allowed, AllowedAll}
 use Rattle.simple_types.specs.Space.{Space, Spaces, none, more, Booleans, Wholes, Numbers, Words, Characters, ListOf, UnionOf}
 use Rattle.asn_types.specs.Parts.{MayHave}
 use Rattle.asn_types.specs.declared.types.Component.{Component}

@@ -1,12 +1,12 @@
 -- Parts that are made one after another.
 use Rattle.std.proofs.Common.{◌≡◌, ℕ, ◌&&◌, Bool, true, false, not, if◌then◌else◌, List, [], ◌∷◌, ◌++◌, Option, Result, Ok, Err, IfOk, OnOk, refl, sym, ap, subst, ◌∙◌, append_assoc}
 use Rattle.std.proofs.lemmas.List.{append-nil}
-use Rattle.label_tree.specs.Rose.{Rose, node, roses_of}
-use Rattle.label_tree.specs.Rose as rose
+use Rattle.base_trees.specs.Rose.{Rose, node, roses_of}
+use Rattle.base_trees.specs.Rose as rose
 use Rattle.simple_types.specs.declared.standards.Standard.{Standard}
 use Rattle.simple_types.specs.declared.standards.Standard.TheVariants.{Free}
-use Rattle.name_map.specs.declared.conversion.NameKind.TheVariants.{Identifier}
-use Rattle.name_map.specs.Taking.{IsTaken}
+use Rattle.asn_names.specs.declared.conversion.NameKind.TheVariants.{Identifier}
+use Rattle.asn_names.specs.Taking.{IsTaken}
 use Rattle.asn_types.specs.declared.marks.Instruction.{Instruction}
 use Rattle.asn_types.specs.declared.marks.Instruction.TheVariants as mark
 use Rattle.asn_types.specs.declared.types.Component.{Component}

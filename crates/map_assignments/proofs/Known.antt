@@ -3,15 +3,15 @@ use Rattle.std.proofs.Common.{◌≡◌, ℕ, zero, suc, ◌<◌, List, [], ◌�
 use Rattle.std.specs.Prelude.{slice_get, IsSomeAnd}
 use Rattle.std.proofs.lemmas.List.Elements.{All-head, All-tail, All-cons}
 use Rattle.std.proofs.lemmas.Option.{slice_get_within}
-use Rattle.xa_base.specs.declared.texts.Name.{Name}
-use Rattle.label_tree.specs.Rose.{Rose, node, roses_of, label_of, kids_of}
-use Rattle.label_tree.proofs.Roses.{roses_of-list_of}
+use Rattle.base_texts.specs.declared.texts.Name.{Name}
+use Rattle.base_trees.specs.Rose.{Rose, node, roses_of, label_of, kids_of}
+use Rattle.base_trees.proofs.Roses.{roses_of-list_of}
 use Rattle.content_models.specs.declared.particles.ParticleLabel.{ParticleLabel}
 use Rattle.content_models.specs.declared.particles.ParticleKind.TheVariants.{Element, Sequence, Choice, All as AllKind}
 use Rattle.content_models.specs.Particle.{occurs}
 use Rattle.content_models.specs.Seen.{term_seen, seen, all_seen}
-use Rattle.schema_parts.specs.Components.{Set}
-use Rattle.schema_parts.specs.Linked as linked
+use Rattle.schema_components.specs.Components.{Set}
+use Rattle.schema_components.specs.Linked as linked
 use Rattle.map_assignments.specs.Private.Building.{term_of, IsKnown, AreKnown}
 
 pub all-front : {X : Type 0} (P : X → Type 0) (xs ys : List X) → All P (xs ++ ys) → All P xs

@@ -1,10 +1,10 @@
 -- The alternatives of a union.
 use Rattle.std.proofs.Common.{◌≡◌, ℕ, ◌+◌, ◌<◌, ◌≤◌, false, List, [], ◌∷◌, ◌++◌, length, drop, get_or, codes, refl, sym, ap, subst, ◌∙◌, append_assoc}
 use Rattle.std.proofs.lemmas.List.{drop_all, append-nil}
-use Rattle.label_tree.specs.Rose.{Rose, roses_of}
-use Rattle.label_tree.specs.Rose as rose
-use Rattle.name_map.specs.declared.conversion.NameKind.TheVariants.{Identifier}
-use Rattle.name_map.specs.Taking.{IsTaken}
+use Rattle.base_trees.specs.Rose.{Rose, roses_of}
+use Rattle.base_trees.specs.Rose as rose
+use Rattle.asn_names.specs.declared.conversion.NameKind.TheVariants.{Identifier}
+use Rattle.asn_names.specs.Taking.{IsTaken}
 use Rattle.asn_types.specs.declared.types.Component.{Component}
 use Rattle.asn_types.specs.declared.types.TypeLabel.{TypeLabel}
 use Rattle.simple_types.specs.declared.simples.Simple.{Simple}

@@ -1,15 +1,15 @@
 -- The parts for content models.
 use Rattle.std.proofs.Common.{◌≡◌, ℕ, Bool, true, false, if◌then◌else◌, List, Option, ◌⊎◌, inl, inr, refl, sym, ap, ◌∙◌}
-use Rattle.label_tree.specs.Rose.{Rose, roses_of, label_of, kids_of}
+use Rattle.base_trees.specs.Rose.{Rose, roses_of, label_of, kids_of}
 use Rattle.content_models.specs.declared.particles.ParticleLabel.{ParticleLabel}
 use Rattle.content_models.specs.declared.particles.ParticleKind.{ParticleKind}
 use Rattle.content_models.specs.declared.particles.ParticleKind.TheVariants.{Element, Sequence, Choice, All as AllKind}
 use Rattle.content_models.specs.Particle as model
 use Rattle.content_models.specs.Particle.{occurs, Particles}
 use Rattle.content_models.specs.Seen.{term_seen, seen, all_seen}
-use Rattle.schema_parts.specs.declared.components.Content.{Content}
-use Rattle.schema_parts.specs.declared.components.Content.TheVariants as content
-use Rattle.schema_parts.specs.Components.{Set}
+use Rattle.schema_components.specs.declared.components.Content.{Content}
+use Rattle.schema_components.specs.declared.components.Content.TheVariants as content
+use Rattle.schema_components.specs.Components.{Set}
 use Rattle.map_assignments.specs.Plans.{TypePlan, sequence, finish}
 use Rattle.map_assignments.specs.Planning.{particle_part, term_type, particle_parts, top_part, top, content_parts, content_type}
 use Rattle.map_assignments.specs.Private.Building.{term_of, is_plain}

@@ -6,16 +6,16 @@ use Rattle.std.proofs.lemmas.Bool.{cases_lt}
 use Rattle.std.proofs.lemmas.Bool.Decides.{eqb_tells}
 use Rattle.std.proofs.lemmas.List.{get_or-set_same, get_or-set_other, get_or-replicate, get_or_past, length-replicate}
 use Rattle.std.proofs.lemmas.Option.{unwrap_or-slice_get}
-use Rattle.label_tree.specs.Rose.{Rose, node, Roses}
-use Rattle.label_tree.specs.Rose as rose
+use Rattle.base_trees.specs.Rose.{Rose, node, Roses}
+use Rattle.base_trees.specs.Rose as rose
 use Rattle.asn_types.specs.declared.types.Form.TheVariants as form
 use Rattle.asn_types.specs.declared.types.Component.{Component}
 use Rattle.asn_types.specs.declared.types.TypeLabel.{TypeLabel}
 use Rattle.asn_types.specs.declared.modules.Assignment.{Assignment}
-use Rattle.name_map.specs.declared.conversion.NameKind.TheVariants.{Reference}
-use Rattle.name_map.specs.Taking.{IsTaken}
-use Rattle.xa_base.specs.declared.texts.Name.{Name}
-use Rattle.schema_parts.specs.Components.{Set}
+use Rattle.asn_names.specs.declared.conversion.NameKind.TheVariants.{Reference}
+use Rattle.asn_names.specs.Taking.{IsTaken}
+use Rattle.base_texts.specs.declared.texts.Name.{Name}
+use Rattle.schema_components.specs.Components.{Set}
 use Rattle.map_subjects.specs.declared.subjects.Subject.{Subject}
 use Rattle.map_subjects.specs.declared.subjects.Subject.TheVariants.{Element, Attribute, Simple, Complex, Nillable}
 use Rattle.map_subjects.specs.declared.subjects.NamedSubject.{NamedSubject}

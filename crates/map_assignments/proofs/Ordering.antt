@@ -1,16 +1,16 @@
 -- The order of child elements that may stand in any order.
 use Rattle.std.proofs.Common.{◌≡◌, ℕ, suc, Bool, true, false, ◌&&◌, not, if◌then◌else◌, Option, List, [], ◌∷◌, ◌++◌, length, map, codes, refl, sym, ap, subst, ◌∙◌, arith, lt-ltb}
 use Rattle.std.specs.Prelude.{nat_lt}
-use Rattle.label_tree.specs.Rose.{Rose, node, roses_of, kids_of, label_of as label_of_tree}
-use Rattle.label_tree.proofs.Roses.{roses_of-list_of}
+use Rattle.base_trees.specs.Rose.{Rose, node, roses_of, kids_of, label_of as label_of_tree}
+use Rattle.base_trees.proofs.Roses.{roses_of-list_of}
 use Rattle.content_models.specs.declared.particles.ParticleLabel.{ParticleLabel}
 use Rattle.content_models.specs.declared.particles.ParticleKind.{ParticleKind}
 use Rattle.content_models.specs.declared.particles.ParticleKind.TheVariants.{Element, Sequence, Choice, All as AllKind}
 use Rattle.content_models.specs.Particle.{occurs, Term}
 use Rattle.content_models.specs.Seen.{term_seen, seen, all_seen}
-use Rattle.schema_parts.specs.declared.components.AttributeUse.{AttributeUse}
-use Rattle.schema_parts.specs.declared.components.Content.{Content}
-use Rattle.schema_parts.specs.declared.components.Content.TheVariants as content
+use Rattle.schema_components.specs.declared.components.AttributeUse.{AttributeUse}
+use Rattle.schema_components.specs.declared.components.Content.{Content}
+use Rattle.schema_components.specs.declared.components.Content.TheVariants as content
 use Rattle.map_assignments.specs.Plans.{attribute, texts, TypePlan, Parts, part, repeated}
 use Rattle.map_assignments.specs.Planning.{label_of, list_label_of, is_once, is_optional, is_all, is_ordered, labels, labels_before, particle_part, particle_parts, top}
 use Rattle.map_assignments.specs.Naming.{wanted, AreTaken}

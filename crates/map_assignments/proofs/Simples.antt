@@ -2,11 +2,11 @@
 use Rattle.std.proofs.Common.{◌≡◌, ℕ, suc, Option, Some, None, List, [], ◌∷◌, ◌++◌, refl, sym, ap, subst, ◌∙◌}
 use Rattle.std.proofs.lemmas.List.{append-nil}
 use Rattle.std.proofs.lemmas.List.Elements.{filter-append}
-use Rattle.label_tree.specs.Rose.{Rose, Roses}
-use Rattle.name_map.specs.declared.restoration.NameForm.{NameForm}
-use Rattle.name_map.specs.Restoring.{form_of}
-use Rattle.xa_base.specs.declared.white_space.WhiteSpace.{WhiteSpace}
-use Rattle.xa_base.specs.declared.white_space.WhiteSpace.TheVariants.{Preserve, Replace, Collapse}
+use Rattle.base_trees.specs.Rose.{Rose, Roses}
+use Rattle.asn_names.specs.declared.restoration.NameForm.{NameForm}
+use Rattle.asn_names.specs.Restoring.{form_of}
+use Rattle.base_texts.specs.declared.white_space.WhiteSpace.{WhiteSpace}
+use Rattle.base_texts.specs.declared.white_space.WhiteSpace.TheVariants.{Preserve, Replace, Collapse}
 use Rattle.simple_types.specs.Space.{Space, Spaces, none, more, Booleans, Wholes, Numbers, Words, Characters, ListOf, UnionOf}
 use Rattle.asn_types.specs.declared.types.Component.{Component}
 use Rattle.asn_types.specs.declared.types.TypeLabel.{TypeLabel}

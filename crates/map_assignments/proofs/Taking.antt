@@ -2,10 +2,10 @@
 use Rattle.std.proofs.Common.{◌≡◌, ℕ, ◌+◌, ◌<◌, List, [], ◌∷◌, ◌++◌, length, drop, get_or, sym, ap, subst, ◌∙◌, append_assoc, add-one}
 use Rattle.std.proofs.lemmas.List.{append-nil}
 use Rattle.map_subjects.proofs.Finding.{drop-next}
-use Rattle.name_map.specs.declared.conversion.NameKind.TheVariants.{Identifier}
-use Rattle.name_map.specs.Taking.{IsTaken}
+use Rattle.asn_names.specs.declared.conversion.NameKind.TheVariants.{Identifier}
+use Rattle.asn_names.specs.Taking.{IsTaken}
 use Rattle.asn_types.specs.declared.marks.Instruction.{Instruction}
-use Rattle.name_map.specs.Restoring.{form_of}
+use Rattle.asn_names.specs.Restoring.{form_of}
 use Rattle.map_assignments.specs.Naming.{AreTaken, text_marks, text_if}
 use Rattle.map_assignments.specs.Private.Building.{LeadsToNames}
 

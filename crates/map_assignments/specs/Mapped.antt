@@ -1,12 +1,12 @@
 -- The map of a linked set: one module, whose assignments stand in the order of their components (X.694).
 use Rattle.std.specs.Prelude.{◌≡◌, ℕ, List, [], ◌∷◌, ◌++◌, slice_get, unwrap_or, codes}
-use Rattle.xa_base.specs.declared.texts.Name.{Name}
-use Rattle.name_map.specs.declared.conversion.NameKind.TheVariants.{Reference}
-use Rattle.name_map.specs.Taking.{IsTaken}
+use Rattle.base_texts.specs.declared.texts.Name.{Name}
+use Rattle.asn_names.specs.declared.conversion.NameKind.TheVariants.{Reference}
+use Rattle.asn_names.specs.Taking.{IsTaken}
 use Rattle.asn_types.specs.declared.marks.Instruction.{Instruction}
 use Rattle.asn_types.specs.declared.marks.Instruction.TheVariants as mark
 use Rattle.asn_types.specs.declared.modules.Assignment.{Assignment}
-use Rattle.schema_parts.specs.Components.{Set}
+use Rattle.schema_components.specs.Components.{Set}
 use Rattle.map_subjects.specs.declared.subjects.Subject.{Subject}
 use Rattle.map_subjects.specs.declared.subjects.Subject.TheVariants as subject
 use Rattle.map_subjects.specs.declared.subjects.NamedSubject.{NamedSubject}

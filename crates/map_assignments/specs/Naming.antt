@@ -1,17 +1,17 @@
 -- How the parts of a type get their identifiers, and which instructions tell the names of XML back (X.693, X.694).
 use Rattle.std.specs.Prelude.{◌≡◌, ℕ, suc, Bool, false, List, [], ◌∷◌, ◌++◌, map, Option, Some, None, codes, if◌then◌else◌}
 use Rattle.std.specs.Str.{chars}
-use Rattle.xa_base.specs.declared.texts.Name.{Name}
-use Rattle.label_tree.specs.Rose.{Rose, node, Roses}
-use Rattle.label_tree.specs.Rose as rose
+use Rattle.base_texts.specs.declared.texts.Name.{Name}
+use Rattle.base_trees.specs.Rose.{Rose, node, Roses}
+use Rattle.base_trees.specs.Rose as rose
 use Rattle.simple_types.specs.declared.standards.Standard.{Standard}
 use Rattle.simple_types.specs.declared.standards.Standard.TheVariants.{Free}
 use Rattle.simple_types.specs.Space.{Space, Spaces, none, more, Booleans, Wholes, Numbers, Words, Characters, ListOf, UnionOf}
-use Rattle.name_map.specs.declared.conversion.NameKind.TheVariants.{Reference, Identifier}
-use Rattle.name_map.specs.declared.restoration.NameForm.{NameForm}
-use Rattle.name_map.specs.Conversion.{converted}
-use Rattle.name_map.specs.Restoring.{form_of}
-use Rattle.name_map.specs.Taking.{IsTaken}
+use Rattle.asn_names.specs.declared.conversion.NameKind.TheVariants.{Reference, Identifier}
+use Rattle.asn_names.specs.declared.restoration.NameForm.{NameForm}
+use Rattle.asn_names.specs.Conversion.{converted}
+use Rattle.asn_names.specs.Restoring.{form_of}
+use Rattle.asn_names.specs.Taking.{IsTaken}
 use Rattle.asn_types.specs.declared.marks.Instruction.{Instruction}
 use Rattle.asn_types.specs.declared.marks.Instruction.TheVariants as mark
 use Rattle.asn_types.specs.declared.types.Component.{Component}

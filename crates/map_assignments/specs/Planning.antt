@@ -1,20 +1,20 @@
 -- The type of each component of a set (X.694): its parts in their order, before they have names.
 use Rattle.std.specs.Prelude.{ℕ, zero, suc, ◌==◌, ◌&&◌, nat_lt, not, Bool, true, false, List, [], ◌∷◌, ◌++◌, map, Option, Some, None, slice_get, if◌then◌else◌}
-use Rattle.xa_base.specs.declared.white_space.WhiteSpace.TheVariants.{Preserve}
+use Rattle.base_texts.specs.declared.white_space.WhiteSpace.TheVariants.{Preserve}
 use Rattle.simple_types.specs.declared.simples.Class.TheVariants.{Any}
 use Rattle.simple_types.specs.Space.{Booleans, Characters}
 use Rattle.simple_types.specs.Seen.{space_of}
 use Rattle.content_models.specs.Particle as model
 use Rattle.content_models.specs.Particle.{Particle, occurs, Term, Particles}
 use Rattle.content_models.specs.Seen.{seen}
-use Rattle.schema_parts.specs.declared.components.ElementDecl.{ElementDecl}
-use Rattle.schema_parts.specs.declared.components.TypeOf.TheVariants as kind
-use Rattle.schema_parts.specs.declared.components.AttributeUse.{AttributeUse}
-use Rattle.schema_parts.specs.declared.components.SimpleDef.{SimpleDef}
-use Rattle.schema_parts.specs.declared.components.ComplexDef.{ComplexDef}
-use Rattle.schema_parts.specs.declared.components.Content.{Content}
-use Rattle.schema_parts.specs.declared.components.Content.TheVariants as content_
-use Rattle.schema_parts.specs.Components.{Set}
+use Rattle.schema_components.specs.declared.components.ElementDecl.{ElementDecl}
+use Rattle.schema_components.specs.declared.components.TypeOf.TheVariants as kind
+use Rattle.schema_components.specs.declared.components.AttributeUse.{AttributeUse}
+use Rattle.schema_components.specs.declared.components.SimpleDef.{SimpleDef}
+use Rattle.schema_components.specs.declared.components.ComplexDef.{ComplexDef}
+use Rattle.schema_components.specs.declared.components.Content.{Content}
+use Rattle.schema_components.specs.declared.components.Content.TheVariants as content_
+use Rattle.schema_components.specs.Components.{Set}
 use Rattle.map_subjects.specs.declared.subjects.Subject.{Subject}
 use Rattle.map_subjects.specs.declared.subjects.Subject.TheVariants as subject
 use Rattle.map_assignments.specs.Plans.{a_sequence, a_choice, Label, attribute, element, group, elements, groups, texts, order, item, base, content, TypePlan, simple, sequence, choice, repeated, order_items, reference, Parts, finish, part}

@@ -1,6 +1,6 @@
 -- Types before their names are chosen: what stands where, and for what each part stands.
 use Rattle.std.specs.Prelude.{ℕ, Bool, Option, List}
-use Rattle.xa_base.specs.declared.texts.Name.{Name}
+use Rattle.base_texts.specs.declared.texts.Name.{Name}
 use Rattle.simple_types.specs.declared.standards.Standard.{Standard}
 use Rattle.simple_types.specs.Space.{Space}
 use Rattle.map_subjects.specs.declared.subjects.Subject.{Subject}

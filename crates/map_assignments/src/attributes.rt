@@ -1,6 +1,6 @@
 //! Attribute uses, and what has a simple type.
 ghost use Rattle.std.specs.Prelude.{◌≡◌, ◌<◌, IfOk, OnOk, length, All};
-ghost use Rattle.schema_parts.specs.Linked.{IsLinked, IsUse};
+ghost use Rattle.schema_components.specs.Linked.{IsLinked, IsUse};
 ghost use Rattle.map_assignments.specs.Plans.{Parts};
 ghost use Rattle.map_assignments.specs.Planning as plan;
 ghost use Rattle.map_assignments.specs.Naming.{IsNamed};
@@ -11,11 +11,11 @@ use crate::parts::PartList;
 use crate::places::Places;
 use crate::simple::simple_type;
 use asn_types::TypeLabel;
-use label_tree::Tree;
+use base_texts::Memory;
+use base_trees::Tree;
 use map_subjects::Subject;
-use schema_parts::{AttributeUse, SchemaSet};
+use schema_components::{AttributeUse, SchemaSet};
 use std::alloc::Global;
-use xa_base::Memory;
 
 // The type of what has the simple type with this number: that of its assignment, or the type in place.
 pub(crate) fn simple_at(

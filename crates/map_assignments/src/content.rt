@@ -1,9 +1,9 @@
 //! The types of declarations, and of complex types with their content models.
 ghost use Rattle.std.specs.Prelude.{◌≡◌, ◌<◌, ℕ, IfOk, OnOk, [], length, true, false, if◌then◌else◌};
-ghost use Rattle.label_tree.specs.Rose.{roses_of};
+ghost use Rattle.base_trees.specs.Rose.{roses_of};
 ghost use Rattle.content_models.specs.Seen.{seen, all_seen};
-ghost use Rattle.schema_parts.specs.Components.{Set};
-ghost use Rattle.schema_parts.specs.Linked.{IsLinked, IsTyped, IsComplexType, IsContent};
+ghost use Rattle.schema_components.specs.Components.{Set};
+ghost use Rattle.schema_components.specs.Linked.{IsLinked, IsTyped, IsComplexType, IsContent};
 ghost use Rattle.map_subjects.specs.declared.subjects.Subject.{Subject};
 ghost use Rattle.map_assignments.specs.Plans as plan_of;
 ghost use Rattle.map_assignments.specs.Plans.{TypePlan, Parts, finish};
@@ -18,12 +18,12 @@ use crate::particles::{is_plain, push_nillable, push_particle, push_texts, push_
 use crate::parts::PartList;
 use crate::places::Places;
 use asn_types::{Instruction, Marks, TypeLabel};
+use base_texts::Memory;
+use base_trees::Tree;
 use content_models::{ParticleKind, ParticleLabel};
-use label_tree::Tree;
 use map_subjects::Subject;
-use schema_parts::{AttributeUse, ComplexDef, Content, ElementDecl, SchemaSet, TypeOf};
+use schema_components::{AttributeUse, ComplexDef, Content, ElementDecl, SchemaSet, TypeOf};
 use std::alloc::Global;
-use xa_base::Memory;
 
 fn is_mixed(content: &Content) -> bool
     ensures { result ≡ plan.is_mixed content.now }

@@ -1,13 +1,13 @@
 //! Encoding instructions that tell the names of XML back.
 ghost use Rattle.std.specs.Prelude.{◌≡◌, ◌++◌, ◌∷◌, [], IfOk, OnOk};
 ghost use Rattle.asn_types.specs.Simples.{white_space_marks};
-ghost use Rattle.name_map.specs.Restoring.{form_of};
+ghost use Rattle.asn_names.specs.Restoring.{form_of};
 ghost use Rattle.map_assignments.specs.Naming.{name_marks, namespace_marks, qualified_marks, text_if};
 
+use asn_names::restoring;
 use asn_types::{Instruction, Marks};
-use name_map::restoring;
+use base_texts::{Memory, Name, Text, WhiteSpace};
 use std::alloc::Global;
-use xa_base::{Memory, Name, Text, WhiteSpace};
 
 pub(crate) fn one_mark(alloc: Global, mark: Instruction) -> Result<Marks, Memory>
     ensures { IfOk result (λ marks. marks ≡ mark ∷ []) }

@@ -1,12 +1,14 @@
-//! The types of ASN.1 that the components of a linked set of schemas are mapped to, and their assignments, after ITU-T X.694.
+//! Maps the components of a linked set to ASN.1 types and assignments, after ITU-T X.694.
 //!
-//! Read first: docs/MAPPING.md, `specs/Plans` and `Planning`, `Naming`, `Mapped` (`IsMapOf`), then `src/map.rt`.
+//! Read first: docs/MAPPING.md, `specs/Plans` and `Planning`, `Naming`, `Mapped` (`IsMapOf`), then `map_set` in
+//! `src/modules.rt` and `src/map.rt`.
 #![tactic(auto)]
 
 mod attributes;
 mod content;
 mod instructions;
 mod map;
+mod modules;
 mod orders;
 mod particles;
 mod parts;
@@ -15,4 +17,5 @@ mod simple;
 mod words;
 
 pub use map::assignments;
+pub use modules::{map_set, root_type};
 pub use simple::type_of_simple;

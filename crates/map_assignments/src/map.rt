@@ -1,8 +1,8 @@
 //! Assignments.
 ghost use Rattle.std.specs.Prelude.{◌≡◌, ◌<◌, ◌^◌, ◌++◌, ◌∷◌, [], IfOk, OnOk, All, length, unwrap_or, slice_get};
-ghost use Rattle.label_tree.specs.Rose.{Allowed};
+ghost use Rattle.base_trees.specs.Rose.{Allowed};
 ghost use Rattle.asn_types.specs.Parts.{MayHave};
-ghost use Rattle.schema_parts.specs.Linked.{IsLinked};
+ghost use Rattle.schema_components.specs.Linked.{IsLinked};
 ghost use Rattle.map_assignments.specs.Planning as plan;
 ghost use Rattle.map_assignments.specs.Naming.{IsNamed};
 ghost use Rattle.map_assignments.specs.Private.Placing.{place_of, references_of};
@@ -14,13 +14,13 @@ use crate::content::{in_place, own_type};
 use crate::instructions::{push_name, push_qualified};
 use crate::places::Places;
 use crate::simple::simple_type;
+use asn_names::{NameKind, Scope, convert};
 use asn_types::{Assignment, Instruction, Marks, TypeLabel};
-use label_tree::{Tree, Whole};
+use base_texts::{Memory, Name, Text};
+use base_trees::{Tree, Whole};
 use map_subjects::{NamedSubject, Subject};
-use name_map::{NameKind, Scope, convert};
-use schema_parts::SchemaSet;
+use schema_components::SchemaSet;
 use std::alloc::Global;
-use xa_base::{Memory, Name, Text};
 
 // How many types without a name stand in one another, at most.
 const LEVELS: u32 = 21;

@@ -1,6 +1,6 @@
 //! The order of child elements that may stand in any order (X.693, USE-ORDER).
 ghost use Rattle.std.specs.Prelude.{◌≡◌, ◌∷◌, ◌++◌, [], ℕ, IfOk, OnOk, List, false, map, if◌then◌else◌};
-ghost use Rattle.label_tree.specs.Rose.{roses_of};
+ghost use Rattle.base_trees.specs.Rose.{roses_of};
 ghost use Rattle.content_models.specs.Seen.{all_seen};
 ghost use Rattle.map_assignments.specs.Plans.{TypePlan, attribute};
 ghost use Rattle.map_assignments.specs.Plans as plan;
@@ -11,14 +11,14 @@ ghost use Rattle.map_assignments.specs.Naming.{wanted, AreTaken, IsNamed};
 ghost use Rattle.map_assignments.specs.Private.Building.{LeadsToNames, LeadsToScope, order_tree};
 
 use crate::particles::part_name;
+use asn_names::{NameKind, Scope, convert};
 use asn_types::{Component, Form, Marks, TypeLabel};
+use base_texts::{Memory, Text};
+use base_trees::Tree;
 use content_models::ParticleLabel;
-use label_tree::Tree;
-use name_map::{NameKind, Scope, convert};
-use schema_parts::AttributeUse;
+use schema_components::AttributeUse;
 use simple_types::{Standard, TextList};
 use std::alloc::Global;
-use xa_base::{Memory, Text};
 
 // Takes an identifier made from this name.
 fn take(scope: &mut Scope, name: &Text) -> Result<(), Memory>

@@ -1,8 +1,8 @@
 //! The parts for particles.
 ghost use Rattle.std.specs.Prelude.{◌≡◌, ◌∷◌, ◌&&◌, [], ℕ, IfOk, OnOk, true, false, not, map};
 ghost use Rattle.simple_types.specs.declared.standards.Standard.TheVariants.{Free};
-ghost use Rattle.label_tree.specs.Rose.{node, Rose};
-ghost use Rattle.label_tree.specs.Rose as rose;
+ghost use Rattle.base_trees.specs.Rose.{node, Rose};
+ghost use Rattle.base_trees.specs.Rose as rose;
 ghost use Rattle.asn_types.specs.declared.types.TypeLabel.{TypeLabel};
 ghost use Rattle.content_models.specs.Particle.{Particles};
 ghost use Rattle.content_models.specs.Seen.{term_seen};
@@ -15,13 +15,13 @@ ghost use Rattle.map_assignments.specs.Private.Building.{AddsPart, Adds, LeadsTo
 
 use crate::instructions::{one_mark, push_qualified};
 use crate::parts::PartList;
+use asn_names::{NameKind, convert};
 use asn_types::{Component, Form, Instruction, Marks, TypeLabel};
+use base_texts::{Memory, Text};
+use base_trees::Tree;
 use content_models::{ParticleKind, ParticleLabel};
-use label_tree::Tree;
-use name_map::{NameKind, convert};
 use simple_types::{Class, Standard};
 use std::alloc::Global;
-use xa_base::{Memory, Text};
 
 // Whether a particle stands once.
 fn is_once(min: u32, max: Option<u32>) -> bool

@@ -1,21 +1,21 @@
 //! The parts of a type as they are made.
 ghost use Rattle.std.specs.Prelude.{◌≡◌, ◌++◌, ◌∷◌, [], IfOk, OnOk, not};
-ghost use Rattle.label_tree.specs.Rose.{node, roses_of};
+ghost use Rattle.base_trees.specs.Rose.{node, roses_of};
 ghost use Rattle.simple_types.specs.declared.standards.Standard.TheVariants.{Free};
-ghost use Rattle.name_map.specs.declared.conversion.NameKind.TheVariants.{Identifier};
-ghost use Rattle.name_map.specs.Taking.{IsTaken};
+ghost use Rattle.asn_names.specs.declared.conversion.NameKind.TheVariants.{Identifier};
+ghost use Rattle.asn_names.specs.Taking.{IsTaken};
 ghost use Rattle.map_assignments.specs.Plans as plan;
 ghost use Rattle.map_assignments.specs.Naming.{type_label, identifier_of, qualified_marks};
 ghost use Rattle.map_assignments.specs.Private.Building.{AddsPart, Adds, Takes};
 
 use crate::instructions::push_qualified;
+use asn_names::{NameKind, Scope, convert};
 use asn_types::{Component, Components, Form, Instruction, Marks, TypeLabel};
-use label_tree::Tree;
-use name_map::{NameKind, Scope, convert};
-use schema_parts::AttributeUse;
+use base_texts::{Memory, Name, Text};
+use base_trees::Tree;
+use schema_components::AttributeUse;
 use simple_types::Standard;
 use std::alloc::Global;
-use xa_base::{Memory, Name, Text};
 
 /// The parts of a SEQUENCE or a CHOICE so far, with their types. Their identifiers are kept apart.
 #[derive(Drop)]

@@ -1,7 +1,7 @@
 //! Where assignments stand in the module.
 ghost use Rattle.std.specs.Prelude.{◌≡◌, ◌<◌, ◌^◌, ℕ, IfOk, length, nat_eq, All, if◌then◌else◌};
-ghost use Rattle.schema_parts.specs.Components.{Set};
-ghost use Rattle.schema_parts.specs.Linked.{IsLinked};
+ghost use Rattle.schema_components.specs.Components.{Set};
+ghost use Rattle.schema_components.specs.Linked.{IsLinked};
 ghost use Rattle.map_subjects.specs.declared.subjects.Subject.{Subject};
 ghost use Rattle.map_subjects.specs.Subjects.{same_subject, place_in, IsSubject};
 ghost use Rattle.map_assignments.specs.Plans as plan;
@@ -9,11 +9,11 @@ ghost use Rattle.map_assignments.specs.Naming.{IsNamed};
 ghost use Rattle.map_assignments.specs.Private.Placing.{place_of, number_at, HasLists, HasPlace};
 
 use asn_types::{Form, Marks, TypeLabel};
-use label_tree::Tree;
+use base_texts::Memory;
+use base_trees::Tree;
 use map_subjects::{NamedSubject, Subject};
-use schema_parts::SchemaSet;
+use schema_components::SchemaSet;
 use std::alloc::Global;
-use xa_base::Memory;
 
 /// The number of the assignment of each subject: of those of one kind a list by their numbers. `count` is the number of
 /// assignments, which stands where there is none.

@@ -1,7 +1,7 @@
 //! Simple types in place.
 ghost use Rattle.std.specs.Prelude.{◌≡◌, ◌∷◌, [], IfOk, OnOk};
-ghost use Rattle.label_tree.specs.Rose.{node, roses_of};
-ghost use Rattle.label_tree.specs.Rose as rose;
+ghost use Rattle.base_trees.specs.Rose.{node, roses_of};
+ghost use Rattle.base_trees.specs.Rose as rose;
 ghost use Rattle.simple_types.specs.Sound.{Sound, AreSound};
 ghost use Rattle.simple_types.specs.Seen.{space_of, spaces_in};
 ghost use Rattle.simple_types.specs.Space.{UnionOf};
@@ -12,10 +12,10 @@ use crate::instructions::{one_mark, push_white_space};
 use crate::parts::PartList;
 use crate::words::words_type;
 use asn_types::{Component, Form, Instruction, Marks, TypeLabel};
-use label_tree::Tree;
+use base_texts::{Memory, Text, WhiteSpace};
+use base_trees::Tree;
 use simple_types::{Class, NumberList, Simple, Standard};
 use std::alloc::Global;
-use xa_base::{Memory, Text, WhiteSpace};
 
 // A type without parts and instructions.
 fn plain(alloc: Global, form: Form) -> Tree<TypeLabel>

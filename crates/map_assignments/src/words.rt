@@ -5,12 +5,12 @@ ghost use Rattle.map_assignments.specs.Naming.{AreTaken, identifier_of, text_mar
 ghost use Rattle.map_assignments.specs.Private.Building.{LeadsToNames};
 
 use crate::instructions::{push_text, push_white_space};
+use asn_names::{NameKind, Scope, convert};
 use asn_types::{Form, Instruction, Marks, TypeLabel};
-use label_tree::Tree;
-use name_map::{NameKind, Scope, convert};
+use base_texts::{Memory, Text, WhiteSpace};
+use base_trees::Tree;
 use simple_types::TextList;
 use std::alloc::Global;
-use xa_base::{Memory, Text, WhiteSpace};
 
 // Takes the identifiers of the items that stand for these words in their order, behind those that are made.
 fn take_words(

@@ -3,7 +3,7 @@ use Rattle.std.proofs.Common.{◌≡◌, ℕ, zero, suc, ◌+◌, ◌≤◌, Boo
 use Rattle.std.specs.List.Sorted.{IsPermutation}
 use Rattle.std.proofs.lemmas.List.{append-nil}
 use Rattle.std.proofs.lemmas.List.Sorted.{IsPermutation-refl, IsPermutation-sym, IsPermutation-trans, IsPermutation-cons, IsPermutation-middle, IsPermutation-append_right, IsPermutation-map}
-use Rattle.xa_base.specs.declared.texts.Name.{Name}
+use Rattle.base_texts.specs.declared.texts.Name.{Name}
 use Rattle.content_models.specs.Language.{Turn, Leaf, turn_of, leaf_at, size_of, joined, Times, Within, Lang, Body, InOrder, AnyOrder}
 use Rattle.content_models.specs.Particle as model
 use Rattle.content_models.specs.Particle.{Particle, occurs, Term, Particles}
@@ -11,11 +11,11 @@ use Rattle.content_models.specs.Clear.{IsNameIn, and_then, first, first_in_order
 use Rattle.content_models.specs.Seen.{seen}
 use Rattle.content_models.proofs.Permuting.{any_order_is}
 use Rattle.content_models.specs.declared.particles.ParticleLabel.{ParticleLabel}
-use Rattle.label_tree.specs.Rose.{Rose}
-use Rattle.schema_parts.specs.declared.components.Content.{Content}
-use Rattle.schema_parts.specs.declared.components.Content.TheVariants as content_
-use Rattle.schema_parts.specs.Components.{Set, model_of}
-use Rattle.schema_parts.specs.Linked.{IsContent}
+use Rattle.base_trees.specs.Rose.{Rose}
+use Rattle.schema_components.specs.declared.components.Content.{Content}
+use Rattle.schema_components.specs.declared.components.Content.TheVariants as content_
+use Rattle.schema_components.specs.Components.{Set, model_of}
+use Rattle.schema_components.specs.Linked.{IsContent}
 use Rattle.map_assignments.specs.Planning.{is_all, is_ordered}
 use Rattle.map_laws.specs.Standing.{is_parted}
 

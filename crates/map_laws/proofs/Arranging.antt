@@ -1,7 +1,7 @@
 -- What is given for the leaves of an all, in any order: in the order of the particles, with the numbers of its order.
 use Rattle.std.proofs.Common.{◌≡◌, ℕ, zero, suc, ◌+◌, ◌&&◌, Bool, true, false, Option, Some, None, List, [], ◌∷◌, ◌++◌, length, map, refl, sym, ap, subst, ◌∙◌, append_assoc}
 use Rattle.std.proofs.lemmas.List.{map-append}
-use Rattle.xa_base.specs.declared.texts.Name.{Name}
+use Rattle.base_texts.specs.declared.texts.Name.{Name}
 use Rattle.content_models.specs.Language.{Turn, Leaf, turn_of, leaf_at, joined, Times, Lang, Body, InOrder, AnyOrder}
 use Rattle.content_models.specs.Particle as model
 use Rattle.content_models.specs.Particle.{Particle, occurs, Particles}

@@ -1,8 +1,8 @@
 -- A part that is no attribute has no default and no fixed value, so each value that stands at one is kept.
 use Rattle.std.proofs.Common.{◌≡◌, ℕ, ◌+◌, Bool, true, false, not, Option, List, [], ◌∷◌, true≢false, refl, sym, ap, subst, ◌∙◌}
 use Rattle.std.proofs.lemmas.List.Elements.{All-nil, All-cons, All-head, All-tail}
-use Rattle.label_tree.specs.Rose.{Rose, Roses, list_of}
-use Rattle.label_tree.specs.Rose as rose
+use Rattle.base_trees.specs.Rose.{Rose, Roses, list_of}
+use Rattle.base_trees.specs.Rose as rose
 use Rattle.simple_types.specs.declared.labels.ValueLabel.{ValueLabel}
 use Rattle.simple_types.specs.declared.standards.Standard.{Standard}
 use Rattle.simple_types.specs.declared.standards.Standard.TheVariants.{Free, Default, Fixed}
@@ -15,12 +15,12 @@ use Rattle.asn_types.specs.declared.types.Form.TheVariants as form
 use Rattle.asn_types.specs.declared.types.TypeLabel.{TypeLabel}
 use Rattle.asn_types.specs.Spaces.{spelling}
 use Rattle.asn_values.specs.Values.{Kept}
-use Rattle.schema_parts.specs.declared.components.AttributeUse.{AttributeUse}
-use Rattle.schema_parts.specs.declared.components.Content.{Content}
-use Rattle.schema_parts.specs.declared.components.Content.TheVariants as content_
-use Rattle.schema_parts.specs.Components.{Set}
+use Rattle.schema_components.specs.declared.components.AttributeUse.{AttributeUse}
+use Rattle.schema_components.specs.declared.components.Content.{Content}
+use Rattle.schema_components.specs.declared.components.Content.TheVariants as content_
+use Rattle.schema_components.specs.Components.{Set}
 use Rattle.map_assignments.specs.Naming.{type_label}
-use Rattle.map_694.proofs.Free.{IsFree, AreFree}
+use Rattle.map_assignments.proofs.Free.{IsFree, AreFree}
 use Rattle.map_laws.specs.Standing.{AreNone, IsOnly, StandsFor, IsPart, once, at_most_once, several, HasTerm, ArePartsOf, IsTop, parted, ordered, whole, IsInner, AreContent, HasParts, HasInner, AreRest, IsBase}
 use Rattle.map_laws.specs.ValueStatements.{KeptFor}
 use Rattle.map_laws.proofs.Values.{PartsKept}

@@ -2,8 +2,8 @@
 use Rattle.std.proofs.Common.{◌≡◌, ℕ, ◌<◌, ◌≤◌, nat_lt, nat_le, Bool, true, false, Option, Some, None, List, [], ◌∷◌, length, map, inl, inr, refl, sym, ap, subst, ◌∙◌, arith}
 use Rattle.std.specs.List.{AllByRecursion}
 use Rattle.std.proofs.lemmas.Bool.Decides.{Decides-ltb, leb_tells}
-use Rattle.label_tree.specs.Rose.{Rose, node, Roses, list_of, roses_of, label_of, kids_of, length_all}
-use Rattle.label_tree.specs.Rose as rose
+use Rattle.base_trees.specs.Rose.{Rose, node, Roses, list_of, roses_of, label_of, kids_of, length_all}
+use Rattle.base_trees.specs.Rose as rose
 use Rattle.simple_types.specs.declared.labels.ValueLabel.{ValueLabel}
 use Rattle.simple_types.specs.declared.labels.ValueLabel.TheVariants as value
 use Rattle.asn_types.specs.declared.modules.Assignment.{Assignment}
@@ -14,7 +14,7 @@ use Rattle.asn_types.specs.declared.types.TypeLabel.{TypeLabel}
 use Rattle.asn_types.specs.Roles.{role_of}
 use Rattle.asn_values.specs.Values.{ComponentPlace, places, places_in, none_if, below, FitsAt, FitEach, OwnAt, item_number}
 use Rattle.map_assignments.specs.Naming.{type_label}
-use Rattle.map_694.proofs.Resolving.{follow-none}
+use Rattle.map_assignments.proofs.Resolving.{follow-none}
 use Rattle.map_laws.specs.Standing.{AreOrder}
 use Rattle.map_laws.proofs.Values.{ItemsFit, list-value}
 use Rattle.map_laws.proofs.Giving.{list-fits}

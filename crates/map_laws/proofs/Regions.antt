@@ -3,10 +3,10 @@ use Rattle.std.proofs.Common.{◌≡◌, ℕ, zero, suc, ◌+◌, ◌-◌, ◌�
 use Rattle.std.specs.Prelude.{slice_get, if◌then◌else◌}
 use Rattle.std.specs.Option.{option_map}
 use Rattle.std.proofs.lemmas.List.{append-nil}
-use Rattle.xa_base.specs.declared.texts.Name.{Name}
-use Rattle.label_tree.specs.Rose.{Rose, node, Roses, list_of, roses_of, label_of, kids_of, length_all}
-use Rattle.label_tree.specs.Rose as rose
-use Rattle.label_tree.proofs.Roses.{list_of-roses_of}
+use Rattle.base_texts.specs.declared.texts.Name.{Name}
+use Rattle.base_trees.specs.Rose.{Rose, node, Roses, list_of, roses_of, label_of, kids_of, length_all}
+use Rattle.base_trees.specs.Rose as rose
+use Rattle.base_trees.proofs.Roses.{list_of-roses_of}
 use Rattle.simple_types.specs.declared.labels.ValueLabel.{ValueLabel}
 use Rattle.simple_types.specs.declared.labels.ValueLabel.TheVariants as value
 use Rattle.content_models.specs.declared.particles.ParticleLabel.{ParticleLabel}
@@ -27,16 +27,16 @@ use Rattle.asn_types.specs.Refs.{resolve, is_element}
 use Rattle.asn_types.specs.Roles.{role_of}
 use Rattle.asn_values.specs.Ordering.{in_order}
 use Rattle.asn_values.specs.Values.{ComponentPlace, place_of, put_first, present_from, below, FitsAt, is_unset, is_last_absent, flags_from, element_flags, is_order_role, item_number, numbers_in, order_of, ordered_flags}
-use Rattle.schema_parts.specs.declared.components.AttributeUse.{AttributeUse}
-use Rattle.schema_parts.specs.declared.components.ComplexDef.{ComplexDef}
-use Rattle.schema_parts.specs.declared.components.Content.{Content}
-use Rattle.schema_parts.specs.declared.components.Content.TheVariants as content_
-use Rattle.schema_parts.specs.Components.{Set, model_of}
-use Rattle.schema_parts.specs.Linked.{IsContent}
+use Rattle.schema_components.specs.declared.components.AttributeUse.{AttributeUse}
+use Rattle.schema_components.specs.declared.components.ComplexDef.{ComplexDef}
+use Rattle.schema_components.specs.declared.components.Content.{Content}
+use Rattle.schema_components.specs.declared.components.Content.TheVariants as content_
+use Rattle.schema_components.specs.Components.{Set, model_of}
+use Rattle.schema_components.specs.Linked.{IsContent}
 use Rattle.map_assignments.specs.Planning.{is_once, is_optional, is_mixed, is_all, is_ordered}
 use Rattle.map_assignments.specs.Naming.{type_label, sequence_marks}
-use Rattle.map_694.proofs.Marked.{sequence-nil}
-use Rattle.map_694.proofs.Resolving.{follow-none}
+use Rattle.map_assignments.proofs.Marked.{sequence-nil}
+use Rattle.map_assignments.proofs.Resolving.{follow-none}
 use Rattle.map_laws.specs.Children.{Child, child_of, given_by, put_in_order, children}
 use Rattle.map_laws.specs.Standing.{Behind, IsPart, once, at_most_once, several, is_parted, HasTerm, ArePartsOf, IsTop, parted, ordered, whole, IsOnly, IsInner, WithTexts, AreOrder, WithOrder, count_particles, count_elements, order_count, WithAttributes, AreContent, HasParts, HasInner, AreRest}
 use Rattle.map_laws.proofs.NamedSlots.{picked}

@@ -3,8 +3,8 @@
 use Rattle.std.proofs.Common.{◌≡◌, ℕ, suc, ◌≤◌, Bool, true, false, Option, Some, List, [], ◌∷◌, length, map, inl, inr, ◌⊎◌, true≢false, refl, sym, ap, subst, ◌∙◌, arith}
 use Rattle.std.specs.List.Sorted.{IsPermutation}
 use Rattle.std.proofs.lemmas.List.Sorted.{IsPermutation-sym, All-permutation, length_permutation}
-use Rattle.xa_base.specs.declared.texts.Name.{Name}
-use Rattle.label_tree.specs.Rose.{Rose, label_of}
+use Rattle.base_texts.specs.declared.texts.Name.{Name}
+use Rattle.base_trees.specs.Rose.{Rose, label_of}
 use Rattle.simple_types.specs.declared.labels.ValueLabel.{ValueLabel}
 use Rattle.content_models.specs.declared.particles.ParticleLabel.{ParticleLabel}
 use Rattle.content_models.specs.Language.{Leaf, Lang}
@@ -18,10 +18,10 @@ use Rattle.asn_values.specs.Orders.{are_just_set}
 use Rattle.asn_values.specs.Values.{AreJustSet, ordered_flags, order_of}
 use Rattle.asn_values.proofs.JustSet.{just_set}
 use Rattle.asn_values.proofs.Slots.{in_order-map, found_in, in_order-whole}
-use Rattle.schema_parts.specs.declared.components.Content.{Content}
-use Rattle.schema_parts.specs.declared.components.Content.TheVariants as content_
-use Rattle.schema_parts.specs.Components.{Set, model_of}
-use Rattle.schema_parts.specs.Linked.{IsContent}
+use Rattle.schema_components.specs.declared.components.Content.{Content}
+use Rattle.schema_components.specs.declared.components.Content.TheVariants as content_
+use Rattle.schema_components.specs.Components.{Set, model_of}
+use Rattle.schema_components.specs.Linked.{IsContent}
 use Rattle.map_assignments.specs.Planning.{is_all, is_ordered}
 use Rattle.map_laws.specs.Children.{Child}
 use Rattle.map_laws.proofs.AnyOrder.{AsParts}

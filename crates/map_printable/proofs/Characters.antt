@@ -4,11 +4,11 @@ use Rattle.std.specs.Prelude.{nat_le, chars, ◌==◌, bytes_eq}
 use Rattle.std.specs.List.{list_all, list_any}
 use Rattle.std.specs.Str.{is_utf8}
 use Rattle.std.proofs.lemmas.Bool.{true≢false, leb-true, le-leb}
-use Rattle.xa_base.specs.Characters.{in_ranges, xml_chars, name_starts, further_name_chars, is_xml_char, is_name_start, is_name_char, is_name, is_ncname}
-use Rattle.xa_base.specs.Limits.{has_xml_chars, spells_ncname, is_short_part, is_short_space, is_name_part, is_namespace, is_xmlns}
-use Rattle.xa_base.specs.declared.texts.Name.{Name}
-use Rattle.schema_parts.specs.Declarable.{kept_spaces, is_declarable, is_declarable_attribute}
-use Rattle.module_faults.specs.Printable.{IsXmlText}
+use Rattle.base_texts.specs.Characters.{in_ranges, xml_chars, name_starts, further_name_chars, is_xml_char, is_name_start, is_name_char, is_name, is_ncname}
+use Rattle.base_texts.specs.Limits.{has_xml_chars, spells_ncname, is_short_part, is_short_space, is_name_part, is_namespace, is_xmlns}
+use Rattle.base_texts.specs.declared.texts.Name.{Name}
+use Rattle.schema_components.specs.Declarable.{kept_spaces, is_declarable, is_declarable_attribute}
+use Rattle.module_text.specs.Printable.{IsXmlText}
 use Rattle.map_printable.proofs.Names.{and-both, and-first, and-second}
 
 -- ---- ranges

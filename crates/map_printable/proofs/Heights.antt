@@ -1,9 +1,9 @@
 -- No type of a map stands in more others than a printed type may.
 use Rattle.std.proofs.Common.{◌≡◌, ℕ, zero, suc, ◌+◌, ◌*◌, ◌-◌, ◌≤◌, max, Bool, true, false, cond, ◌&&◌, ◌||◌, not, List, [], ◌∷◌, ◌++◌, Option, Some, None, refl, ap, arith, true≢false}
 use Rattle.std.specs.Prelude.{slice_get, nat_lt, if◌then◌else◌}
-use Rattle.label_tree.specs.Rose.{Rose, node, Roses, height, depth_all}
-use Rattle.label_tree.specs.Rose as rose
-use Rattle.xa_base.specs.declared.texts.Name.{Name}
+use Rattle.base_trees.specs.Rose.{Rose, node, Roses, height, depth_all}
+use Rattle.base_trees.specs.Rose as rose
+use Rattle.base_texts.specs.declared.texts.Name.{Name}
 use Rattle.simple_types.specs.Seen.{space_of}
 use Rattle.simple_types.specs.Sound.{is_union, has_list, have_list, Sound, AreSound}
 use Rattle.simple_types.specs.Space.{Space, Spaces, none, more, Booleans, Wholes, Numbers, Words, Characters, ListOf, UnionOf}
@@ -15,27 +15,27 @@ use Rattle.content_models.specs.Particle.{Particle, occurs, Term, Particles}
 use Rattle.content_models.specs.Seen.{term_seen, seen, all_seen}
 use Rattle.asn_types.specs.declared.types.Component.{Component}
 use Rattle.asn_types.specs.declared.types.TypeLabel.{TypeLabel}
-use Rattle.schema_parts.specs.declared.components.ElementDecl.{ElementDecl}
-use Rattle.schema_parts.specs.declared.components.TypeOf.{TypeOf}
-use Rattle.schema_parts.specs.declared.components.TypeOf.TheVariants as kind
-use Rattle.schema_parts.specs.declared.components.AttributeUse.{AttributeUse}
-use Rattle.schema_parts.specs.declared.components.SimpleDef.{SimpleDef}
-use Rattle.schema_parts.specs.declared.components.ComplexDef.{ComplexDef}
-use Rattle.schema_parts.specs.declared.components.GlobalAttribute.{GlobalAttribute}
-use Rattle.schema_parts.specs.declared.components.Content.{Content}
-use Rattle.schema_parts.specs.declared.components.Content.TheVariants as content_
-use Rattle.schema_parts.specs.Components.{Set}
-use Rattle.schema_parts.specs.Linked.{IsContent, IsComplexType, IsLinked}
+use Rattle.schema_components.specs.declared.components.ElementDecl.{ElementDecl}
+use Rattle.schema_components.specs.declared.components.TypeOf.{TypeOf}
+use Rattle.schema_components.specs.declared.components.TypeOf.TheVariants as kind
+use Rattle.schema_components.specs.declared.components.AttributeUse.{AttributeUse}
+use Rattle.schema_components.specs.declared.components.SimpleDef.{SimpleDef}
+use Rattle.schema_components.specs.declared.components.ComplexDef.{ComplexDef}
+use Rattle.schema_components.specs.declared.components.GlobalAttribute.{GlobalAttribute}
+use Rattle.schema_components.specs.declared.components.Content.{Content}
+use Rattle.schema_components.specs.declared.components.Content.TheVariants as content_
+use Rattle.schema_components.specs.Components.{Set}
+use Rattle.schema_components.specs.Linked.{IsContent, IsComplexType, IsLinked}
 use Rattle.map_subjects.specs.declared.subjects.Subject.{Subject}
 use Rattle.map_subjects.specs.declared.subjects.Subject.TheVariants as subject
 use Rattle.map_assignments.specs.Plans.{Label, TypePlan, simple, sequence, choice, repeated, order_items, reference, Parts, finish, part}
 use Rattle.map_assignments.specs.Planning.{simple_plan, simple_type, attributes, label_of, list_label_of, is_once, is_optional, particle_part, is_mixed, is_ordered, with_texts, with_order, order_type, order_plan, labels, labels_before, term_type, particle_parts, top_part, top, content_parts, content_type, rest_parts, complex_plan, nillable_simple_type, own_type, particle_type, in_place, body}
 use Rattle.map_assignments.specs.Naming.{IsSimpleType, AreMembers, IsNamed, AreNamed}
-use Rattle.module_faults.specs.declared.spots.Spot.{Spot}
+use Rattle.module_text.specs.declared.spots.Spot.{Spot}
 use Rattle.module_text.specs.Plain.{limit}
 use Rattle.map_printable.proofs.Printing.{Prints, AllPrint}
 use Rattle.map_printable.proofs.Spots.{label_spot}
-use Rattle.module_faults.specs.Printable.{item_spot}
+use Rattle.module_text.specs.Printable.{item_spot}
 use Rattle.map_printable.proofs.Plans.{all_at, either_way}
 
 -- ---- simple types

@@ -7,12 +7,12 @@ use Rattle.std.specs.Fmt.{digit_glyph, digits_onto, digits}
 use Rattle.std.proofs.lemmas.Bool.{true≢false}
 use Rattle.std.proofs.lemmas.Bool.Decides.{nat_tests}
 use Rattle.std.proofs.lemmas.List.{append-nil}
-use Rattle.xa_base.specs.Characters.{in_ranges}
-use Rattle.xa_base.specs.Digits.{is_digit}
-use Rattle.xa_base.specs.WhiteSpace.{has_bytes}
-use Rattle.name_map.specs.declared.conversion.NameKind.TheVariants.{Reference, Identifier}
-use Rattle.name_map.specs.Conversion.{letters_and_digits, kept, joined, letter_x, cased, begun, converted}
-use Rattle.name_map.specs.Taking.{IsTaken}
+use Rattle.base_texts.specs.Characters.{in_ranges}
+use Rattle.base_texts.specs.Digits.{is_digit}
+use Rattle.base_texts.specs.WhiteSpace.{has_bytes}
+use Rattle.asn_names.specs.declared.conversion.NameKind.TheVariants.{Reference, Identifier}
+use Rattle.asn_names.specs.Conversion.{letters_and_digits, kept, joined, letter_x, cased, begun, converted}
+use Rattle.asn_names.specs.Taking.{IsTaken}
 use Rattle.module_text.specs.Names.{is_capital, is_small, is_letter_or_digit, goes_on, is_reference, is_identifier}
 
 pub and-both : (a b : Bool) → a ≡ true → b ≡ true → (a && b) ≡ true

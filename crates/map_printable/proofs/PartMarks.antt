@@ -1,9 +1,9 @@
 -- The instructions on the parts and assignments of a map are those that the printer tells.
 use Rattle.std.proofs.Common.{◌≡◌, ◌≢◌, ℕ, Option, Some, None, List, [], ◌∷◌, ◌++◌, All, refl, sym, ◌∙◌}
 use Rattle.std.proofs.lemmas.List.Elements.{All-nil, All-cons}
-use Rattle.xa_base.specs.declared.texts.Name.{Name}
-use Rattle.name_map.specs.declared.restoration.NameForm.{NameForm}
-use Rattle.name_map.specs.Restoring.{form_of}
+use Rattle.base_texts.specs.declared.texts.Name.{Name}
+use Rattle.asn_names.specs.declared.restoration.NameForm.{NameForm}
+use Rattle.asn_names.specs.Restoring.{form_of}
 use Rattle.asn_types.specs.declared.marks.Instruction.{Instruction}
 use Rattle.asn_types.specs.declared.marks.Instruction.TheVariants as mark
 use Rattle.map_subjects.specs.declared.subjects.Subject.{Subject}
@@ -11,7 +11,7 @@ use Rattle.map_subjects.specs.declared.subjects.Subject.TheVariants as subject
 use Rattle.map_assignments.specs.Plans.{Label, attribute, element, group, elements, groups, texts, order, item, base, content}
 use Rattle.map_assignments.specs.Naming.{name_if, name_marks, namespace_marks, qualified_marks, part_marks}
 use Rattle.map_assignments.specs.Mapped.{assignment_marks}
-use Rattle.module_faults.specs.Printable.{IsXmlText, MayHave, HasPartMarks}
+use Rattle.module_text.specs.Printable.{IsXmlText, MayHave, HasPartMarks}
 use Rattle.map_printable.proofs.Characters.{IsXmlName}
 
 pub no-marks : (generated : List ℕ) → HasPartMarks generated []

@@ -3,8 +3,8 @@ use Rattle.std.proofs.Common.{◌≡◌, ℕ, zero, suc, ◌+◌, ◌<◌, ◌�
 use Rattle.std.specs.Prelude.{slice_get, nat_lt, ◌==◌, IsSomeAnd, if◌then◌else◌}
 use Rattle.std.proofs.lemmas.Bool.Decides.{nat_tests}
 use Rattle.std.proofs.lemmas.List.Elements.{All-nil, All-cons, All-head, All-tail}
-use Rattle.label_tree.specs.Rose.{Rose}
-use Rattle.xa_base.specs.declared.texts.Name.{Name}
+use Rattle.base_trees.specs.Rose.{Rose}
+use Rattle.base_texts.specs.declared.texts.Name.{Name}
 use Rattle.simple_types.specs.Seen.{space_of}
 use Rattle.simple_types.specs.Sound.{Sound}
 use Rattle.simple_types.specs.Space.{Booleans}
@@ -12,25 +12,25 @@ use Rattle.content_models.specs.declared.particles.ParticleLabel.{ParticleLabel}
 use Rattle.content_models.specs.Particle as model
 use Rattle.content_models.specs.Particle.{Particle, occurs, Term, Particles}
 use Rattle.content_models.specs.Seen.{seen}
-use Rattle.schema_parts.specs.declared.components.ElementDecl.{ElementDecl}
-use Rattle.schema_parts.specs.declared.components.TypeOf.{TypeOf}
-use Rattle.schema_parts.specs.declared.components.TypeOf.TheVariants as kind
-use Rattle.schema_parts.specs.declared.components.AttributeUse.{AttributeUse}
-use Rattle.schema_parts.specs.declared.components.SimpleDef.{SimpleDef}
-use Rattle.schema_parts.specs.declared.components.ComplexDef.{ComplexDef}
-use Rattle.schema_parts.specs.declared.components.GlobalAttribute.{GlobalAttribute}
-use Rattle.schema_parts.specs.declared.components.Content.{Content}
-use Rattle.schema_parts.specs.declared.components.Content.TheVariants as content_
-use Rattle.schema_parts.specs.Components.{Set}
-use Rattle.schema_parts.specs.Linked as linked_
-use Rattle.schema_parts.specs.Linked.{leaves, all_leaves, IsElement, IsUse, IsSimpleType, IsComplexType, IsContent, IsModel, IsLinked}
+use Rattle.schema_components.specs.declared.components.ElementDecl.{ElementDecl}
+use Rattle.schema_components.specs.declared.components.TypeOf.{TypeOf}
+use Rattle.schema_components.specs.declared.components.TypeOf.TheVariants as kind
+use Rattle.schema_components.specs.declared.components.AttributeUse.{AttributeUse}
+use Rattle.schema_components.specs.declared.components.SimpleDef.{SimpleDef}
+use Rattle.schema_components.specs.declared.components.ComplexDef.{ComplexDef}
+use Rattle.schema_components.specs.declared.components.GlobalAttribute.{GlobalAttribute}
+use Rattle.schema_components.specs.declared.components.Content.{Content}
+use Rattle.schema_components.specs.declared.components.Content.TheVariants as content_
+use Rattle.schema_components.specs.Components.{Set}
+use Rattle.schema_components.specs.Linked as linked_
+use Rattle.schema_components.specs.Linked.{leaves, all_leaves, IsElement, IsUse, IsSimpleType, IsComplexType, IsContent, IsModel, IsLinked}
 use Rattle.map_subjects.specs.declared.subjects.Subject.{Subject}
 use Rattle.map_subjects.specs.declared.subjects.Subject.TheVariants as subject
 use Rattle.map_assignments.specs.Plans.{Label, attribute, texts, order, base, content, TypePlan, simple, sequence, repeated, reference, Parts, finish, part}
 use Rattle.map_assignments.specs.Planning.{simple_plan, simple_type, attributes, label_of, list_label_of, is_once, is_optional, particle_part, is_mixed, is_ordered, texts_type, with_texts, with_order, order_type, order_plan, labels, labels_before, term_type, particle_parts, top_part, top, content_parts, content_type, rest_parts, complex_plan, nillable_simple_type, own_type, particle_type, in_place, body}
-use Rattle.map_694.proofs.Shapes.{count_parts}
-use Rattle.map_694.proofs.Chains.{and-false, not-first}
-use Rattle.module_faults.specs.declared.spots.Spot.TheVariants.{Elsewhere, Order}
+use Rattle.map_assignments.proofs.Shapes.{count_parts}
+use Rattle.map_assignments.proofs.Chains.{and-false, not-first}
+use Rattle.module_text.specs.declared.spots.Spot.TheVariants.{Elsewhere, Order}
 use Rattle.map_printable.proofs.Characters.{IsXmlName, declared-xml, attribute-xml}
 use Rattle.map_printable.proofs.PartMarks.{HasXmlName}
 use Rattle.map_printable.proofs.Scopes.{is_item_label}

@@ -3,8 +3,8 @@ use Rattle.std.proofs.Common.{◌≡◌, ◌≢◌, ℕ, suc, ◌+◌, ◌<◌, 
 use Rattle.std.specs.List.{IsDistinct}
 use Rattle.std.proofs.lemmas.Bool.{true≢false}
 use Rattle.std.proofs.lemmas.List.Elements.{All-nil, All-cons}
-use Rattle.label_tree.specs.Rose.{Rose, node, Roses}
-use Rattle.label_tree.specs.Rose as rose
+use Rattle.base_trees.specs.Rose.{Rose, node, Roses}
+use Rattle.base_trees.specs.Rose as rose
 use Rattle.simple_types.specs.Sound.{Sound, AreSound}
 use Rattle.simple_types.specs.Space.{Space, Spaces, none, more, Booleans, Wholes, Numbers, Words, Characters, ListOf, UnionOf}
 use Rattle.asn_types.specs.declared.marks.Instruction.{Instruction}
@@ -20,12 +20,12 @@ use Rattle.map_subjects.specs.declared.subjects.Subject.{Subject}
 use Rattle.map_assignments.specs.Plans.{Label, attribute, element, group, elements, groups, texts, order, item, base, content, TypePlan, simple, sequence, choice, repeated, order_items, reference, Parts, finish, part}
 use Rattle.map_assignments.specs.Planning.{labels}
 use Rattle.map_assignments.specs.Naming.{type_label, component_of, list_item, text_marks, wanted, named_part, repeated_part, part_marks, sequence_marks, IsSimpleType, AreMembers, IsNamed, AreNamed}
-use Rattle.map_694.proofs.Chains.{no-order}
-use Rattle.map_694.proofs.Shapes.{count_parts}
+use Rattle.map_assignments.proofs.Chains.{no-order}
+use Rattle.map_assignments.proofs.Shapes.{count_parts}
 use Rattle.module_text.specs.Names.{is_identifier}
-use Rattle.module_faults.specs.declared.spots.Spot.{Spot}
-use Rattle.module_faults.specs.declared.spots.Spot.TheVariants.{Elsewhere, Order, OrderItem}
-use Rattle.module_faults.specs.Printable.{HasPartMarks, HasTypeMarks, IsIdentifier, HasNames, IsPresent, IsInSpot, item_spot, is_sequence_of, ArePrintable, AllPrintable}
+use Rattle.module_text.specs.declared.spots.Spot.{Spot}
+use Rattle.module_text.specs.declared.spots.Spot.TheVariants.{Elsewhere, Order, OrderItem}
+use Rattle.module_text.specs.Printable.{HasPartMarks, HasTypeMarks, IsIdentifier, HasNames, IsPresent, IsInSpot, item_spot, is_sequence_of, ArePrintable, AllPrintable}
 use Rattle.map_printable.proofs.Names.{taken-identifier}
 use Rattle.map_printable.proofs.PartMarks.{HasXmlName, no-marks, part-marked}
 use Rattle.map_printable.proofs.TypeMarks.{words-marked, no-type_marks, white-marked, numbers-marked, list-marked, union-marked, sequence-marked}

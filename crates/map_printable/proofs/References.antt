@@ -10,17 +10,17 @@ use Rattle.std.specs.declared.cmp.Ordering.TheVariants.{Less, Equal, Greater}
 use Rattle.std.proofs.lemmas.Cmp.{nat_list_cmp_total}
 use Rattle.std.proofs.lemmas.List.Elements.{All-head, All-tail, All-take, All-contains, All-from_recursion, Contains-append_cases}
 use Rattle.std.proofs.lemmas.Map.Keys.{sorted_head, sorted_tail}
-use Rattle.xa_base.specs.declared.texts.Name.{Name}
-use Rattle.name_map.specs.declared.conversion.NameKind.TheVariants.{Reference}
-use Rattle.name_map.specs.ReservedWords.{reserved_words}
-use Rattle.name_map.specs.Taking.{IsTaken}
-use Rattle.schema_parts.specs.Declarable.{is_declarable}
-use Rattle.schema_parts.specs.declared.components.ElementDecl.{ElementDecl}
-use Rattle.schema_parts.specs.declared.components.SimpleDef.{SimpleDef}
-use Rattle.schema_parts.specs.declared.components.ComplexDef.{ComplexDef}
-use Rattle.schema_parts.specs.declared.components.GlobalAttribute.{GlobalAttribute}
-use Rattle.schema_parts.specs.Components.{Set}
-use Rattle.schema_parts.specs.Linked.{IsElement, IsAttribute, IsSimpleType, IsComplexType, IsLinked}
+use Rattle.base_texts.specs.declared.texts.Name.{Name}
+use Rattle.asn_names.specs.declared.conversion.NameKind.TheVariants.{Reference}
+use Rattle.asn_names.specs.ReservedWords.{reserved_words}
+use Rattle.asn_names.specs.Taking.{IsTaken}
+use Rattle.schema_components.specs.Declarable.{is_declarable}
+use Rattle.schema_components.specs.declared.components.ElementDecl.{ElementDecl}
+use Rattle.schema_components.specs.declared.components.SimpleDef.{SimpleDef}
+use Rattle.schema_components.specs.declared.components.ComplexDef.{ComplexDef}
+use Rattle.schema_components.specs.declared.components.GlobalAttribute.{GlobalAttribute}
+use Rattle.schema_components.specs.Components.{Set}
+use Rattle.schema_components.specs.Linked.{IsElement, IsAttribute, IsSimpleType, IsComplexType, IsLinked}
 use Rattle.map_subjects.specs.declared.subjects.Subject.{Subject}
 use Rattle.map_subjects.specs.declared.subjects.Subject.TheVariants as subject
 use Rattle.map_subjects.specs.declared.subjects.NamedSubject.{NamedSubject}

@@ -6,10 +6,10 @@ use Rattle.std.specs.List.{IsDistinct}
 use Rattle.std.proofs.lemmas.Slice.Eq.{bytes_eq-Decides}
 use Rattle.std.proofs.lemmas.List.Elements.{All-nil, All-cons, All-weaker, recursion_from_All, Contains-append_left, Contains-push}
 use Rattle.std.proofs.lemmas.Map.Keys.{IsDistinct-cons}
-use Rattle.label_tree.specs.Rose.{Roses}
+use Rattle.base_trees.specs.Rose.{Roses}
 use Rattle.simple_types.specs.Space.{Spaces, none, more}
-use Rattle.name_map.specs.declared.conversion.NameKind.TheVariants.{Identifier}
-use Rattle.name_map.specs.Taking.{IsTaken}
+use Rattle.asn_names.specs.declared.conversion.NameKind.TheVariants.{Identifier}
+use Rattle.asn_names.specs.Taking.{IsTaken}
 use Rattle.asn_types.specs.declared.types.Component.{Component}
 use Rattle.asn_types.specs.declared.types.TypeLabel.{TypeLabel}
 use Rattle.map_subjects.specs.declared.subjects.Subject.{Subject}
@@ -17,7 +17,7 @@ use Rattle.map_assignments.specs.Plans.{a_sequence, a_choice, Label, attribute, 
 use Rattle.map_assignments.specs.Planning.{labels}
 use Rattle.map_assignments.specs.Naming.{identifier_of, wanted, AreTaken, AreMembers, AreNamed}
 use Rattle.module_text.specs.Names.{is_identifier}
-use Rattle.module_faults.specs.Printable.{IsIdentifier, AreIdentifiers}
+use Rattle.module_text.specs.Printable.{IsIdentifier, AreIdentifiers}
 use Rattle.map_printable.proofs.Names.{converted-identifier, longer-identifier, taken-identifier}
 
 -- ---- what identifiers are made from

@@ -12,11 +12,11 @@ use Rattle.asn_types.specs.Roles as roles
 use Rattle.asn_types.specs.Roles.{role_of, is_content, is_embed, is_item}
 use Rattle.map_assignments.specs.Plans.{Label, attribute, element, group, elements, groups, texts, order, item, base, content}
 use Rattle.map_assignments.specs.Naming.{type_label, named_part, sequence_marks}
-use Rattle.map_694.proofs.Chains.{picked, and-false, no-order}
-use Rattle.map_694.proofs.Marked.{sequence-nil, sequence-embeds}
-use Rattle.module_faults.specs.declared.spots.Spot.{Spot}
-use Rattle.module_faults.specs.declared.spots.Spot.TheVariants.{Elsewhere, Order}
-use Rattle.module_faults.specs.Printable.{is_order, is_sequence_of, item_spot, part_spot}
+use Rattle.map_assignments.proofs.Chains.{picked, and-false, no-order}
+use Rattle.map_assignments.proofs.Marked.{sequence-nil, sequence-embeds}
+use Rattle.module_text.specs.declared.spots.Spot.{Spot}
+use Rattle.module_text.specs.declared.spots.Spot.TheVariants.{Elsewhere, Order}
+use Rattle.module_text.specs.Printable.{is_order, is_sequence_of, item_spot, part_spot}
 
 abbrev pub is_order_label : Label → Bool
 is_order_label order = true

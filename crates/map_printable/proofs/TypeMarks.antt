@@ -4,20 +4,20 @@ use Rattle.std.specs.Prelude.{filter, bytes_eq, if◌then◌else◌}
 use Rattle.std.specs.List.{list_all}
 use Rattle.std.proofs.lemmas.Bool.{lt-ltb}
 use Rattle.std.proofs.lemmas.List.Elements.{All-nil, All-cons}
-use Rattle.xa_base.specs.declared.white_space.WhiteSpace.{WhiteSpace}
-use Rattle.xa_base.specs.declared.white_space.WhiteSpace.TheVariants.{Preserve, Replace, Collapse}
+use Rattle.base_texts.specs.declared.white_space.WhiteSpace.{WhiteSpace}
+use Rattle.base_texts.specs.declared.white_space.WhiteSpace.TheVariants.{Preserve, Replace, Collapse}
 use Rattle.simple_types.specs.Sound.{AreWords}
-use Rattle.name_map.specs.declared.restoration.NameForm.{NameForm}
-use Rattle.name_map.specs.declared.restoration.NameForm.TheVariants.{Capitalized, Uncapitalized, Quoted}
-use Rattle.name_map.specs.Restoring.{capitalized, uncapitalized, form_of}
+use Rattle.asn_names.specs.declared.restoration.NameForm.{NameForm}
+use Rattle.asn_names.specs.declared.restoration.NameForm.TheVariants.{Capitalized, Uncapitalized, Quoted}
+use Rattle.asn_names.specs.Restoring.{capitalized, uncapitalized, form_of}
 use Rattle.asn_types.specs.declared.marks.Instruction.{Instruction}
 use Rattle.asn_types.specs.declared.marks.Instruction.TheVariants as mark
 use Rattle.asn_types.specs.declared.types.Form.{Form}
 use Rattle.asn_types.specs.declared.types.Form.TheVariants as form
 use Rattle.asn_types.specs.Simples.{white_space_marks}
 use Rattle.map_assignments.specs.Naming.{type_label, text_if, text_marks, sequence_marks}
-use Rattle.module_faults.specs.Printable.{comes_before, are_in_order, is_of_part, texts_due, is_text, MayBe, HasTypeMarks}
-use Rattle.module_faults.specs.Printable as printable
+use Rattle.module_text.specs.Printable.{comes_before, are_in_order, is_of_part, texts_due, is_text, MayBe, HasTypeMarks}
+use Rattle.module_text.specs.Printable as printable
 use Rattle.map_printable.proofs.Names.{and-both, and-second}
 
 -- ---- TEXT

@@ -4,16 +4,16 @@ use Rattle.std.proofs.lemmas.List.Elements.{All-nil, All-cons, All-append, Conta
 use Rattle.asn_types.specs.declared.modules.Assignment.{Assignment}
 use Rattle.asn_types.specs.Modules.{IsModule}
 use Rattle.asn_types.specs.Bounds.{IsBounded}
-use Rattle.schema_parts.specs.Components.{Set}
-use Rattle.schema_parts.specs.Linked.{IsLinked}
+use Rattle.schema_components.specs.Components.{Set}
+use Rattle.schema_components.specs.Linked.{IsLinked}
 use Rattle.map_subjects.specs.declared.subjects.NamedSubject.{NamedSubject}
 use Rattle.map_subjects.specs.Subjects.{name_of, AreEntries, place_in}
 use Rattle.map_assignments.specs.Planning.{body}
 use Rattle.map_assignments.specs.Mapped.{wanted_reference, IsMapped, AreMapped, IsMapOf}
-use Rattle.map_widths.specs.Widths.{HasWidths}
+use Rattle.map_laws.specs.Widths.{HasWidths}
 use Rattle.module_text.specs.Names.{is_reference}
-use Rattle.module_faults.specs.declared.spots.Spot.TheVariants.{Elsewhere}
-use Rattle.module_faults.specs.Printable.{HasPartMarks, IsPrintableAssignment}
+use Rattle.module_text.specs.declared.spots.Spot.TheVariants.{Elsewhere}
+use Rattle.module_text.specs.Printable.{HasPartMarks, IsPrintableAssignment}
 use Rattle.map_printable.specs.Maps.{MapsArePrintable}
 use Rattle.map_printable.proofs.Names.{taken-reference}
 use Rattle.map_printable.proofs.PartMarks.{assignment-marked}

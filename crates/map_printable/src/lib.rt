@@ -1,4 +1,4 @@
-//! What the map of a set prints can be read back: its module is printable.
+//! Proves that the module of a linked set can be printed and read back.
 //!
 //! Read first: `specs/Maps`.
 #![tactic(auto)]

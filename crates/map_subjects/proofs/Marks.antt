@@ -6,11 +6,11 @@ use Rattle.std.proofs.Math.ListN.{set}
 use Rattle.std.proofs.lemmas.Bool.Decides.{eqb_tells}
 use Rattle.std.proofs.lemmas.List.{get_or-set_same, get_or-set_other, drop_all}
 use Rattle.std.proofs.lemmas.Option.{unwrap_or-slice_get, slice_get_within, get_or_from_slice_get}
-use Rattle.schema_parts.specs.declared.components.ElementDecl.{ElementDecl}
-use Rattle.schema_parts.specs.declared.components.TypeOf.{TypeOf}
-use Rattle.schema_parts.specs.declared.components.TypeOf.TheVariants as kind
-use Rattle.schema_parts.specs.Components.{Set}
-use Rattle.schema_parts.specs.Linked.{IsLinked, IsElement, IsTyped}
+use Rattle.schema_components.specs.declared.components.ElementDecl.{ElementDecl}
+use Rattle.schema_components.specs.declared.components.TypeOf.{TypeOf}
+use Rattle.schema_components.specs.declared.components.TypeOf.TheVariants as kind
+use Rattle.schema_components.specs.Components.{Set}
+use Rattle.schema_components.specs.Linked.{IsLinked, IsElement, IsTyped}
 use Rattle.map_subjects.specs.Subjects.{is_nillable_of, has_nillable}
 use Rattle.map_subjects.specs.Private.Collecting.{is_marked, HasMark}
 use Rattle.map_subjects.proofs.Finding.{all-at}

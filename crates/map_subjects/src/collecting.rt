@@ -1,15 +1,15 @@
 //! Which components of a set have assignments, and in which order.
 ghost use Rattle.std.specs.Prelude.{◌≡◌, ◌<◌, ◌^◌, ◌++◌, ◌||◌, ℕ, nat_eq, Some, false, IfOk, OnOk, length};
 ghost use Rattle.std.specs.List.Sorted.{IsPermutation, IsSorted};
-ghost use Rattle.schema_parts.specs.Linked.{IsLinked};
+ghost use Rattle.schema_components.specs.Linked.{IsLinked};
 ghost use Rattle.map_subjects.specs.Subjects.{is_nillable_of, has_nillable, rank, order_of, entry_cmp, AreEntries};
 ghost use Rattle.map_subjects.specs.Private.Collecting.{entries_with, entries_of, element_entries, attribute_entries, simple_entries, complex_entries, nillable_entries, declaration_entries, type_entries, collected, is_marked, HasMark};
 
 use crate::subjects::{NamedSubject, Subject};
-use schema_parts::{ElementDecl, SchemaSet, TypeOf};
+use base_texts::{Memory, Name};
+use schema_components::{ElementDecl, SchemaSet, TypeOf};
 use std::alloc::{AllocError, Global};
 use std::cmp::Ordering;
-use xa_base::{Memory, Name};
 
 fn push_entry(
     alloc: Global,

@@ -1,14 +1,14 @@
 //! How many assignments stand before that of a global element.
 ghost use Rattle.std.specs.Prelude.{◌≡◌, ◌≤◌, ◌<◌, List, Some, length};
-ghost use Rattle.schema_parts.specs.Linked.{IsLinked};
+ghost use Rattle.schema_components.specs.Linked.{IsLinked};
 ghost use Rattle.map_subjects.specs.declared.subjects.NamedSubject.{NamedSubject};
 ghost use Rattle.map_subjects.specs.Subjects.{is_nillable_of, has_nillable, AreEntries, place_in};
 ghost use Rattle.map_subjects.specs.Private.Collecting.{entries_with, entries_of, element_entries, attribute_entries, simple_entries, complex_entries, nillable_entries, is_before, entry_with, count_before, declaration_entries, type_entries};
 
 use crate::collecting::{order, rank};
 use crate::subjects::Subject;
-use schema_parts::{ElementDecl, SchemaSet, TypeOf};
-use xa_base::Name;
+use base_texts::Name;
+use schema_components::{ElementDecl, SchemaSet, TypeOf};
 
 fn is_before(subject: Subject, name: &Name, element: &Name) -> bool
     ensures { result ≡ is_before element.now (entry_with subject name.now) }

@@ -1,4 +1,4 @@
-//! Which components of a linked set of schemas have assignments in its module of ASN.1 types, and in which order.
+//! Lists the components of a linked set that have assignments in its module, in their order.
 //!
 //! Read first: `specs/Subjects`, then `entries` in `src/collecting.rt`.
 #![tactic(auto)]

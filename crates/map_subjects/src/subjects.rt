@@ -1,5 +1,5 @@
 //! What has an assignment in the module.
-use xa_base::Name;
+use base_texts::Name;
 
 /// A component of a set by its number, from 0, among those of its kind.
 #[derive(Clone, Copy, PartialEq, Eq)]

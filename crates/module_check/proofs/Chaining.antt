@@ -5,8 +5,8 @@ use Rattle.std.specs.Option.{option_map, option_and_then}
 use Rattle.std.proofs.lemmas.Bool.{leb-true, leb-false}
 use Rattle.std.proofs.lemmas.List.{at_drop_more, at_drop_all, take_more, map-append}
 use Rattle.std.proofs.lemmas.Option.{slice_get-map}
-use Rattle.label_tree.specs.Rose.{Rose, node, Roses, none, more, label_of, kids_of, roses_of, list_of}
-use Rattle.label_tree.proofs.Kids.{roses_of-drop}
+use Rattle.base_trees.specs.Rose.{Rose, node, Roses, none, more, label_of, kids_of, roses_of, list_of}
+use Rattle.base_trees.proofs.Kids.{roses_of-drop}
 use Rattle.asn_types.specs.Refs.{is_element}
 use Rattle.module_text.specs.Texts.{parts_of}
 use Rattle.module_text.specs.declared.types.PlainForm.{PlainForm}
@@ -14,7 +14,7 @@ use Rattle.module_text.specs.declared.types.PlainForm.TheVariants as form
 use Rattle.module_text.specs.declared.types.PlainPart.{PlainPart}
 use Rattle.module_text.specs.declared.types.PlainLabel.{PlainLabel}
 use Rattle.module_text.specs.declared.modules.PlainAssignment.{PlainAssignment}
-use Rattle.module_faults.specs.Resolving.{role_of, number_of, body_at, body_of, if_reference, near_references, near_references_of, all_references, all_references_in, chains_within, chains_end}
+use Rattle.module_text.specs.Resolving.{role_of, number_of, body_at, body_of, if_reference, near_references, near_references_of, all_references, all_references_in, chains_within, chains_end}
 use Rattle.module_check.specs.Known.{leads_in, near_part, all_within}
 
 pub roses_of-list_of : {L : Type 0} (ts : Roses L) → roses_of (list_of ts) ≡ ts

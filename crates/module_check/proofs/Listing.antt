@@ -6,12 +6,12 @@ use Rattle.std.proofs.lemmas.Bool.{ltb-true, ltb-false, lt-ltb, le-ltb, leb-true
 use Rattle.std.proofs.lemmas.List.{at_drop_more, at_drop_all, take_more}
 use Rattle.std.proofs.lemmas.List.Folds.{list_any-append}
 use Rattle.std.proofs.lemmas.Option.{slice_get_read, none-some, same_Some}
-use Rattle.xa_base.specs.Limits.{is_empty}
-use Rattle.label_tree.specs.Rose.{Rose, node, Roses, none, more, label_of, kids_of, roses_of}
-use Rattle.label_tree.proofs.Kids.{roses_of-drop}
+use Rattle.base_texts.specs.Limits.{is_empty}
+use Rattle.base_trees.specs.Rose.{Rose, node, Roses, none, more, label_of, kids_of, roses_of}
+use Rattle.base_trees.proofs.Kids.{roses_of-drop}
 use Rattle.simple_types.specs.declared.simples.Simple.{Simple}
 use Rattle.simple_types.specs.Space.{Space}
-use Rattle.name_map.specs.ReservedWords.{reserved_words}
+use Rattle.asn_names.specs.ReservedWords.{reserved_words}
 use Rattle.module_text.specs.declared.marks.PartMark.{PartMark}
 use Rattle.module_text.specs.declared.marks.TypeMark.{TypeMark}
 use Rattle.module_text.specs.declared.types.PlainName.{PlainName}
@@ -22,17 +22,17 @@ use Rattle.module_text.specs.declared.types.PlainLabel.{PlainLabel}
 use Rattle.module_text.specs.declared.modules.PlainAssignment.{PlainAssignment}
 use Rattle.module_text.specs.Ranks.{rank_of_type_mark}
 use Rattle.module_text.specs.Texts.{parts_of}
-use Rattle.module_faults.specs.declared.reasons.Fault.{Fault}
-use Rattle.module_faults.specs.declared.reasons.ModuleWhy.{ModuleWhy}
-use Rattle.module_faults.specs.declared.reasons.ModuleWhy.TheVariants.{Duplicate, LongChain, Spelling}
-use Rattle.module_faults.specs.declared.spots.Spot.{Spot}
-use Rattle.module_faults.specs.declared.spots.Spot.TheVariants.{Elsewhere}
-use Rattle.module_faults.specs.Listed.{fault, first, unless}
-use Rattle.module_faults.specs.Told.{has_list, has_attribute}
-use Rattle.module_faults.specs.Resolving.{resolve, body_at, chains_end}
-use Rattle.module_faults.specs.Simple.{simple_told}
-use Rattle.module_faults.specs.Marks.{type_mark_may, stands_once, next_item}
-use Rattle.module_faults.specs.Faults.{has_text, is_listed, type_mark_faults, form_faults, part_faults, type_faults, nameless_parts, reference_faults, is_bare, is_named_so, part_mark_faults, fixed_faults, absence_faults, space_at, part_spot, space_through, faults_from, assignment_faults}
+use Rattle.module_text.specs.declared.reasons.Fault.{Fault}
+use Rattle.module_text.specs.declared.reasons.ModuleWhy.{ModuleWhy}
+use Rattle.module_text.specs.declared.reasons.ModuleWhy.TheVariants.{Duplicate, LongChain, Spelling}
+use Rattle.module_text.specs.declared.spots.Spot.{Spot}
+use Rattle.module_text.specs.declared.spots.Spot.TheVariants.{Elsewhere}
+use Rattle.module_text.specs.Listed.{fault, first, unless}
+use Rattle.module_text.specs.Told.{has_list, has_attribute}
+use Rattle.module_text.specs.Resolving.{resolve, body_at, chains_end}
+use Rattle.module_text.specs.Simple.{simple_told}
+use Rattle.module_text.specs.Marks.{type_mark_may, stands_once, next_item}
+use Rattle.module_text.specs.Faults.{has_text, is_listed, type_mark_faults, form_faults, part_faults, type_faults, nameless_parts, reference_faults, is_bare, is_named_so, part_mark_faults, fixed_faults, absence_faults, space_at, part_spot, space_through, faults_from, assignment_faults}
 use Rattle.module_simple.specs.Made.{Makes, made_space}
 use Rattle.module_check.specs.Known.{AreSimples}
 use Rattle.module_check.specs.Judging.{body_faults, front_faults, value_faults, faults_there, own_faults}

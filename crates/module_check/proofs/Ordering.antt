@@ -3,20 +3,20 @@ use Rattle.std.proofs.Common.{◌≡◌, ℕ, suc, ◌-◌, cond, not, Option, S
 use Rattle.std.specs.Prelude.{if◌then◌else◌}
 use Rattle.std.proofs.lemmas.List.{drop_more, at_drop_all, append-nil}
 use Rattle.std.proofs.lemmas.Option.{none-some}
-use Rattle.label_tree.specs.Rose.{Rose, Roses, roses_of, list_of, label_of}
-use Rattle.label_tree.proofs.Roses.{list_of-roses_of}
+use Rattle.base_trees.specs.Rose.{Rose, Roses, roses_of, list_of, label_of}
+use Rattle.base_trees.proofs.Roses.{list_of-roses_of}
 use Rattle.module_text.specs.declared.modules.PlainAssignment.{PlainAssignment}
 use Rattle.asn_types.specs.declared.roles.Role.{Role}
 use Rattle.asn_types.specs.Refs.{is_element}
 use Rattle.module_text.specs.declared.types.PlainName.{PlainName}
 use Rattle.module_text.specs.declared.types.PlainPart.{PlainPart}
 use Rattle.module_text.specs.declared.types.PlainLabel.{PlainLabel}
-use Rattle.module_faults.specs.Told.{has_use_nil}
+use Rattle.module_text.specs.Told.{has_use_nil}
 use Rattle.module_text.specs.Texts.{parts_of}
-use Rattle.module_faults.specs.Resolving.{role_of, order_place, resolve}
+use Rattle.module_text.specs.Resolving.{role_of, order_place, resolve}
 use Rattle.std.specs.Borrow.{Bor}
 use Rattle.module_check.specs.Elements.{with_element, names_of, texts_in, part_of_order, content_of, content_order}
-use Rattle.module_faults.specs.Orders.{is_sequence, is_group, is_order, may_be_absent, element_identifiers, is_order_of, parts_from, are_none, has_no_group, are_equal, ordered, is_order_part, stands_alone, is_ordered, has_order_part}
+use Rattle.module_text.specs.Orders.{is_sequence, is_group, is_order, may_be_absent, element_identifiers, is_order_of, parts_from, are_none, has_no_group, are_equal, ordered, is_order_part, stands_alone, is_ordered, has_order_part}
 
 abbrev pub identifiers_from : PlainLabel → ℕ → List PlainPart → List (List ℕ)
 identifiers_from l i parts = map (λ (part : PlainPart). part.identifier) (parts_from l is_element i parts)

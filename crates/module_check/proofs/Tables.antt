@@ -8,11 +8,11 @@ use Rattle.std.proofs.lemmas.List.{take_more, length-take-le}
 use Rattle.std.proofs.lemmas.Option.{cond_some, none-some, same_Some, slice_get_read}
 use Rattle.std.proofs.lemmas.Iterator.Adapters.{position_from-zero}
 use Rattle.std.proofs.lemmas.Slice.Eq.{bytes_eq-Decides}
-use Rattle.label_tree.specs.Rose.{Rose}
+use Rattle.base_trees.specs.Rose.{Rose}
 use Rattle.module_text.specs.declared.types.PlainLabel.{PlainLabel}
 use Rattle.module_text.specs.declared.modules.PlainAssignment.{PlainAssignment}
 use Rattle.module_check.specs.Known.{NotesReference}
-use Rattle.module_faults.specs.Resolving.{number_of, body_at, next, follow, resolve}
+use Rattle.module_text.specs.Resolving.{number_of, body_at, next, follow, resolve}
 
 -- ---- the first place in a list with one element more
 

@@ -2,14 +2,14 @@
 use Rattle.std.specs.Prelude.{ℕ, Bool, false, ◌&&◌, not, Option, Some, None, List, ◌∷◌, map, slice_get, if◌then◌else◌}
 use Rattle.std.specs.Option.{option_map}
 use Rattle.std.specs.Borrow.{Bor}
-use Rattle.label_tree.specs.Rose.{Roses, list_of}
+use Rattle.base_trees.specs.Rose.{Roses, list_of}
 use Rattle.asn_types.specs.Refs.{is_element}
 use Rattle.module_text.specs.declared.types.PlainName.{PlainName}
 use Rattle.module_text.specs.declared.types.PlainPart.{PlainPart}
 use Rattle.module_text.specs.declared.types.PlainLabel.{PlainLabel}
 use Rattle.module_text.specs.Texts.{parts_of}
-use Rattle.module_faults.specs.Resolving.{role_of, order_place}
-use Rattle.module_faults.specs.Orders.{is_sequence, is_order, is_order_of, may_be_absent, has_no_group, stands_alone, element_identifiers}
+use Rattle.module_text.specs.Resolving.{role_of, order_place}
+use Rattle.module_text.specs.Orders.{is_sequence, is_order, is_order_of, may_be_absent, has_no_group, stands_alone, element_identifiers}
 use Rattle.module_check.specs.declared.orders.Content.{Content}
 
 -- that of the part with number i, where it is an element, before those of the parts behind it

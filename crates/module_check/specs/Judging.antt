@@ -1,19 +1,19 @@
 -- What a part is judged by.
 use Rattle.std.specs.Prelude.{ℕ, Bool, false, Option, None, List, [], ◌++◌, is_some, if◌then◌else◌}
-use Rattle.label_tree.specs.Rose.{Rose, Roses, node, label_of}
+use Rattle.base_trees.specs.Rose.{Rose, Roses, node, label_of}
 use Rattle.simple_types.specs.Space.{Space}
 use Rattle.module_text.specs.declared.types.PlainPart.{PlainPart}
 use Rattle.module_text.specs.declared.types.PlainForm.{PlainForm}
 use Rattle.module_text.specs.declared.types.PlainLabel.{PlainLabel}
 use Rattle.module_text.specs.declared.modules.PlainAssignment.{PlainAssignment}
-use Rattle.module_faults.specs.declared.spots.Spot.{Spot}
-use Rattle.module_faults.specs.declared.spots.Spot.TheVariants.{Elsewhere}
-use Rattle.module_faults.specs.declared.reasons.ModuleWhy.TheVariants as why
-use Rattle.module_faults.specs.declared.reasons.Fault.{Fault}
-use Rattle.module_faults.specs.Listed.{unless}
-use Rattle.module_faults.specs.Resolving.{resolve}
-use Rattle.module_faults.specs.Simple.{is_simple}
-use Rattle.module_faults.specs.Faults.{reference_faults, is_bare, is_named_so, part_mark_faults, part_spot, space_at, type_faults, fixed_faults, absence_faults}
+use Rattle.module_text.specs.declared.spots.Spot.{Spot}
+use Rattle.module_text.specs.declared.spots.Spot.TheVariants.{Elsewhere}
+use Rattle.module_text.specs.declared.reasons.ModuleWhy.TheVariants as why
+use Rattle.module_text.specs.declared.reasons.Fault.{Fault}
+use Rattle.module_text.specs.Listed.{unless}
+use Rattle.module_text.specs.Resolving.{resolve}
+use Rattle.module_text.specs.Simple.{is_simple}
+use Rattle.module_text.specs.Faults.{reference_faults, is_bare, is_named_so, part_mark_faults, part_spot, space_at, type_faults, fixed_faults, absence_faults}
 use Rattle.module_check.specs.Known.{Knows, AreSimples, AreContents}
 use Rattle.module_check.specs.declared.context.Context.{Context}
 

@@ -2,15 +2,15 @@
 use Rattle.std.specs.Prelude.{◌≡◌, ℕ, Bool, true, false, Option, Some, None, List, [], ◌∷◌, map, slice_get, is_some, bytes_eq, if◌then◌else◌}
 use Rattle.simple_types.specs.declared.simples.Simple.{Simple}
 use Rattle.asn_types.specs.Refs.{is_element}
-use Rattle.label_tree.specs.Rose.{Rose, label_of}
+use Rattle.base_trees.specs.Rose.{Rose, label_of}
 use Rattle.indexmap.specs.IndexMap.{get}
 use Rattle.module_text.specs.declared.types.PlainPart.{PlainPart}
 use Rattle.module_text.specs.declared.types.PlainLabel.{PlainLabel}
 use Rattle.module_text.specs.declared.modules.PlainAssignment.{PlainAssignment}
-use Rattle.module_faults.specs.declared.spots.Spot.TheVariants.{Elsewhere}
-use Rattle.module_faults.specs.Resolving.{role_of, number_of, near_references, chains_within}
-use Rattle.module_faults.specs.Simple.{simple_told}
-use Rattle.module_index.specs.Indexed.{EachOf, AreIndexes}
+use Rattle.module_text.specs.declared.spots.Spot.TheVariants.{Elsewhere}
+use Rattle.module_text.specs.Resolving.{role_of, number_of, near_references, chains_within}
+use Rattle.module_text.specs.Simple.{simple_told}
+use Rattle.module_pieces.specs.Indexed.{EachOf, AreIndexes}
 use Rattle.module_simple.specs.Made.{Makes}
 use Rattle.module_check.specs.declared.references.References.{References}
 use Rattle.module_check.specs.declared.orders.Content.{Content}

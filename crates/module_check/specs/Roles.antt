@@ -2,7 +2,7 @@
 use Rattle.std.specs.Prelude.{◌≡◌, length}
 use Rattle.module_text.specs.declared.types.PlainLabel.{PlainLabel}
 use Rattle.module_text.specs.Texts.{parts_of}
-use Rattle.module_faults.specs.Told.{has_use_nil, has_embed_values, has_use_order, has_use_union}
+use Rattle.module_text.specs.Told.{has_use_nil, has_embed_values, has_use_order, has_use_union}
 use Rattle.module_check.specs.declared.parts.Roles.{Roles}
 
 pub record AreRoles (r : Roles) (l : PlainLabel) : Type 0 where

@@ -1,20 +1,19 @@
 //! The simple types for which the types of attributes stand.
 ghost use Rattle.std.specs.Prelude.{◌≡◌, None, IfOk, MatchOption, if◌then◌else◌};
-ghost use Rattle.module_faults.specs.declared.spots.Spot.TheVariants.{Elsewhere};
-ghost use Rattle.module_faults.specs.Resolving.{resolve};
-ghost use Rattle.module_faults.specs.Simple as simple;
-ghost use Rattle.module_faults.specs.Faults as rule;
+ghost use Rattle.module_text.specs.declared.spots.Spot.TheVariants.{Elsewhere};
+ghost use Rattle.module_text.specs.Resolving.{resolve};
+ghost use Rattle.module_text.specs.Simple as simple;
+ghost use Rattle.module_text.specs.Faults as rule;
 ghost use Rattle.module_simple.specs.Made.{Makes};
 ghost use Rattle.module_check.specs.Judging.{IsKnown};
 
 use crate::context::Context;
-use label_tree::Tree;
-use module_faults::Spot;
+use base_texts::Memory;
+use base_trees::Tree;
 use module_simple::simple_told;
-use module_text::{PlainForm, PlainLabel};
+use module_text::{PlainForm, PlainLabel, Spot};
 use simple_types::Simple;
 use std::alloc::Global;
-use xa_base::Memory;
 
 /// The simple type for which the type of an attribute stands, but for references. None of a type that is none of an attribute.
 pub fn own_simple(

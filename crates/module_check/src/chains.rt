@@ -2,16 +2,16 @@
 ghost use Rattle.std.specs.Prelude.{◌≡◌, ◌<◌, IfOk, Some, length, map, option_map};
 ghost use Rattle.module_text.specs.Texts as texts;
 ghost use Rattle.module_text.specs.declared.modules.PlainAssignment.{PlainAssignment};
-ghost use Rattle.module_faults.specs.Resolving as rule;
+ghost use Rattle.module_text.specs.Resolving as rule;
 ghost use Rattle.module_check.specs.Known.{Knows, leads_in, near_part, all_within};
 ghost use Rattle.module_check.specs.Roles.{AreRoles};
 
 use crate::parts::{Roles, is_element, parts_of, roles_of};
 use crate::references::References;
-use label_tree::Tree;
+use base_texts::{Memory, Text};
+use base_trees::Tree;
 use module_text::{PlainAssignment, PlainForm, PlainLabel, PlainPart};
 use std::alloc::Global;
-use xa_base::{Memory, Text};
 
 /// What is known of the assignments to which references lead.
 #[derive(Clone, Copy)]

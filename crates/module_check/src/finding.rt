@@ -1,9 +1,9 @@
 //! The first fault of a plain text.
 ghost use Rattle.std.specs.Prelude.{◌≡◌, ◌&&◌, IfOk, is_some, not};
-ghost use Rattle.name_map.specs.ReservedWords.{reserved_words};
-ghost use Rattle.module_faults.specs.Listed.{first};
-ghost use Rattle.module_faults.specs.declared.spots.Spot.TheVariants.{Elsewhere};
-ghost use Rattle.module_faults.specs.Faults as rule;
+ghost use Rattle.asn_names.specs.ReservedWords.{reserved_words};
+ghost use Rattle.module_text.specs.Listed.{first};
+ghost use Rattle.module_text.specs.declared.spots.Spot.TheVariants.{Elsewhere};
+ghost use Rattle.module_text.specs.Faults as rule;
 ghost use Rattle.module_check.specs.Known.{AreSimples, all_within};
 ghost use Rattle.module_check.specs.Judging.{IsKnown, body_faults};
 
@@ -14,13 +14,12 @@ use crate::orders::contents_of;
 use crate::references::References;
 use crate::reserved::is_reserved;
 use crate::type_faults::type_fault;
-use module_faults::{Fault, ModuleWhy, Spot};
+use base_texts::{Memory, Text};
 use module_pieces::{Seen, has_attribute, part_mark_fault, unless};
 use module_simple::simple_told;
-use module_text::PlainAssignment;
+use module_text::{Fault, ModuleWhy, PlainAssignment, Spot};
 use simple_types::Simple;
 use std::alloc::Global;
-use xa_base::{Memory, Text};
 
 // Of each assignment, the simple type for which its type stands.
 fn simples_of(alloc: Global, assignments: &[PlainAssignment]) -> Result<Vec<Option<Simple>>, Memory>

@@ -1,21 +1,20 @@
 //! What stands behind the instructions of a type, but for its parts.
 ghost use Rattle.std.specs.Prelude.{◌≡◌, None, IfOk, []};
-ghost use Rattle.module_faults.specs.Listed.{first};
-ghost use Rattle.module_faults.specs.Told as told;
-ghost use Rattle.module_faults.specs.Simple as simple;
-ghost use Rattle.module_faults.specs.Faults as rule;
+ghost use Rattle.module_text.specs.Listed.{first};
+ghost use Rattle.module_text.specs.Told as told;
+ghost use Rattle.module_text.specs.Simple as simple;
+ghost use Rattle.module_text.specs.Faults as rule;
 ghost use Rattle.module_check.specs.Judging.{IsKnown};
 
 use crate::context::Context;
-use module_faults::{Fault, ModuleWhy, Spot};
+use base_texts::Memory;
 use module_pieces::{numbered_fault, range_fault, size_fault, unless, word_fault, written_words};
 use module_simple::is_order_item;
-use module_text::{PlainForm, PlainName, TypeMark};
+use module_text::{Fault, ModuleWhy, PlainForm, PlainName, Spot, TypeMark};
 use std::alloc::Global;
-use xa_base::Memory;
 
 /// The fault of a reference without an assignment.
-#[tactic(auto, unfolding(module_faults::specs::Listed::first))]
+#[tactic(auto, unfolding(module_text::specs::Listed::first))]
 pub fn reference_fault(context: &Context, form: &PlainForm) -> Option<Fault>
     requires { IsKnown context.now }
     ensures { result ≡ first (rule.reference_faults context.now.assignments.now form.now) }
@@ -46,7 +45,7 @@ fn items_fault(
 }
 
 /// The first fault of what stands behind the instructions of a type that stands here, but for its parts.
-#[tactic(auto, unfolding(module_faults::specs::Listed::first))]
+#[tactic(auto, unfolding(module_text::specs::Listed::first))]
 pub fn form_fault(
     context: &Context,
     spot: Spot,

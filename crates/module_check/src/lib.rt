@@ -1,6 +1,6 @@
-//! The check of a plain text: its first fault.
+//! Finds the first fault of a printed module.
 //!
-//! Read first: docs/MODULE-READ.md, `Faults` in the specs of `module_faults`, then `src/type_faults.rt`.
+//! Read first: docs/MODULE-READ.md, `Faults` in the specs of `module_text`, then `src/type_faults.rt`.
 #![tactic(auto)]
 
 mod attributes;

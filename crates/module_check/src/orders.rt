@@ -1,21 +1,21 @@
 //! What USE-ORDER asks of a type.
 ghost use Rattle.std.specs.Prelude.{◌≡◌, IfOk};
-ghost use Rattle.label_tree.specs.Rose.{label_of, kids_of, roses_of};
-ghost use Rattle.module_faults.specs.Resolving.{order_place, resolve};
-ghost use Rattle.module_faults.specs.Orders as rule;
+ghost use Rattle.base_trees.specs.Rose.{label_of, kids_of, roses_of};
+ghost use Rattle.module_text.specs.Resolving.{order_place, resolve};
+ghost use Rattle.module_text.specs.Orders as rule;
 ghost use Rattle.module_check.specs.Elements.{texts_in, names_of, part_of_order, content_order, content_of, elements_told};
 ghost use Rattle.module_check.specs.Known.{AreContents};
 ghost use Rattle.module_check.specs.Judging.{IsKnown};
 
 use crate::context::Context;
 use crate::parts::{is_element, is_group, is_order, parts_of, roles_of};
-use label_tree::Tree;
+use base_texts::{Memory, Text};
+use base_trees::Tree;
 use module_pieces::{
     has_embed_values, has_use_nil, has_use_order, is_any_list, is_sequence, may_be_absent,
 };
 use module_text::{PlainAssignment, PlainForm, PlainLabel, PlainName, TypeMark};
 use std::alloc::Global;
-use xa_base::{Memory, Text};
 
 /// The identifiers of the elements of a SEQUENCE that may be the content of a type with USE-NIL and their order.
 #[derive(Drop)]

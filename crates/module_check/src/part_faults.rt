@@ -1,26 +1,25 @@
 //! The faults of a part beside those of its type.
 ghost use Rattle.std.specs.Prelude.{◌≡◌, ◌<◌, ◌++◌, ◌∷◌, ◌||◌, IfOk, OnOk, [], length, false, nat_lt, if◌then◌else◌};
-ghost use Rattle.xa_base.specs.Limits.{is_empty};
+ghost use Rattle.base_texts.specs.Limits.{is_empty};
 ghost use Rattle.module_text.specs.Texts as texts;
-ghost use Rattle.module_faults.specs.Listed.{first};
-ghost use Rattle.module_faults.specs.Told as told;
-ghost use Rattle.module_faults.specs.Faults as rule;
+ghost use Rattle.module_text.specs.Listed.{first};
+ghost use Rattle.module_text.specs.Told as told;
+ghost use Rattle.module_text.specs.Faults as rule;
 ghost use Rattle.module_simple.specs.Made.{IsMade, made_space};
 ghost use Rattle.module_check.specs.Judging.{IsKnown, front_faults, value_faults};
 
 use crate::context::Context;
 use crate::forms::reference_fault;
 use crate::parts::{is_order, roles_of};
-use label_tree::Tree;
-use module_faults::{Fault, ModuleWhy, Spot};
+use base_texts::{Memory, Text};
+use base_trees::Tree;
 use module_pieces::{
     Seen, has_embed_values, has_list, has_use_order, is_sequence_of, part_mark_fault, unless,
 };
 use module_simple::{absence_fault, fixed_fault, item_spot};
-use module_text::{PlainForm, PlainLabel, PlainPart};
+use module_text::{Fault, ModuleWhy, PlainForm, PlainLabel, PlainPart, Spot};
 use simple_types::Simple;
 use std::alloc::Global;
-use xa_base::{Memory, Text};
 
 /// Where the type of a part stands.
 pub fn part_spot(spot: Spot, label: &PlainLabel, i: usize, part: &PlainPart) -> Spot
@@ -47,7 +46,7 @@ fn is_bare(part: &PlainPart, label: &PlainLabel) -> bool
 }
 
 // The fault of a part that is a reference and nothing else.
-#[tactic(auto, unfolding(module_faults::specs::Listed::first))]
+#[tactic(auto, unfolding(module_text::specs::Listed::first))]
 fn bare_fault(context: &Context, part: &PlainPart, label: &PlainLabel) -> Option<Fault>
     requires { IsKnown context.now }
     ensures { result ≡ first (if rule.is_bare part.now label.now then rule.reference_faults context.now.assignments.now label.now.form else []) }
@@ -67,7 +66,7 @@ fn is_named_so(nameless: bool, form: &PlainForm, part: &PlainPart) -> bool
 }
 
 /// The first fault of a part but for Duplicate, before its type.
-#[tactic(auto, using(crate::proofs::Firsts::firsts), unfolding(module_faults::specs::Listed::first))]
+#[tactic(auto, using(crate::proofs::Firsts::firsts), unfolding(module_text::specs::Listed::first))]
 pub fn part_front_fault(
     context: &Context,
     nameless: bool,

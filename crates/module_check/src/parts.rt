@@ -2,8 +2,8 @@
 ghost use Rattle.std.specs.Prelude.{◌≡◌, ◌<◌, length};
 ghost use Rattle.asn_types.specs.Refs as refs;
 ghost use Rattle.module_text.specs.Texts as texts;
-ghost use Rattle.module_faults.specs.Resolving as roles;
-ghost use Rattle.module_faults.specs.Orders as orders;
+ghost use Rattle.module_text.specs.Resolving as roles;
+ghost use Rattle.module_text.specs.Orders as orders;
 ghost use Rattle.module_check.specs.Roles.{AreRoles};
 
 use asn_types::Role;

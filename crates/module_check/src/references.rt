@@ -1,16 +1,16 @@
 //! References and the assignments that they stand for.
 ghost use Rattle.std.specs.Prelude.{◌≡◌, ◌<◌, length, Some, None, IfOk, OnOk, IfSome, MatchOption, bytes_eq};
 ghost use Rattle.indexmap.specs.IndexMap.{get};
-ghost use Rattle.module_faults.specs.Resolving as rule;
-ghost use Rattle.module_index.specs.Indexed.{Indexes};
+ghost use Rattle.module_text.specs.Resolving as rule;
+ghost use Rattle.module_pieces.specs.Indexed.{Indexes};
 ghost use Rattle.module_check.specs.Known.{Knows, NotesReference};
 
+use base_texts::{Memory, Text};
+use base_trees::Tree;
 use indexmap::IndexMap;
-use label_tree::Tree;
-use module_index::{Index, indexes_of};
+use module_pieces::{Index, indexes_of};
 use module_text::{PlainAssignment, PlainForm, PlainLabel};
 use std::alloc::Global;
-use xa_base::{Memory, Text};
 
 /// The references of assignments, each with the number of the first that has it, and of each assignment the index of its type.
 #[derive(Drop)]

@@ -1,8 +1,8 @@
 //! The reserved words of ASN.1.
 ghost use Rattle.std.specs.Prelude.{◌≡◌, ◌==◌, bytes_eq};
 ghost use Rattle.std.specs.List.{list_any, slice_split};
-ghost use Rattle.name_map.specs.ReservedWords.{reserved_words};
-ghost use Rattle.module_faults.specs.Faults.{has_text};
+ghost use Rattle.asn_names.specs.ReservedWords.{reserved_words};
+ghost use Rattle.module_text.specs.Faults.{has_text};
 
 // The words, with a space between two.
 const RESERVED_WORDS: &str =

@@ -1,9 +1,9 @@
 //! The first fault of a type, and of the parts inside it.
 ghost use Rattle.std.specs.Prelude.{◌≡◌, ◌<◌, ◌++◌, None, IfOk, [], length};
-ghost use Rattle.label_tree.specs.Rose.{label_of, kids_of, roses_of};
+ghost use Rattle.base_trees.specs.Rose.{label_of, kids_of, roses_of};
 ghost use Rattle.module_text.specs.Texts as texts;
-ghost use Rattle.module_faults.specs.Listed.{first};
-ghost use Rattle.module_faults.specs.Faults as rule;
+ghost use Rattle.module_text.specs.Listed.{first};
+ghost use Rattle.module_text.specs.Faults as rule;
 ghost use Rattle.module_simple.specs.Made.{Makes, IsMade, made_space};
 ghost use Rattle.module_check.specs.Judging.{IsKnown, value_faults, faults_there, own_faults};
 
@@ -15,12 +15,11 @@ use crate::part_faults::{
 };
 use crate::parts::parts_of;
 use crate::type_marks::type_mark_fault;
-use label_tree::Tree;
-use module_faults::{Fault, ModuleWhy, Spot};
+use base_texts::Memory;
+use base_trees::Tree;
 use module_pieces::{Seen, has_attribute};
-use module_text::{PlainForm, PlainLabel, PlainPart};
+use module_text::{Fault, ModuleWhy, PlainForm, PlainLabel, PlainPart, Spot};
 use simple_types::Simple;
-use xa_base::Memory;
 
 // The first fault of the type of a part, which stands here, and of what stands behind it. The type stands for this simple type,
 // where the part has ATTRIBUTE.

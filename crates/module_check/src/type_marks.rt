@@ -1,24 +1,23 @@
 //! Encoding instructions of types.
 ghost use Rattle.std.specs.Prelude.{◌≡◌, ◌<◌, ◌+◌, ◌^◌, ◌&&◌, None, IfOk, IfSome, length, drop, option_map, position, bytes_eq, if◌then◌else◌};
-ghost use Rattle.label_tree.specs.Rose.{label_of, kids_of, roses_of};
+ghost use Rattle.base_trees.specs.Rose.{label_of, kids_of, roses_of};
 ghost use Rattle.module_text.specs.Ranks.{rank_of_type_mark};
 ghost use Rattle.module_text.specs.declared.types.PlainName.{PlainName};
-ghost use Rattle.module_faults.specs.Listed.{first};
-ghost use Rattle.module_faults.specs.Simple as simple;
-ghost use Rattle.module_faults.specs.Marks as may;
-ghost use Rattle.module_faults.specs.Faults as rule;
+ghost use Rattle.module_text.specs.Listed.{first};
+ghost use Rattle.module_text.specs.Simple as simple;
+ghost use Rattle.module_text.specs.Marks as may;
+ghost use Rattle.module_text.specs.Faults as rule;
 ghost use Rattle.module_check.specs.Judging.{IsKnown, is_simple_of};
 
 use crate::context::Context;
 use crate::orders::has_order_part;
-use label_tree::Tree;
-use module_faults::{Fault, ModuleWhy, Spot};
+use base_texts::{Memory, Text};
+use base_trees::Tree;
 use module_pieces::{
     has_content, has_texts, is_choice, is_sequence_of, is_told_so, rank, stands_once, unless,
 };
 use module_simple::{is_order_item, simple_told};
-use module_text::{PlainForm, PlainLabel, PlainName, TypeMarkKind};
-use xa_base::{Memory, Text};
+use module_text::{Fault, ModuleWhy, PlainForm, PlainLabel, PlainName, Spot, TypeMarkKind};
 
 // The number of the first of these items with the identifier.
 fn position_of(items: &[PlainName], identifier: &Text) -> Option<usize>

@@ -1,16 +1,16 @@
 -- The laws of what is said of a part behind its type.
 use Rattle.std.proofs.Common.{◌≡◌, ℕ, ◌+◌, ◌≤◌, ◌⊎◌, inl, inr, List, [], ◌∷◌, ◌++◌, length, refl, sym, ap, ◌∙◌, subst, arith, codes, Option, Some, None, append_assoc, append-nil, length-append}
-use Rattle.label_tree.specs.Rose.{Rose, node, none}
-use Rattle.plain_text.specs.Reading.{word_at, nothing_at, or_at}
-use Rattle.plain_text.specs.Shapes.{Sunk, Anything, never, word_of, IsFailed, IsUnread, BothFine, both_written, both_deep, EitherFine, either_deep, either_written, BehindFine, shifted, behind_word}
-use Rattle.plain_text.specs.Laws.{Law, Early}
-use Rattle.plain_text.proofs.Steps.{none_some, moved_is}
-use Rattle.plain_text.proofs.WordLaws.{word_law, nothing_law}
-use Rattle.plain_text.proofs.Then.{then_law}
-use Rattle.plain_text.proofs.Or.{or_law}
-use Rattle.plain_text.proofs.As.{Renames, as_law}
-use Rattle.plain_text.proofs.Fixed.{behind_law}
-use Rattle.plain_text.proofs.Early.{split_front, then_early, or_early, as_early, never_early, behind_early}
+use Rattle.base_trees.specs.Rose.{Rose, node, none}
+use Rattle.module_grammar.specs.Reading.{word_at, nothing_at, or_at}
+use Rattle.module_grammar.specs.Shapes.{Sunk, Anything, never, word_of, IsFailed, IsUnread, BothFine, both_written, both_deep, EitherFine, either_deep, either_written, BehindFine, shifted, behind_word}
+use Rattle.module_grammar.specs.Laws.{Law, Early}
+use Rattle.module_grammar.proofs.Steps.{none_some, moved_is}
+use Rattle.module_grammar.proofs.WordLaws.{word_law, nothing_law}
+use Rattle.module_grammar.proofs.Then.{then_law}
+use Rattle.module_grammar.proofs.Or.{or_law}
+use Rattle.module_grammar.proofs.As.{Renames, as_law}
+use Rattle.module_grammar.proofs.Fixed.{behind_law}
+use Rattle.module_grammar.proofs.Early.{split_front, then_early, or_early, as_early, never_early, behind_early}
 use Rattle.module_text.specs.Plain.{IsAbsence}
 use Rattle.module_text.specs.Texts.{value_text, fixed_text, absence_text}
 use Rattle.module_text.specs.Places.{placed_value, placed_absence}

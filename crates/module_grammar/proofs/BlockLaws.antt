@@ -1,13 +1,13 @@
 -- The laws of blocks of parts, each on a line of its own, and what they say of a tree.
 use Rattle.std.proofs.Common.{◌≡◌, ℕ, suc, ◌+◌, ◌<◌, List, [], ◌∷◌, ◌++◌, length, map, refl, sym, ap, ap₂, ◌∙◌, subst, arith, codes, Option, append_assoc, length-append, All}
 use Rattle.std.proofs.lemmas.List.Elements.{All-nil, All-cons, All-head, All-tail}
-use Rattle.label_tree.specs.Rose.{Roses, none, more, list_of, length_all}
+use Rattle.base_trees.specs.Rose.{Roses, none, more, list_of, length_all}
 use Rattle.module_print.specs.Notation.{new_line, block}
-use Rattle.plain_text.specs.Reading.{Reader, word_at, behind_at, before_at}
-use Rattle.plain_text.specs.Shapes.{Sunk, AnyRest, IsFailed, EachFine, BehindFine, shifted, behind_word, before_word}
-use Rattle.plain_text.specs.Laws.{Law, Early}
-use Rattle.plain_text.proofs.Fixed.{behind_law, before_law}
-use Rattle.plain_text.proofs.Early.{behind_early, before_early}
+use Rattle.module_grammar.specs.Reading.{Reader, word_at, behind_at, before_at}
+use Rattle.module_grammar.specs.Shapes.{Sunk, AnyRest, IsFailed, EachFine, BehindFine, shifted, behind_word, before_word}
+use Rattle.module_grammar.specs.Laws.{Law, Early}
+use Rattle.module_grammar.proofs.Fixed.{behind_law, before_law}
+use Rattle.module_grammar.proofs.Early.{behind_early, before_early}
 use Rattle.module_text.specs.Plain.{AreTypes}
 use Rattle.module_text.specs.Texts.{part_texts, type_text}
 use Rattle.module_text.specs.Places.{type_at, placed_part, placed_type, placed_parts, placed_types, type_texts}

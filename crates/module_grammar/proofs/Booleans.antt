@@ -2,7 +2,7 @@
 use Rattle.std.proofs.Common.{◌≡◌, ◌==◌, ℕ, Bool, true, false, ◌&&◌, not, nat_le, refl, sym, ap, ◌∙◌, arith, eqb-true}
 use Rattle.std.proofs.lemmas.Bool.{leb-true}
 use Rattle.module_text.specs.Names.{is_capital, is_small}
-use Rattle.xa_base.specs.Digits.{is_digit}
+use Rattle.base_texts.specs.Digits.{is_digit}
 
 pub both : (s t : Bool) → s && t ≡ true → (s ≡ true) × (t ≡ true)
 both true t e = (refl, e)

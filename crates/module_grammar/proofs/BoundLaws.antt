@@ -3,14 +3,14 @@ use Rattle.std.proofs.Common.{◌≡◌, ℕ, ◌+◌, ◌⊎◌, inl, inr, true
 use Rattle.simple_types.specs.declared.simples.Class.{Class}
 use Rattle.simple_types.specs.declared.simples.Class.TheVariants.{Any, Language, NmToken, Name, NcName}
 use Rattle.module_print.specs.Notation.{class_range}
-use Rattle.plain_text.specs.Reading.{word_at, or_at}
-use Rattle.plain_text.specs.Shapes.{Sunk, Anything, AnyRest, never, word_of, IsFailed, IsUnread, BothFine, both_written, both_deep, EitherFine, either_deep, either_written, BehindFine, shifted, behind_word, before_word}
-use Rattle.plain_text.specs.Laws.{Law}
-use Rattle.plain_text.proofs.WordLaws.{word_law}
-use Rattle.plain_text.proofs.Then.{then_law}
-use Rattle.plain_text.proofs.Or.{or_law}
-use Rattle.plain_text.proofs.As.{Renames, as_law, restated, alike}
-use Rattle.plain_text.proofs.Fixed.{behind_law, before_law}
+use Rattle.module_grammar.specs.Reading.{word_at, or_at}
+use Rattle.module_grammar.specs.Shapes.{Sunk, Anything, AnyRest, never, word_of, IsFailed, IsUnread, BothFine, both_written, both_deep, EitherFine, either_deep, either_written, BehindFine, shifted, behind_word, before_word}
+use Rattle.module_grammar.specs.Laws.{Law}
+use Rattle.module_grammar.proofs.WordLaws.{word_law}
+use Rattle.module_grammar.proofs.Then.{then_law}
+use Rattle.module_grammar.proofs.Or.{or_law}
+use Rattle.module_grammar.proofs.As.{Renames, as_law, restated, alike}
+use Rattle.module_grammar.proofs.Fixed.{behind_law, before_law}
 use Rattle.module_text.specs.Names.{are_octets}
 use Rattle.module_text.specs.Plain.{AreEnds, IsRange, IsSize, IsFixed}
 use Rattle.module_text.specs.Texts.{ends_text, range_text, number_range_text, size_text, fixed_text}

@@ -1,9 +1,9 @@
 -- The first type or value of a module that lies too deep, as the grammar lists them.
 use Rattle.std.proofs.Common.{◌≡◌, ℕ, zero, suc, ◌+◌, List, [], ◌∷◌, ◌++◌, length, refl, sym, ap, ap₂, ◌∙◌, subst, arith, codes, Option, option_map, append-nil}
-use Rattle.label_tree.specs.Rose.{node, Roses, none, more, list_of}
+use Rattle.base_trees.specs.Rose.{node, Roses, none, more, list_of}
 use Rattle.module_print.specs.Notation.{new_line}
 use Rattle.module_print.specs.Printed.{labelled, opening}
-use Rattle.plain_text.specs.Shapes.{Sunk, moved, each_deep, behind_word, shifted}
+use Rattle.module_grammar.specs.Shapes.{Sunk, moved, each_deep, behind_word, shifted}
 use Rattle.module_text.specs.Depth.{type_told, deep_values, deep_default, deep_types, deep_in_parts, too_deep}
 use Rattle.module_text.specs.Plain.{limit, IsAbsence, IsComponent, IsAlternative, IsItem, IsAssignment, IsPlain}
 use Rattle.module_text.specs.Texts

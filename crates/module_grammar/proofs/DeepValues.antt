@@ -1,7 +1,7 @@
 -- The first value or type that lies too deep, as the grammar lists them.
 use Rattle.std.proofs.Common.{◌≡◌, ℕ, zero, suc, ◌+◌, List, [], ◌∷◌, ◌++◌, length, refl, sym, ap, ap₂, ◌∙◌, subst, arith, codes, Option, Some, None, option_map, append-nil, length-append}
-use Rattle.label_tree.specs.Rose.{Rose, node, Roses, none, more, list_of, length_all}
-use Rattle.plain_text.specs.Shapes.{Sunk, moved, deeper, each_deep, behind_word, shifted}
+use Rattle.base_trees.specs.Rose.{Rose, node, Roses, none, more, list_of, length_all}
+use Rattle.module_grammar.specs.Shapes.{Sunk, moved, deeper, each_deep, behind_word, shifted}
 use Rattle.module_text.specs.Depth.{Start, deep_values, deep_in_values}
 use Rattle.module_text.specs.Plain.{AreValues}
 use Rattle.module_text.specs.Texts.{value_text}

@@ -3,16 +3,16 @@ use Rattle.std.proofs.Common.{◌≡◌, ℕ, suc, ◌+◌, ◌⊎◌, inl, inr,
 use Rattle.std.proofs.lemmas.Slice.Eq.{bytes_eq-Decides}
 use Rattle.simple_types.specs.declared.simples.Class.{Class}
 use Rattle.simple_types.specs.declared.simples.Class.TheVariants.{Any}
-use Rattle.label_tree.specs.Rose.{Roses, none, more, list_of}
+use Rattle.base_trees.specs.Rose.{Roses, none, more, list_of}
 use Rattle.module_print.specs.Notation.{class_range, new_line}
-use Rattle.plain_text.specs.Reading.{Answer, Found, Fails, Deep, Reader, later, word_at, behind, go_on, then_at, or_else, many_at, answer_map, behind_at, before_at}
-use Rattle.plain_text.specs.Shapes.{Sunk, moved, Anything, AnyRest, never, word_of, IsFailed, IsUnread, BothFine, both_written, both_deep, EitherFine, either_deep, either_written, each_written, BehindFine, shifted, behind_word, before_word}
-use Rattle.plain_text.specs.Laws.{Law}
-use Rattle.plain_text.proofs.WordLaws.{word_law, nothing_law}
-use Rattle.plain_text.proofs.Then.{then_law}
-use Rattle.plain_text.proofs.Or.{or_law}
-use Rattle.plain_text.proofs.As.{Renames, as_law, any_follow}
-use Rattle.plain_text.proofs.Fixed.{behind_law, before_law}
+use Rattle.module_grammar.specs.Reading.{Answer, Found, Fails, Deep, Reader, later, word_at, behind, go_on, then_at, or_else, many_at, answer_map, behind_at, before_at}
+use Rattle.module_grammar.specs.Shapes.{Sunk, moved, Anything, AnyRest, never, word_of, IsFailed, IsUnread, BothFine, both_written, both_deep, EitherFine, either_deep, either_written, each_written, BehindFine, shifted, behind_word, before_word}
+use Rattle.module_grammar.specs.Laws.{Law}
+use Rattle.module_grammar.proofs.WordLaws.{word_law, nothing_law}
+use Rattle.module_grammar.proofs.Then.{then_law}
+use Rattle.module_grammar.proofs.Or.{or_law}
+use Rattle.module_grammar.proofs.As.{Renames, as_law, any_follow}
+use Rattle.module_grammar.proofs.Fixed.{behind_law, before_law}
 use Rattle.module_text.specs.Names.{is_type_word}
 use Rattle.module_text.specs.Plain.{IsItem, IsComponent, IsAlternative}
 use Rattle.module_text.specs.Texts.{item_text, number_range_text, size_text}

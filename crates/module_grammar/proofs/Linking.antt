@@ -1,8 +1,8 @@
 -- What the reader tells, as the grammar says it.
 use Rattle.std.proofs.Common.{◌≡◌, ℕ, ◌+◌, ◌≤◌, List, [], ◌∷◌, refl, sym, ap, ◌∙◌, arith, Option, Some, None}
-use Rattle.plain_text.specs.Shapes.{Sunk}
-use Rattle.plain_text.specs.Laws as laws
-use Rattle.plain_text.specs.Verdicts.{Verdict, Read, Syntax, TooDeep, Exact}
+use Rattle.module_grammar.specs.Shapes.{Sunk}
+use Rattle.module_grammar.specs.Laws as laws
+use Rattle.module_grammar.specs.Verdicts.{Verdict, Read, Syntax, TooDeep, Exact}
 use Rattle.module_text.specs.declared.modules.PlainAssignment.{PlainAssignment}
 use Rattle.module_text.specs.Depth.{Start, too_deep}
 use Rattle.module_text.specs.Grammar.{IsTextOf, Begins, IsLongest, Sinks, IsBroken}

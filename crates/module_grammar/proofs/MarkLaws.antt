@@ -2,14 +2,14 @@
 use Rattle.std.proofs.Common.{◌≡◌, ◌==◌, ℕ, suc, ◌<◌, ◌≤◌, ◌⊎◌, inl, inr, Bool, true, false, ◌&&◌, nat_le, List, [], ◌∷◌, ◌++◌, length, refl, sym, ap, ◌∙◌, subst, arith, codes, Option, None, append_assoc}
 use Rattle.std.proofs.lemmas.Bool.{le-leb, eqb-true, eqb-false}
 use Rattle.module_print.specs.Notation.{quoted}
-use Rattle.plain_text.specs.Reading.{Reader, word_at, then_at, or_at, behind_at, before_at}
-use Rattle.plain_text.specs.Shapes.{Sunk, Anything, AnyRest, never, word_of, IsFailed, IsUnread, BothFine, EitherFine, either_deep, either_written, BehindFine, shifted, behind_word}
-use Rattle.plain_text.specs.Laws.{Law}
-use Rattle.plain_text.proofs.WordLaws.{word_law}
-use Rattle.plain_text.proofs.Then.{then_law}
-use Rattle.plain_text.proofs.Or.{or_law}
-use Rattle.plain_text.proofs.As.{as_law, any_follow, restated, alike}
-use Rattle.plain_text.proofs.Fixed.{behind_law, before_law}
+use Rattle.module_grammar.specs.Reading.{Reader, word_at, then_at, or_at, behind_at, before_at}
+use Rattle.module_grammar.specs.Shapes.{Sunk, Anything, AnyRest, never, word_of, IsFailed, IsUnread, BothFine, EitherFine, either_deep, either_written, BehindFine, shifted, behind_word}
+use Rattle.module_grammar.specs.Laws.{Law}
+use Rattle.module_grammar.proofs.WordLaws.{word_law}
+use Rattle.module_grammar.proofs.Then.{then_law}
+use Rattle.module_grammar.proofs.Or.{or_law}
+use Rattle.module_grammar.proofs.As.{as_law, any_follow, restated, alike}
+use Rattle.module_grammar.proofs.Fixed.{behind_law, before_law}
 use Rattle.module_text.specs.Ranks.{rank_of_part_mark, rank_of_type_mark, part_marks_from, type_marks_from}
 use Rattle.module_text.specs.Texts.{as_text, part_mark_text, type_mark_text, part_marks_text, type_marks_text}
 use Rattle.module_text.specs.Plain.{IsTypeMark, AreTypeMarks, ArePartMarks}

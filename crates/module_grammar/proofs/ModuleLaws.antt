@@ -3,15 +3,15 @@ use Rattle.std.proofs.Common.{◌≡◌, ℕ, ◌+◌, ◌<◌, inl, List, [], �
 use Rattle.std.specs.List.{flat_map}
 use Rattle.std.proofs.lemmas.List.Elements.{All-nil, All-cons, All-head, All-tail}
 use Rattle.module_print.specs.Printed.{opening, closing}
-use Rattle.plain_text.specs.Reading.{then_at, many_at, before_at}
-use Rattle.plain_text.specs.Shapes.{Sunk, AnyRest, never, IsUnread, BothFine, both_written, both_deep, EachFine, each_written, each_deep, BehindFine, shifted, behind_word, before_word, Stops}
-use Rattle.plain_text.specs.Laws.{Law, Early}
-use Rattle.plain_text.proofs.Then.{then_law}
-use Rattle.plain_text.proofs.Many.{many_law}
-use Rattle.plain_text.proofs.As.{Renames, as_law, restated, alike}
-use Rattle.plain_text.proofs.Fixed.{behind_law, before_law}
-use Rattle.plain_text.proofs.Early.{then_early, as_early, never_early, many_early, behind_early, before_early, restated_early}
-use Rattle.plain_text.proofs.Judging.{exact}
+use Rattle.module_grammar.specs.Reading.{then_at, many_at, before_at}
+use Rattle.module_grammar.specs.Shapes.{Sunk, AnyRest, never, IsUnread, BothFine, both_written, both_deep, EachFine, each_written, each_deep, BehindFine, shifted, behind_word, before_word, Stops}
+use Rattle.module_grammar.specs.Laws.{Law, Early}
+use Rattle.module_grammar.proofs.Then.{then_law}
+use Rattle.module_grammar.proofs.Many.{many_law}
+use Rattle.module_grammar.proofs.As.{Renames, as_law, restated, alike}
+use Rattle.module_grammar.proofs.Fixed.{behind_law, before_law}
+use Rattle.module_grammar.proofs.Early.{then_early, as_early, never_early, many_early, behind_early, before_early, restated_early}
+use Rattle.module_grammar.proofs.Judging.{exact}
 use Rattle.module_text.specs.Plain.{IsAssignment, IsPlain}
 use Rattle.module_text.specs.Texts.{part_marks_text, type_text, assignment_text, text_of}
 use Rattle.module_text.specs.Places.{placed_assignment, placed_from}

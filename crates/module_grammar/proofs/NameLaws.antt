@@ -1,17 +1,17 @@
 -- The laws of names, numbers, quoted texts and octets.
 use Rattle.std.proofs.Common.{◌≡◌, ◌==◌, if◌then◌else◌, ℕ, ◌+◌, ◌<◌, ◌⊎◌, inl, inr, Bool, true, false, ◌&&◌, not, List, [], ◌∷◌, ◌++◌, length, map, refl, sym, ap, ◌∙◌, arith, codes, eqb-true, Option, None, option_map}
 use Rattle.std.specs.List.{flat_map, list_all}
-use Rattle.xa_base.specs.Digits.{is_digit, is_numeral}
+use Rattle.base_texts.specs.Digits.{is_digit, is_numeral}
 use Rattle.module_print.specs.Notation.{doubled, quoted}
-use Rattle.plain_text.specs.Reading.{Answer, Found, Fails, one_byte_more, or_else, word_at, byte_at, as_at, behind_at}
-use Rattle.plain_text.specs.Shapes.{Sunk, moved, Anything, AnyRest, never, word_of, IsFailed, IsUnread, deeper, BothFine, both_deep, EitherFine, either_deep, either_written, EachFine, each_written, each_deep, BehindFine, shifted, behind_word, Stops}
-use Rattle.plain_text.specs.Laws.{Law}
-use Rattle.plain_text.proofs.WordLaws.{word_law, byte_law}
-use Rattle.plain_text.proofs.Then.{then_law}
-use Rattle.plain_text.proofs.Or.{or_law}
-use Rattle.plain_text.proofs.Many.{many_law}
-use Rattle.plain_text.proofs.As.{Renames, as_law}
-use Rattle.plain_text.proofs.Fixed.{behind_law, before_law}
+use Rattle.module_grammar.specs.Reading.{Answer, Found, Fails, one_byte_more, or_else, word_at, byte_at, as_at, behind_at}
+use Rattle.module_grammar.specs.Shapes.{Sunk, moved, Anything, AnyRest, never, word_of, IsFailed, IsUnread, deeper, BothFine, both_deep, EitherFine, either_deep, either_written, EachFine, each_written, each_deep, BehindFine, shifted, behind_word, Stops}
+use Rattle.module_grammar.specs.Laws.{Law}
+use Rattle.module_grammar.proofs.WordLaws.{word_law, byte_law}
+use Rattle.module_grammar.proofs.Then.{then_law}
+use Rattle.module_grammar.proofs.Or.{or_law}
+use Rattle.module_grammar.proofs.Many.{many_law}
+use Rattle.module_grammar.proofs.As.{Renames, as_law}
+use Rattle.module_grammar.proofs.Fixed.{behind_law, before_law}
 use Rattle.module_text.specs.Names.{is_capital, is_small, is_letter_or_digit, goes_on, is_reference, is_identifier, is_number, is_hexadecimal_digit, are_octets}
 use Rattle.module_text.specs.declared.bounds.PlainNumber.{PlainNumber}
 use Rattle.module_text.specs.declared.types.PlainName.{PlainName}

@@ -1,16 +1,16 @@
 -- The laws of what may stand or not, and of items with a word between two.
 use Rattle.std.proofs.Common.{◌≡◌, ℕ, ◌+◌, ◌<◌, ◌⊎◌, inl, inr, List, [], ◌∷◌, ◌++◌, length, refl, sym, ◌∙◌, subst, arith, Option, Some, None, append_assoc, length-append}
-use Rattle.plain_text.specs.Reading.{Reader, word_at, nothing_at, many_at, behind_at}
-use Rattle.plain_text.specs.Shapes.{Sunk, Anything, never, word_of, IsFailed, IsUnread, BothFine, both_written, both_deep, EitherFine, either_deep, either_written, EachFine, each_written, each_deep, BehindFine, shifted, behind_word, Stops}
-use Rattle.plain_text.specs.Laws.{Law, Early}
-use Rattle.plain_text.proofs.Steps.{none_some}
-use Rattle.plain_text.proofs.WordLaws.{nothing_law}
-use Rattle.plain_text.proofs.Or.{or_law}
-use Rattle.plain_text.proofs.Then.{then_law}
-use Rattle.plain_text.proofs.Many.{many_law}
-use Rattle.plain_text.proofs.As.{Renames, as_law}
-use Rattle.plain_text.proofs.Fixed.{behind_law}
-use Rattle.plain_text.proofs.Early.{or_early, as_early, never_early, then_early, many_early, behind_early}
+use Rattle.module_grammar.specs.Reading.{Reader, word_at, nothing_at, many_at, behind_at}
+use Rattle.module_grammar.specs.Shapes.{Sunk, Anything, never, word_of, IsFailed, IsUnread, BothFine, both_written, both_deep, EitherFine, either_deep, either_written, EachFine, each_written, each_deep, BehindFine, shifted, behind_word, Stops}
+use Rattle.module_grammar.specs.Laws.{Law, Early}
+use Rattle.module_grammar.proofs.Steps.{none_some}
+use Rattle.module_grammar.proofs.WordLaws.{nothing_law}
+use Rattle.module_grammar.proofs.Or.{or_law}
+use Rattle.module_grammar.proofs.Then.{then_law}
+use Rattle.module_grammar.proofs.Many.{many_law}
+use Rattle.module_grammar.proofs.As.{Renames, as_law}
+use Rattle.module_grammar.proofs.Fixed.{behind_law}
+use Rattle.module_grammar.proofs.Early.{or_early, as_early, never_early, then_early, many_early, behind_early}
 use Rattle.module_grammar.specs.BoundReading.{some_of, option_at}
 use Rattle.module_grammar.specs.ValueReading.{listed_of, listed_at}
 use Rattle.module_grammar.specs.Depth.{listed_deep}

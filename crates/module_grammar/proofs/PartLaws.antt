@@ -1,16 +1,16 @@
 -- The laws of parts with their types.
 use Rattle.std.proofs.Common.{◌≡◌, ℕ, ◌+◌, ◌<◌, ◌≤◌, ◌⊎◌, inl, inr, true, List, [], ◌∷◌, ◌++◌, length, refl, sym, ap, ◌∙◌, subst, arith, codes, Option, Some, None, option_map, append_assoc, append-nil}
 use Rattle.module_print.specs.Printed.{labelled}
-use Rattle.plain_text.specs.Reading.{Reader, then_at}
-use Rattle.plain_text.specs.Shapes.{Sunk, moved, Anything, AnyRest, never, word_of, IsUnread, deeper, BothFine, both_written, both_deep, EitherFine, either_deep, either_written, before_word}
-use Rattle.plain_text.specs.Laws.{Law, Early}
-use Rattle.plain_text.proofs.Steps.{deeper_cases}
-use Rattle.plain_text.proofs.WordLaws.{nothing_law}
-use Rattle.plain_text.proofs.Then.{then_law}
-use Rattle.plain_text.proofs.Or.{or_law}
-use Rattle.plain_text.proofs.As.{Renames, as_law}
-use Rattle.plain_text.proofs.Fixed.{before_law}
-use Rattle.plain_text.proofs.Early.{then_early, as_early, never_early}
+use Rattle.module_grammar.specs.Reading.{Reader, then_at}
+use Rattle.module_grammar.specs.Shapes.{Sunk, moved, Anything, AnyRest, never, word_of, IsUnread, deeper, BothFine, both_written, both_deep, EitherFine, either_deep, either_written, before_word}
+use Rattle.module_grammar.specs.Laws.{Law, Early}
+use Rattle.module_grammar.proofs.Steps.{deeper_cases}
+use Rattle.module_grammar.proofs.WordLaws.{nothing_law}
+use Rattle.module_grammar.proofs.Then.{then_law}
+use Rattle.module_grammar.proofs.Or.{or_law}
+use Rattle.module_grammar.proofs.As.{Renames, as_law}
+use Rattle.module_grammar.proofs.Fixed.{before_law}
+use Rattle.module_grammar.proofs.Early.{then_early, as_early, never_early}
 use Rattle.module_text.specs.Names.{is_identifier}
 use Rattle.module_text.specs.Plain.{ArePartMarks, IsComponent, IsAlternative, IsItem, IsBare, IsType}
 use Rattle.module_text.specs.Texts.{part_mark_text, part_marks_text, fixed_text, absence_text, type_text}

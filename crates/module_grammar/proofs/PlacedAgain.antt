@@ -1,7 +1,7 @@
 -- A plain tree may be put where it stands, and stands there then.
 use Rattle.std.proofs.Common.{◌≡◌, ℕ, suc, ◌&&◌, nat_le, List, [], ◌∷◌, ◌++◌, length, refl, sym, ap, ap₂, ◌∙◌, Option, Some, None, codes, All}
 use Rattle.std.proofs.lemmas.List.Elements.{All-cons, All-head, All-tail}
-use Rattle.label_tree.specs.Rose.{Rose, node, Roses, none, more, length_all}
+use Rattle.base_trees.specs.Rose.{Rose, node, Roses, none, more, length_all}
 use Rattle.module_print.specs.Printed.{labelled, opening}
 use Rattle.module_text.specs.Ranks.{rank_of_part_mark, rank_of_type_mark, part_marks_from, type_marks_from}
 use Rattle.module_text.specs.Plain.{HasParts, AreEnds, IsRange, IsSize, ArePartMarks, IsTypeMark, AreTypeMarks, IsValue, AreValues, IsFixed, IsAbsence, IsComponent, IsBare, IsAlternative, IsItem, IsNumbered, IsName, IsForm, IsType, AreTypes, IsAssignment, IsPlain}

@@ -3,13 +3,13 @@ use Rattle.std.proofs.Common.{◌≡◌, ◌==◌, ℕ, suc, ◌+◌, ◌<◌, �
 use Rattle.std.specs.List.{flat_map}
 use Rattle.std.proofs.lemmas.Bool.{eqb-true, eqb-false, leb-true, le-leb}
 use Rattle.std.proofs.lemmas.List.Elements.{All-nil, All-cons, All-head, All-tail}
-use Rattle.plain_text.specs.Reading.{Reader}
-use Rattle.plain_text.specs.Shapes.{Sunk, AnyRest, Anything, never, IsUnread, deeper, EachFine, each_written, each_deep}
-use Rattle.plain_text.specs.Laws.{Law}
-use Rattle.plain_text.proofs.WordLaws.{nothing_law}
-use Rattle.plain_text.proofs.Then.{then_law}
-use Rattle.plain_text.proofs.Many.{many_law}
-use Rattle.plain_text.proofs.As.{as_law, any_follow}
+use Rattle.module_grammar.specs.Reading.{Reader}
+use Rattle.module_grammar.specs.Shapes.{Sunk, AnyRest, Anything, never, IsUnread, deeper, EachFine, each_written, each_deep}
+use Rattle.module_grammar.specs.Laws.{Law}
+use Rattle.module_grammar.proofs.WordLaws.{nothing_law}
+use Rattle.module_grammar.proofs.Then.{then_law}
+use Rattle.module_grammar.proofs.Many.{many_law}
+use Rattle.module_grammar.proofs.As.{as_law, any_follow}
 use Rattle.module_grammar.specs.MarkReading.{ranked_at, no_marks, no_marks_at}
 use Rattle.module_grammar.proofs.Booleans.{both, and_true}
 use Rattle.module_grammar.proofs.NameLaws.{each_never}

@@ -2,10 +2,10 @@
 use Rattle.std.proofs.Common.{◌≡◌, ℕ, suc, ◌+◌, ◌⊎◌, inl, inr, List, [], ◌∷◌, ◌++◌, length, map, refl, sym, ap, ap₂, ◌∙◌, subst, arith, codes, Option, None, option_map, append_assoc, append-nil, length-append, All}
 use Rattle.std.proofs.lemmas.List.Elements.{All-nil, All-cons, All-head, All-tail}
 use Rattle.simple_types.specs.declared.simples.Class.{Class}
-use Rattle.label_tree.specs.Rose.{Roses, none, more, list_of, length_all}
+use Rattle.base_trees.specs.Rose.{Roses, none, more, list_of, length_all}
 use Rattle.module_print.specs.Notation.{new_line, enumerated, class_range}
-use Rattle.plain_text.specs.Shapes.{Sunk, moved, BothFine, both_written, both_deep, EachFine, BehindFine, behind_word}
-use Rattle.plain_text.proofs.As.{Renames}
+use Rattle.module_grammar.specs.Shapes.{Sunk, moved, BothFine, both_written, both_deep, EachFine, BehindFine, behind_word}
+use Rattle.module_grammar.proofs.As.{Renames}
 use Rattle.module_text.specs.Names.{is_reference, is_type_word}
 use Rattle.module_text.specs.Plain.{HasParts, IsNumbered, IsName, IsForm, AreTypes, IsComponent, IsAlternative, IsItem}
 use Rattle.module_text.specs.Texts

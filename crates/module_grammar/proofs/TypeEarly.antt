@@ -1,13 +1,13 @@
 -- Bytes that begin a type in which another, or a value, lies too deep are told as such.
 use Rattle.std.proofs.Common.{◌≡◌, ℕ, zero, suc, ◌+◌, ◌<◌, ◌≤◌, ◌⊎◌, inl, inr, List, [], ◌∷◌, ◌++◌, length, refl, sym, ap, ◌∙◌, subst, arith, codes, Option, Some, None, append_assoc, append-nil, length-append}
-use Rattle.label_tree.specs.Rose.{node, list_of}
+use Rattle.base_trees.specs.Rose.{node, list_of}
 use Rattle.module_print.specs.Notation.{new_line}
-use Rattle.plain_text.specs.Reading.{Reader, word_at, nothing_at, then_at, or_at}
-use Rattle.plain_text.specs.Shapes.{Sunk, moved, never, word_of, IsFailed, IsUnread, BothFine, both_written, both_deep, either_deep, either_written, BehindFine, shifted, behind_word}
-use Rattle.plain_text.specs.Laws.{Law, Early}
-use Rattle.plain_text.proofs.Steps.{none_some, some_is, moved_is}
-use Rattle.plain_text.proofs.Sunken.{first_node, sunk_early}
-use Rattle.plain_text.proofs.Early.{split_front, then_early, or_early, as_early, never_early, behind_early}
+use Rattle.module_grammar.specs.Reading.{Reader, word_at, nothing_at, then_at, or_at}
+use Rattle.module_grammar.specs.Shapes.{Sunk, moved, never, word_of, IsFailed, IsUnread, BothFine, both_written, both_deep, either_deep, either_written, BehindFine, shifted, behind_word}
+use Rattle.module_grammar.specs.Laws.{Law, Early}
+use Rattle.module_grammar.proofs.Steps.{none_some, some_is, moved_is}
+use Rattle.module_grammar.proofs.Sunken.{first_node, sunk_early}
+use Rattle.module_grammar.proofs.Early.{split_front, then_early, or_early, as_early, never_early, behind_early}
 use Rattle.module_text.specs.Plain.{IsComponent, IsAlternative, IsItem}
 use Rattle.module_text.specs.Texts.{type_mark_text, type_marks_text, size_text, type_text}
 use Rattle.module_text.specs.declared.bounds.PlainEnds.{PlainEnds}
@@ -28,7 +28,7 @@ use Rattle.module_grammar.specs.BoundReading.{number_range_at, some_size_at, siz
 use Rattle.module_grammar.specs.TypeReading.{numbered_at, enumerated_at}
 use Rattle.module_grammar.specs.TypeDepth.{paired}
 use Rattle.module_grammar.specs.Depth.{listed_deep}
-use Rattle.plain_text.proofs.Fixed.{behind_law}
+use Rattle.module_grammar.proofs.Fixed.{behind_law}
 use Rattle.simple_types.specs.declared.simples.Class.{Class}
 use Rattle.module_text.specs.Texts.{item_text}
 use Rattle.module_text.specs.declared.types.NumberedItem.{NumberedItem}

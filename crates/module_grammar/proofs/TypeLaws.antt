@@ -1,18 +1,18 @@
 -- The law of types, at every depth that is left and on lines of every level.
 use Rattle.std.proofs.Common.{◌≡◌, ◌==◌, if◌then◌else◌, ℕ, zero, suc, ◌+◌, ◌-◌, ◌<◌, ◌≤◌, ◌⊎◌, inl, inr, Bool, true, false, ◌&&◌, ◌||◌, nat_le, bytes_eq, List, [], ◌∷◌, ◌++◌, length, refl, sym, ap, ap₂, ◌∙◌, subst, arith, codes, Option, Some, None, append_assoc, append-nil, length-append}
 use Rattle.std.proofs.lemmas.List.Elements.{All-nil, All-cons, All-head}
-use Rattle.label_tree.specs.Rose.{node, Roses, none, list_of}
+use Rattle.base_trees.specs.Rose.{node, Roses, none, list_of}
 use Rattle.module_print.specs.Notation.{class_range}
 use Rattle.simple_types.specs.declared.simples.Class.{Class}
 use Rattle.simple_types.specs.declared.simples.Class.TheVariants.{Any}
-use Rattle.plain_text.specs.Reading.{Found, Fails, Reader, byte_at, then_at, many_at}
-use Rattle.plain_text.specs.Shapes.{Sunk, AnyRest, never, IsFailed, IsUnread, BothFine, both_written, both_deep, EitherFine, either_deep, either_written}
-use Rattle.plain_text.specs.Laws.{Law}
-use Rattle.plain_text.proofs.WordLaws.{byte_law}
-use Rattle.plain_text.proofs.Then.{then_law}
-use Rattle.plain_text.proofs.Or.{or_law}
-use Rattle.plain_text.proofs.As.{Renames, as_law, restated, alike}
-use Rattle.plain_text.proofs.Sunken.{Opens, first_node, sunk_law}
+use Rattle.module_grammar.specs.Reading.{Found, Fails, Reader, byte_at, then_at, many_at}
+use Rattle.module_grammar.specs.Shapes.{Sunk, AnyRest, never, IsFailed, IsUnread, BothFine, both_written, both_deep, EitherFine, either_deep, either_written}
+use Rattle.module_grammar.specs.Laws.{Law}
+use Rattle.module_grammar.proofs.WordLaws.{byte_law}
+use Rattle.module_grammar.proofs.Then.{then_law}
+use Rattle.module_grammar.proofs.Or.{or_law}
+use Rattle.module_grammar.proofs.As.{Renames, as_law, restated, alike}
+use Rattle.module_grammar.proofs.Sunken.{Opens, first_node, sunk_law}
 use Rattle.module_text.specs.Names.{is_type_word, is_capital, is_small, is_reference, goes_on}
 use Rattle.module_text.specs.Plain.{IsTypeMark, IsComponent, IsAlternative, IsItem}
 use Rattle.module_text.specs.Texts

@@ -1,9 +1,9 @@
 -- Where a word is not read, and so nothing that begins with it.
 use Rattle.std.proofs.Common.{◌≡◌, ◌==◌, if◌then◌else◌, Bool, true, false, List, [], ◌∷◌, ◌++◌, drop, length, sym, ap, ◌∙◌, subst, drop_at, ℕ, ◌+◌, ◌<◌, arith, Option, None}
-use Rattle.plain_text.specs.Reading.{Answer, Found, Fails, Deep, Reader, word_at, one_byte_more, behind, go_on, then_at, or_else, or_at, answer_map, as_at, behind_at, before_at}
-use Rattle.plain_text.specs.Shapes.{Sunk, IsFailed, IsUnread}
-use Rattle.plain_text.specs.Laws.{Law, Again}
-use Rattle.plain_text.proofs.Steps.{none_some}
+use Rattle.module_grammar.specs.Reading.{Answer, Found, Fails, Deep, Reader, word_at, one_byte_more, behind, go_on, then_at, or_else, or_at, answer_map, as_at, behind_at, before_at}
+use Rattle.module_grammar.specs.Shapes.{Sunk, IsFailed, IsUnread}
+use Rattle.module_grammar.specs.Laws.{Law, Again}
+use Rattle.module_grammar.proofs.Steps.{none_some}
 
 failed_more : (r : Answer (Unit {0})) → IsFailed (one_byte_more r) → IsFailed r
 failed_more (Found x size n) h = h

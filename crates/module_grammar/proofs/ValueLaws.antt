@@ -1,20 +1,20 @@
 -- The laws of values behind DEFAULT, at every depth that is left.
 use Rattle.std.proofs.Common.{◌≡◌, ◌==◌, if◌then◌else◌, ℕ, zero, suc, ◌+◌, ◌<◌, ◌≤◌, ◌⊎◌, inl, inr, Bool, true, false, ◌||◌, List, [], ◌∷◌, ◌++◌, length, map, refl, sym, ap, ap₂, ◌∙◌, subst, arith, codes, eqb-true, Option, Some, option_map, append_assoc, append-nil, length-append}
 use Rattle.std.specs.List.{join_with_byte, list_all}
-use Rattle.label_tree.specs.Rose.{Rose, node, Roses, none, more, roses_of, list_of, length_all}
-use Rattle.xa_base.specs.Digits.{is_digit, is_numeral}
+use Rattle.base_trees.specs.Rose.{Rose, node, Roses, none, more, roses_of, list_of, length_all}
+use Rattle.base_texts.specs.Digits.{is_digit, is_numeral}
 use Rattle.module_print.specs.Notation.{quoted}
-use Rattle.plain_text.specs.Reading.{Found, Fails, Reader, word_at, byte_at, then_at, or_at, many_at, behind_at, before_at}
-use Rattle.plain_text.specs.Shapes.{Sunk, moved, Anything, AnyRest, never, word_of, IsFailed, IsUnread, BothFine, both_written, both_deep, EitherFine, either_deep, either_written, EachFine, each_written, BehindFine, shifted, behind_word, before_word}
-use Rattle.plain_text.specs.Laws.{Law, Early}
-use Rattle.plain_text.proofs.Steps.{none_some, moved_is}
-use Rattle.plain_text.proofs.WordLaws.{word_law, byte_law}
-use Rattle.plain_text.proofs.Then.{then_law}
-use Rattle.plain_text.proofs.Or.{or_law}
-use Rattle.plain_text.proofs.As.{Renames, as_law}
-use Rattle.plain_text.proofs.Fixed.{behind_law, before_law}
-use Rattle.plain_text.proofs.Sunken.{Opens, first_node, sunk_law, sunk_early}
-use Rattle.plain_text.proofs.Early.{then_early, or_early, as_early, never_early, behind_early, before_early}
+use Rattle.module_grammar.specs.Reading.{Found, Fails, Reader, word_at, byte_at, then_at, or_at, many_at, behind_at, before_at}
+use Rattle.module_grammar.specs.Shapes.{Sunk, moved, Anything, AnyRest, never, word_of, IsFailed, IsUnread, BothFine, both_written, both_deep, EitherFine, either_deep, either_written, EachFine, each_written, BehindFine, shifted, behind_word, before_word}
+use Rattle.module_grammar.specs.Laws.{Law, Early}
+use Rattle.module_grammar.proofs.Steps.{none_some, moved_is}
+use Rattle.module_grammar.proofs.WordLaws.{word_law, byte_law}
+use Rattle.module_grammar.proofs.Then.{then_law}
+use Rattle.module_grammar.proofs.Or.{or_law}
+use Rattle.module_grammar.proofs.As.{Renames, as_law}
+use Rattle.module_grammar.proofs.Fixed.{behind_law, before_law}
+use Rattle.module_grammar.proofs.Sunken.{Opens, first_node, sunk_law, sunk_early}
+use Rattle.module_grammar.proofs.Early.{then_early, or_early, as_early, never_early, behind_early, before_early}
 use Rattle.module_text.specs.Names.{is_small, is_identifier, is_number, goes_on}
 use Rattle.module_text.specs.Plain.{IsValue, AreValues}
 use Rattle.module_text.specs.Texts.{value_text, value_texts}

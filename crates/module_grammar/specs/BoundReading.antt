@@ -3,7 +3,7 @@ use mathlib.Core.Logic.{inl, inr}
 use Rattle.std.specs.Prelude.{ℕ, ◌⊎◌, Option, Some, None, List, codes}
 use Rattle.simple_types.specs.declared.simples.Class.{Class}
 use Rattle.simple_types.specs.declared.simples.Class.TheVariants.{Any, Language, NmToken, Name, NcName}
-use Rattle.plain_text.specs.Reading.{Reader, word_at, nothing_at, then_at, or_at, as_at, behind_at, before_at}
+use Rattle.module_grammar.specs.Reading.{Reader, word_at, nothing_at, then_at, or_at, as_at, behind_at, before_at}
 use Rattle.module_text.specs.declared.bounds.PlainNumber.{PlainNumber}
 use Rattle.module_text.specs.declared.bounds.PlainEnds.{PlainEnds}
 use Rattle.module_text.specs.declared.bounds.PlainEnds.TheVariants as ends

@@ -1,8 +1,8 @@
 -- Where in the text of a value the first begins that has so many others around it, and what tells that.
 use Rattle.std.specs.Prelude.{ℕ, zero, suc, Option, Some, None, List, [], ◌∷◌, ◌++◌, length, codes}
 use Rattle.std.specs.Option.{option_map}
-use Rattle.label_tree.specs.Rose.{Rose, node, Roses, none, more, list_of}
-use Rattle.plain_text.specs.Shapes.{Sunk, moved, deeper, each_deep, behind_word, shifted}
+use Rattle.base_trees.specs.Rose.{Rose, node, Roses, none, more, list_of}
+use Rattle.module_grammar.specs.Shapes.{Sunk, moved, deeper, each_deep, behind_word, shifted}
 use Rattle.module_text.specs.declared.values.PlainValue.{PlainValue}
 use Rattle.module_text.specs.declared.values.PlainValue.TheVariants as value
 use Rattle.module_text.specs.declared.values.PlainValueLabel.{PlainValueLabel}

@@ -11,3 +11,9 @@ pub mod MarksRead
 pub mod TypeDepth
 pub mod ModulesRead
 pub mod TextsRead
+pub mod Reading
+pub mod Shapes
+pub mod Laws
+pub mod Verdicts
+pub mod Reached
+pub mod Nested

@@ -1,7 +1,7 @@
 -- Encoding instructions, read from the front of bytes: those of one rank as many as there are, and then those of the next.
 use mathlib.Core.Logic.{inl, inr}
 use Rattle.std.specs.Prelude.{ℕ, ◌⊎◌, List, [], ◌++◌, codes}
-use Rattle.plain_text.specs.Reading.{Reader, word_at, nothing_at, then_at, or_at, many_at, as_at, behind_at, before_at}
+use Rattle.module_grammar.specs.Reading.{Reader, word_at, nothing_at, then_at, or_at, many_at, as_at, behind_at, before_at}
 use Rattle.module_text.specs.declared.marks.NameAs.{NameAs}
 use Rattle.module_text.specs.declared.marks.NameAs.TheVariants as as_
 use Rattle.module_text.specs.declared.marks.PartMarkKind.{PartMarkKind}

@@ -1,8 +1,8 @@
 -- That just the encoding instructions are read, those of parts and those of types.
 use Rattle.std.specs.Prelude.{◌≡◌, codes}
-use Rattle.plain_text.specs.Reading.{word_at}
-use Rattle.plain_text.specs.Shapes.{never, IsUnread}
-use Rattle.plain_text.specs.Laws.{Law}
+use Rattle.module_grammar.specs.Reading.{word_at}
+use Rattle.module_grammar.specs.Shapes.{never, IsUnread}
+use Rattle.module_grammar.specs.Laws.{Law}
 use Rattle.module_text.specs.Plain.{AreTypeMarks, ArePartMarks}
 use Rattle.module_text.specs.Texts.{part_marks_text, type_marks_text}
 use Rattle.module_text.specs.Places.{placed_part_marks, placed_type_marks}

@@ -1,7 +1,7 @@
 -- A module, read from the front of bytes.
 use Rattle.std.specs.Prelude.{ℕ, List, codes}
 use Rattle.module_print.specs.Printed.{opening, closing}
-use Rattle.plain_text.specs.Reading.{Reader, then_at, many_at, as_at, behind_at, before_at}
+use Rattle.module_grammar.specs.Reading.{Reader, then_at, many_at, as_at, behind_at, before_at}
 use Rattle.module_text.specs.declared.marks.PartMark.{PartMark}
 use Rattle.module_text.specs.declared.modules.PlainAssignment.{PlainAssignment}
 use Rattle.module_grammar.specs.NameReading.{reference_at}

@@ -2,7 +2,7 @@
 -- value begins that lies too deep.
 use Rattle.std.specs.Prelude.{◌≡◌, ℕ, ◌+◌, List, length}
 use Rattle.module_print.specs.Printed.{opening}
-use Rattle.plain_text.specs.Verdicts.{Verdict, judged, Exact}
+use Rattle.module_grammar.specs.Verdicts.{Verdict, judged, Exact}
 use Rattle.module_text.specs.declared.modules.PlainAssignment.{PlainAssignment}
 use Rattle.module_text.specs.Texts.{text_of}
 use Rattle.module_text.specs.Plain.{IsPlain}

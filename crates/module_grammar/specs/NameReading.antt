@@ -1,9 +1,9 @@
 -- Names, numbers, quoted texts and octets, read from the front of bytes.
 use mathlib.Core.Logic.{inl, inr}
 use Rattle.std.specs.Prelude.{ℕ, ◌==◌, ◌⊎◌, Bool, not, List, [], ◌∷◌, ◌++◌, map, codes}
-use Rattle.xa_base.specs.Digits.{is_digit}
-use Rattle.plain_text.specs.Reading.{Reader, word_at, byte_at, then_at, or_at, many_at, as_at, behind_at, before_at}
-use Rattle.plain_text.specs.Shapes.{either_written, each_written, behind_word}
+use Rattle.base_texts.specs.Digits.{is_digit}
+use Rattle.module_grammar.specs.Reading.{Reader, word_at, byte_at, then_at, or_at, many_at, as_at, behind_at, before_at}
+use Rattle.module_grammar.specs.Shapes.{either_written, each_written, behind_word}
 use Rattle.module_text.specs.Names.{is_capital, is_small, is_letter_or_digit, is_hexadecimal_digit}
 use Rattle.module_text.specs.declared.bounds.PlainNumber.{PlainNumber}
 use Rattle.module_text.specs.declared.types.PlainName.{PlainName}

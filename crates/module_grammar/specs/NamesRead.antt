@@ -1,10 +1,10 @@
 -- That just the names, numbers, quoted texts, octets, bounds and constraints are read, and how far bytes begin one.
 use Rattle.std.specs.Prelude.{◌≡◌, true, codes}
 use Rattle.module_print.specs.Notation.{quoted, class_range}
-use Rattle.plain_text.specs.Reading.{byte_at, word_at}
-use Rattle.plain_text.specs.Shapes.{Anything, AnyRest, never, Stops, IsUnread}
-use Rattle.plain_text.specs.Laws.{Law}
-use Rattle.xa_base.specs.Digits.{is_digit}
+use Rattle.module_grammar.specs.Reading.{byte_at, word_at}
+use Rattle.module_grammar.specs.Shapes.{Anything, AnyRest, never, Stops, IsUnread}
+use Rattle.module_grammar.specs.Laws.{Law}
+use Rattle.base_texts.specs.Digits.{is_digit}
 use Rattle.module_text.specs.Names.{is_reference, is_identifier, is_number, are_octets}
 use Rattle.module_text.specs.Plain.{IsRange, IsSize, IsFixed}
 use Rattle.module_text.specs.Texts.{number_range_text, size_text, fixed_text}

@@ -1,6 +1,6 @@
 -- The plain grammar is read: what the reader tells of bytes is what the grammar says of them.
 use Rattle.std.specs.Prelude.{◌≡◌, ℕ, ◌↔◌, List}
-use Rattle.plain_text.specs.Verdicts.{Read, Syntax, TooDeep}
+use Rattle.module_grammar.specs.Verdicts.{Read, Syntax, TooDeep}
 use Rattle.module_text.specs.declared.modules.PlainAssignment.{PlainAssignment}
 use Rattle.module_text.specs.Plain.{limit}
 use Rattle.module_text.specs.Grammar.{IsTextOf, IsBroken, Sinks}

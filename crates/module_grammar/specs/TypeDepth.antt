@@ -2,8 +2,8 @@
 -- that: of a type its first encoding instruction up to the bracket, or else the first letter of its word.
 use Rattle.std.specs.Prelude.{ℕ, zero, suc, ◌-◌, Option, Some, None, List, [], ◌∷◌, ◌++◌, length, codes}
 use Rattle.std.specs.Option.{option_map}
-use Rattle.label_tree.specs.Rose.{node, Roses, none, more, list_of}
-use Rattle.plain_text.specs.Shapes.{Sunk, moved, deeper, shifted, each_deep}
+use Rattle.base_trees.specs.Rose.{node, Roses, none, more, list_of}
+use Rattle.module_grammar.specs.Shapes.{Sunk, moved, deeper, shifted, each_deep}
 use Rattle.module_text.specs.declared.marks.TypeMark.{TypeMark}
 use Rattle.module_text.specs.declared.types.PlainPart.{PlainPart}
 use Rattle.module_text.specs.declared.types.PlainForm.{PlainForm}

@@ -1,10 +1,10 @@
 -- Types, read from the front of bytes: on lines that are indented by so many levels, with so many in one another at most.
 use mathlib.Core.Logic.{inl, inr}
 use Rattle.std.specs.Prelude.{ℕ, zero, suc, ◌⊎◌, Option, None, List, [], ◌++◌, map, codes, bytes_eq, if◌then◌else◌}
-use Rattle.label_tree.specs.Rose.{Rose, node, Roses, none, more, roses_of}
+use Rattle.base_trees.specs.Rose.{Rose, node, Roses, none, more, roses_of}
 use Rattle.module_print.specs.Notation.{new_line}
 use Rattle.simple_types.specs.declared.simples.Class.{Class}
-use Rattle.plain_text.specs.Reading.{Reader, word_at, byte_at, nothing_at, then_at, or_at, as_at, behind_at, before_at, sunk_at}
+use Rattle.module_grammar.specs.Reading.{Reader, word_at, byte_at, nothing_at, then_at, or_at, as_at, behind_at, before_at, sunk_at}
 use Rattle.module_text.specs.Names.{is_capital}
 use Rattle.module_text.specs.declared.bounds.PlainNumber.{PlainNumber}
 use Rattle.module_text.specs.declared.bounds.PlainEnds.{PlainEnds}

@@ -1,9 +1,9 @@
 -- Values behind DEFAULT, read from the front of bytes, with so many in one another at most.
 use mathlib.Core.Logic.{inl, inr}
 use Rattle.std.specs.Prelude.{ℕ, zero, suc, ◌⊎◌, ◌==◌, Bool, ◌||◌, Option, Some, None, List, ◌∷◌, codes}
-use Rattle.label_tree.specs.Rose.{Rose, node, none, more, roses_of}
-use Rattle.xa_base.specs.Digits.{is_digit}
-use Rattle.plain_text.specs.Reading.{Reader, word_at, byte_at, nothing_at, then_at, or_at, many_at, as_at, behind_at, before_at, sunk_at}
+use Rattle.base_trees.specs.Rose.{Rose, node, none, more, roses_of}
+use Rattle.base_texts.specs.Digits.{is_digit}
+use Rattle.module_grammar.specs.Reading.{Reader, word_at, byte_at, nothing_at, then_at, or_at, many_at, as_at, behind_at, before_at, sunk_at}
 use Rattle.module_text.specs.Names.{is_small}
 use Rattle.module_text.specs.declared.values.PlainValue.{PlainValue}
 use Rattle.module_text.specs.declared.values.PlainValue.TheVariants as value

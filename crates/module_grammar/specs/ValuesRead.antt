@@ -1,6 +1,6 @@
 -- That just the values are read, and that the first that lies too deep is told.
 use Rattle.std.specs.Prelude.{◌≡◌, ℕ}
-use Rattle.plain_text.specs.Laws.{Early}
+use Rattle.module_grammar.specs.Laws.{Early}
 use Rattle.module_text.specs.Plain.{IsValue}
 use Rattle.module_text.specs.Texts.{value_text}
 use Rattle.module_text.specs.Places.{placed_value}

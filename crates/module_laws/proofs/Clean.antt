@@ -1,8 +1,8 @@
 -- A type without a fault, thing by thing.
 use Rattle.std.proofs.Common.{◌≡◌, ℕ, ◌+◌, ◌-◌, Bool, true, false, ◌&&◌, ◌||◌, not, None, List, [], ◌∷◌, ◌++◌, length, is_some, refl, arith}
 use Rattle.std.specs.Prelude.{nat_lt, if◌then◌else◌}
-use Rattle.label_tree.specs.Rose.{Rose, node, Roses, none, more, label_of, length_all}
-use Rattle.name_map.specs.ReservedWords.{reserved_words}
+use Rattle.base_trees.specs.Rose.{Rose, node, Roses, none, more, label_of, length_all}
+use Rattle.asn_names.specs.ReservedWords.{reserved_words}
 use Rattle.module_text.specs.declared.types.PlainPart.{PlainPart}
 use Rattle.module_text.specs.declared.types.PlainForm.{PlainForm}
 use Rattle.module_text.specs.declared.types.PlainForm.TheVariants as form
@@ -10,14 +10,14 @@ use Rattle.module_text.specs.declared.types.PlainLabel.{PlainLabel}
 use Rattle.module_text.specs.declared.modules.PlainAssignment.{PlainAssignment}
 use Rattle.module_text.specs.Texts.{parts_of}
 use Rattle.module_text.specs.Plain.{IsType, AreTypes}
-use Rattle.module_faults.specs.declared.reasons.ModuleWhy.TheVariants as why
-use Rattle.module_faults.specs.declared.spots.Spot.{Spot}
-use Rattle.module_faults.specs.declared.spots.Spot.TheVariants.{Elsewhere}
-use Rattle.module_faults.specs.Listed.{unless}
-use Rattle.module_faults.specs.Told.{has_list}
-use Rattle.module_faults.specs.Resolving.{resolve, number_of, chains_end, if_reference, all_references, all_references_in}
-use Rattle.module_faults.specs.Faults.{has_text, part_mark_faults, type_mark_faults, fixed_faults, absence_faults, nameless_parts, is_listed, is_named_so, is_bare, part_spot, reference_faults, form_faults, space_at, type_faults, part_faults, assignment_faults, faults_from}
-use Rattle.module_faults.proofs.PrintedBounds.{unless-none, front-none, behind-none, and-first, and-second}
+use Rattle.module_text.specs.declared.reasons.ModuleWhy.TheVariants as why
+use Rattle.module_text.specs.declared.spots.Spot.{Spot}
+use Rattle.module_text.specs.declared.spots.Spot.TheVariants.{Elsewhere}
+use Rattle.module_text.specs.Listed.{unless}
+use Rattle.module_text.specs.Told.{has_list}
+use Rattle.module_text.specs.Resolving.{resolve, number_of, chains_end, if_reference, all_references, all_references_in}
+use Rattle.module_text.specs.Faults.{has_text, part_mark_faults, type_mark_faults, fixed_faults, absence_faults, nameless_parts, is_listed, is_named_so, is_bare, part_spot, reference_faults, form_faults, space_at, type_faults, part_faults, assignment_faults, faults_from}
+use Rattle.module_text.proofs.PrintedBounds.{unless-none, front-none, behind-none, and-first, and-second}
 use Rattle.module_laws.proofs.WordLaws.{not-true}
 use Rattle.module_laws.proofs.NameLaws.{and-both}
 use Rattle.module_laws.proofs.ResolveLaws.{LeadsIn}

@@ -4,13 +4,13 @@ use Rattle.std.specs.Prelude.{ℤ, bytes_eq, nat_lt, slice_get, unwrap_or, if◌
 use Rattle.std.specs.Fmt.{signed_decimal}
 use Rattle.std.specs.List.{join_with_byte}
 use Rattle.std.proofs.lemmas.Bool.{true≢false}
-use Rattle.label_tree.specs.Rose.{Rose, node, Roses, label_of, list_of, kids_of, length_all}
-use Rattle.label_tree.specs.Rose as rose
+use Rattle.base_trees.specs.Rose.{Rose, node, Roses, label_of, list_of, kids_of, length_all}
+use Rattle.base_trees.specs.Rose as rose
 use Rattle.simple_types.specs.declared.labels.ValueLabel.{ValueLabel}
 use Rattle.simple_types.specs.declared.labels.ValueLabel.TheVariants as label
 use Rattle.simple_types.specs.declared.simples.Class.{Class}
 use Rattle.simple_types.specs.Space.{Space, Spaces}
-use Rattle.simple_values.specs.Reading.{choice_at}
+use Rattle.simple_types.specs.Reading.{choice_at}
 use Rattle.asn_types.specs.declared.marks.Instruction.{Instruction}
 use Rattle.asn_types.specs.declared.types.Component.{Component}
 use Rattle.asn_types.specs.declared.types.Form.{Form}
@@ -32,15 +32,15 @@ use Rattle.module_text.specs.declared.types.PlainLabel.{PlainLabel}
 use Rattle.module_text.specs.declared.modules.PlainAssignment.{PlainAssignment}
 use Rattle.module_text.specs.Texts.{all_of, value_text, value_texts}
 use Rattle.module_text.specs.Plain.{IsType}
-use Rattle.module_faults.specs.declared.spots.Spot.{Spot}
-use Rattle.module_faults.specs.declared.spots.Spot.TheVariants.{Elsewhere}
-use Rattle.module_faults.specs.declared.spots.Alone.TheVariants as alone_
-use Rattle.module_faults.specs.Told.{Bounds, Sizes, range_of, sizes_of, told_alone, is_union_alone, is_list_alone, white_space_alone, have_names_alone, words_of, has_list}
-use Rattle.module_faults.specs.Simple.{if_so, word_space, list_space, union_space, with_member, are_plain, item_spot, is_order_item, simple_told, members_told, item_told}
-use Rattle.module_faults.specs.Defaults.{both, alone, if_bool, if_int, if_utf8, item_named, alternative_named, is_list_form, spelling_told, spellings_told, is_item_of, is_alternative_of, is_true, is_false, is_number_told, is_item_told, is_text_told, is_list_told, chosen_told, is_told, are_told}
-use Rattle.module_faults.specs.Faults.{nameless_parts, part_spot}
-use Rattle.module_faults.specs.Meaning.{names_of, words_meant, int_meant, utf8_meant, list_meant, type_marks_meant, components_meant, item_meant, type_meant, types_meant}
-use Rattle.module_faults.proofs.PrintedBounds.{and-first, and-second}
+use Rattle.module_text.specs.declared.spots.Spot.{Spot}
+use Rattle.module_text.specs.declared.spots.Spot.TheVariants.{Elsewhere}
+use Rattle.module_text.specs.declared.spots.Alone.TheVariants as alone_
+use Rattle.module_text.specs.Told.{Bounds, Sizes, range_of, sizes_of, told_alone, is_union_alone, is_list_alone, white_space_alone, have_names_alone, words_of, has_list}
+use Rattle.module_text.specs.Simple.{if_so, word_space, list_space, union_space, with_member, are_plain, item_spot, is_order_item, simple_told, members_told, item_told}
+use Rattle.module_text.specs.Defaults.{both, alone, if_bool, if_int, if_utf8, item_named, alternative_named, is_list_form, spelling_told, spellings_told, is_item_of, is_alternative_of, is_true, is_false, is_number_told, is_item_told, is_text_told, is_list_told, chosen_told, is_told, are_told}
+use Rattle.module_text.specs.Faults.{nameless_parts, part_spot}
+use Rattle.module_text.specs.Meaning.{names_of, words_meant, int_meant, utf8_meant, list_meant, type_marks_meant, components_meant, item_meant, type_meant, types_meant}
+use Rattle.module_text.proofs.PrintedBounds.{and-first, and-second}
 use Rattle.module_laws.proofs.Firsts.{same_bytes, got-mapped, only-at}
 use Rattle.module_laws.proofs.NumberLaws.{numbers-printed}
 use Rattle.module_laws.proofs.WordLaws.{not-true}

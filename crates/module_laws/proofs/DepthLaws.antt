@@ -1,14 +1,14 @@
 -- A type that is meant has as many levels as that of the text.
 use Rattle.std.proofs.Common.{◌≡◌, ℕ, zero, suc, ◌≤◌, ◌+◌, max, List, [], ◌∷◌, ◌++◌, length, refl, ap, ap₂, arith}
-use Rattle.label_tree.specs.Rose.{Rose, node, Roses, none, more, length_all, height, depth_all}
+use Rattle.base_trees.specs.Rose.{Rose, node, Roses, none, more, length_all, height, depth_all}
 use Rattle.module_text.specs.declared.types.PlainPart.{PlainPart}
 use Rattle.module_text.specs.declared.types.PlainLabel.{PlainLabel}
 use Rattle.module_text.specs.declared.modules.PlainAssignment.{PlainAssignment}
 use Rattle.module_text.specs.Texts.{parts_of}
 use Rattle.module_text.specs.Plain.{IsType, AreTypes}
 use Rattle.module_text.specs.Depth.{deep_default, deep_types, deep_in_parts}
-use Rattle.module_faults.specs.declared.spots.Spot.{Spot}
-use Rattle.module_faults.specs.Meaning.{type_meant, types_meant}
+use Rattle.module_text.specs.declared.spots.Spot.{Spot}
+use Rattle.module_text.specs.Meaning.{type_meant, types_meant}
 
 pub nothing-front : {A : Type 0} (xs ys : List A) → xs ++ ys ≡ [] → xs ≡ []
 nothing-front [] ys e = refl

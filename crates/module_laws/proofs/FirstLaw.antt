@@ -4,7 +4,7 @@ use Rattle.std.specs.List.{flat_map}
 use Rattle.module_print.specs.Printed.{opening}
 use Rattle.module_text.specs.declared.modules.PlainAssignment.{PlainAssignment}
 use Rattle.module_text.specs.Texts.{assignment_text}
-use Rattle.module_faults.specs.Faults.{faults_from, faults}
+use Rattle.module_text.specs.Faults.{faults_from, faults}
 use Rattle.module_laws.specs.Laws.{LeastIsFirst}
 use Rattle.module_laws.proofs.Headed.{Run, first_least}
 use Rattle.module_laws.proofs.Placed.{from-run}

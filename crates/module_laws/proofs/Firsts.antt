@@ -6,7 +6,7 @@ use Rattle.std.proofs.lemmas.Bool.{true≢false}
 use Rattle.std.proofs.lemmas.Bool.Decides.{nat_tests}
 use Rattle.std.proofs.lemmas.List.Folds.{list_any-append}
 use Rattle.std.proofs.lemmas.Slice.Eq.{bytes_eq-Decides}
-use Rattle.module_faults.specs.Faults.{has_text}
+use Rattle.module_text.specs.Faults.{has_text}
 
 -- ---- bytes that are the same
 

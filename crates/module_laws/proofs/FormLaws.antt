@@ -4,8 +4,8 @@ use Rattle.std.specs.Prelude.{ℤ, bytes_eq, unwrap_or, if◌then◌else◌}
 use Rattle.std.specs.List.{flat_map, filter_map, IsDistinct}
 use Rattle.std.proofs.lemmas.Bool.{true≢false}
 use Rattle.std.proofs.lemmas.List.Elements.{All-nil, All-cons}
-use Rattle.label_tree.specs.Rose.{Rose, node, Roses, length_all}
-use Rattle.label_tree.specs.Rose as rose
+use Rattle.base_trees.specs.Rose.{Rose, node, Roses, length_all}
+use Rattle.base_trees.specs.Rose as rose
 use Rattle.simple_types.specs.declared.simples.Class.{Class}
 use Rattle.simple_types.specs.Sound.{IsCounted}
 use Rattle.asn_types.specs.declared.types.Component.{Component}
@@ -27,18 +27,18 @@ use Rattle.module_text.specs.declared.modules.PlainAssignment.{PlainAssignment}
 use Rattle.module_text.specs.Names.{is_identifier}
 use Rattle.module_text.specs.Texts.{item_text, parts_of, level_of_parts, form_text, part_texts}
 use Rattle.module_text.specs.Plain.{HasParts, IsName, IsComponent, IsAlternative, IsItem, IsForm}
-use Rattle.module_faults.specs.declared.spots.Spot.{Spot}
-use Rattle.module_faults.specs.declared.spots.Spot.TheVariants as spot_
-use Rattle.module_faults.specs.Told.{words_of, said}
-use Rattle.module_faults.specs.declared.reasons.ModuleWhy.TheVariants as why
-use Rattle.module_faults.specs.Resolving.{number_of}
-use Rattle.module_faults.specs.Simple.{is_order_item, texts_behind}
-use Rattle.module_faults.specs.Orders.{may_be_absent}
-use Rattle.module_faults.specs.Marks.{item_number}
-use Rattle.module_faults.specs.Faults.{type_mark_faults, form_faults, part_spot}
-use Rattle.module_faults.specs.Meaning.{type_marks_meant, names_of, words_meant, int_meant, utf8_meant, list_meant, components_meant, item_meant, form_meant, assignment_meant, module_meant}
-use Rattle.module_faults.specs.Printable.{is_text, texts_due, IsIdentifier, AreIdentifiers, IsPresent, HasNames, IsInSpot}
-use Rattle.module_faults.proofs.PrintedBounds.{range-printed, unless-none}
+use Rattle.module_text.specs.declared.spots.Spot.{Spot}
+use Rattle.module_text.specs.declared.spots.Spot.TheVariants as spot_
+use Rattle.module_text.specs.Told.{words_of, said}
+use Rattle.module_text.specs.declared.reasons.ModuleWhy.TheVariants as why
+use Rattle.module_text.specs.Resolving.{number_of}
+use Rattle.module_text.specs.Simple.{is_order_item, texts_behind}
+use Rattle.module_text.specs.Orders.{may_be_absent}
+use Rattle.module_text.specs.Marks.{item_number}
+use Rattle.module_text.specs.Faults.{type_mark_faults, form_faults, part_spot}
+use Rattle.module_text.specs.Meaning.{type_marks_meant, names_of, words_meant, int_meant, utf8_meant, list_meant, components_meant, item_meant, form_meant, assignment_meant, module_meant}
+use Rattle.module_text.specs.Printable.{is_text, texts_due, IsIdentifier, AreIdentifiers, IsPresent, HasNames, IsInSpot}
+use Rattle.module_text.proofs.PrintedBounds.{range-printed, unless-none}
 use Rattle.module_laws.proofs.Sounding.{numbers_ascend, words_ascend}
 use Rattle.module_laws.proofs.SizeLaws.{range-sound, size-printed}
 use Rattle.module_laws.proofs.NumberLaws.{numbers-printed}

@@ -2,10 +2,10 @@
 use Rattle.std.proofs.Common.{◌≡◌, ℕ, zero, suc, ◌+◌, ◌*◌, ◌<◌, ◌≤◌, ◌↔◌, Bool, true, false, inl, inr, Some, List, [], ◌∷◌, ◌++◌, All, refl, sym, ap, ap₂, ◌∙◌, subst, arith, append_assoc}
 use Rattle.std.proofs.lemmas.Bool.{cases_lt}
 use Rattle.std.proofs.lemmas.List.Elements.{All-cons}
-use Rattle.module_faults.specs.declared.reasons.ModuleWhy.{ModuleWhy}
-use Rattle.module_faults.specs.declared.reasons.ModuleWhy.TheVariants as why
-use Rattle.module_faults.specs.declared.reasons.Fault.{Fault}
-use Rattle.module_faults.specs.Listed.{fault, unless, order, first, SomeFault, Comes, IsLeast}
+use Rattle.module_text.specs.declared.reasons.ModuleWhy.{ModuleWhy}
+use Rattle.module_text.specs.declared.reasons.ModuleWhy.TheVariants as why
+use Rattle.module_text.specs.declared.reasons.Fault.{Fault}
+use Rattle.module_text.specs.Listed.{fault, unless, order, first, SomeFault, Comes, IsLeast}
 
 -- Places first, and at one place the reasons in their order.
 abbrev pub key : Fault → ℕ

@@ -8,17 +8,17 @@ use Rattle.std.proofs.lemmas.Bool.{true≢false, leb-true, eqb-true}
 use Rattle.std.proofs.lemmas.Bool.Decides.{nat_tests}
 use Rattle.std.proofs.lemmas.Str.{chars-IsAscii}
 use Rattle.std.proofs.lemmas.Str.Ascii.{IsAscii-cons, IsAscii-nil}
-use Rattle.xa_base.specs.Characters.{is_xml_char}
-use Rattle.name_map.specs.declared.restoration.NameForm.{NameForm}
-use Rattle.name_map.specs.declared.restoration.NameForm.TheVariants as name_form
-use Rattle.name_map.specs.Restoring.{capitalized, uncapitalized, form_of}
+use Rattle.base_texts.specs.Characters.{is_xml_char}
+use Rattle.asn_names.specs.declared.restoration.NameForm.{NameForm}
+use Rattle.asn_names.specs.declared.restoration.NameForm.TheVariants as name_form
+use Rattle.asn_names.specs.Restoring.{capitalized, uncapitalized, form_of}
 use Rattle.module_print.specs.Instructions.{in_form, as_name}
 use Rattle.module_text.specs.declared.marks.NameAs.{NameAs}
 use Rattle.module_text.specs.declared.marks.NameAs.TheVariants as as_
 use Rattle.module_text.specs.Names.{is_letter_or_digit, is_small, is_capital, goes_on, is_identifier, is_reference}
 use Rattle.module_text.specs.Texts.{as_text}
-use Rattle.module_faults.specs.Told.{told_name, is_form, has_xml_characters, is_told_so, is_xml_text}
-use Rattle.module_faults.proofs.PrintedBounds.{and-first, and-second}
+use Rattle.module_text.specs.Told.{told_name, is_form, has_xml_characters, is_told_so, is_xml_text}
+use Rattle.module_text.proofs.PrintedBounds.{and-first, and-second}
 
 pub and-both : (a b : Bool) → a ≡ true → b ≡ true → (a && b) ≡ true
 and-both true b e f = f

@@ -2,18 +2,18 @@
 use Rattle.std.proofs.Common.{◌≡◌, ℕ, suc, true, ◌&&◌, not, Option, Some, None, List, [], ◌∷◌, ◌++◌, length, map, refl, sym, ap, ◌∙◌, codes}
 use Rattle.std.specs.Prelude.{ℤ, int_lt}
 use Rattle.std.proofs.lemmas.List.Elements.{All-nil, All-cons}
-use Rattle.simple_values.specs.Lexical.{is_128_bits}
+use Rattle.simple_types.specs.Lexical.{is_128_bits}
 use Rattle.asn_types.specs.Bounds.{AreWhole}
 use Rattle.module_print.specs.Instructions.{number_identifier}
 use Rattle.module_print.specs.Printed.{numbered_item}
 use Rattle.module_text.specs.declared.types.NumberedItem.{NumberedItem}
 use Rattle.module_text.specs.Texts.{item_text}
-use Rattle.module_faults.specs.declared.reasons.ModuleWhy.TheVariants as why
-use Rattle.module_faults.specs.Listed.{unless}
-use Rattle.module_faults.specs.Told.{whole_of, is_printed_number}
-use Rattle.module_faults.specs.Simple.{with_number, numbers_of, ascend_behind}
-use Rattle.module_faults.specs.Faults.{has_text, is_above, is_numbered_so, item_faults, numbered_faults}
-use Rattle.module_faults.proofs.PrintedBounds.{unless-none, front-none, behind-none, and-first, and-second, Printed, printed-is}
+use Rattle.module_text.specs.declared.reasons.ModuleWhy.TheVariants as why
+use Rattle.module_text.specs.Listed.{unless}
+use Rattle.module_text.specs.Told.{whole_of, is_printed_number}
+use Rattle.module_text.specs.Simple.{with_number, numbers_of, ascend_behind}
+use Rattle.module_text.specs.Faults.{has_text, is_above, is_numbered_so, item_faults, numbered_faults}
+use Rattle.module_text.proofs.PrintedBounds.{unless-none, front-none, behind-none, and-first, and-second, Printed, printed-is}
 use Rattle.module_laws.proofs.NameLaws.{and-both}
 use Rattle.module_laws.proofs.Firsts.{same_bytes}
 use Rattle.module_laws.proofs.SizeLaws.{whole-bits}

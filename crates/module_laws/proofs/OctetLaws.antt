@@ -3,8 +3,8 @@ use Rattle.std.proofs.Common.{◌≡◌, ℕ, ◌<◌, ◌+◌, ◌*◌, ◌/◌
 use Rattle.std.proofs.lemmas.Bool.Decides.{nat_tests}
 use Rattle.module_print.specs.Notation.{hexadecimal_digit, hexadecimal}
 use Rattle.module_text.specs.Names.{is_hexadecimal_digit}
-use Rattle.module_faults.specs.Defaults.{digit_of, with_octet, octets_of}
-use Rattle.module_faults.proofs.PrintedBounds.{and-first, and-second}
+use Rattle.module_text.specs.Defaults.{digit_of, with_octet, octets_of}
+use Rattle.module_text.proofs.PrintedBounds.{and-first, and-second}
 
 digit-small : (b : ℕ) → is_hexadecimal_digit b ≡ true → digit_of b < 16
 digit-small b e = grind (arith, nat_tests, e)

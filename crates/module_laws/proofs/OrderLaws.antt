@@ -2,8 +2,8 @@
 use Rattle.std.proofs.Common.{◌≡◌, ℕ, zero, suc, ◌+◌, ◌-◌, Bool, true, false, ◌&&◌, not, Option, Some, None, List, [], ◌∷◌, length, map, refl, sym, ap, ◌∙◌, subst, arith, option_map}
 use Rattle.std.specs.Prelude.{bytes_eq, slice_get, if◌then◌else◌}
 use Rattle.std.proofs.lemmas.Bool.{true≢false}
-use Rattle.label_tree.specs.Rose.{Rose, node, Roses, label_of, list_of, length_all}
-use Rattle.label_tree.specs.Rose as rose
+use Rattle.base_trees.specs.Rose.{Rose, node, Roses, label_of, list_of, length_all}
+use Rattle.base_trees.specs.Rose as rose
 use Rattle.simple_types.specs.declared.simples.Class.TheVariants as class_
 use Rattle.asn_types.specs.declared.roles.Role.{Role}
 use Rattle.asn_types.specs.declared.roles.Role.TheVariants as role
@@ -24,16 +24,16 @@ use Rattle.module_text.specs.declared.types.PlainLabel.{PlainLabel}
 use Rattle.module_text.specs.declared.modules.PlainAssignment.{PlainAssignment}
 use Rattle.module_text.specs.Texts.{parts_of}
 use Rattle.module_text.specs.Plain.{IsType, AreTypes}
-use Rattle.module_faults.specs.declared.spots.Spot.{Spot}
-use Rattle.module_faults.specs.declared.spots.Spot.TheVariants as spot_
-use Rattle.module_faults.specs.Told as told
-use Rattle.module_faults.specs.Resolving.{order_place, role_of, resolve}
-use Rattle.module_faults.specs.Simple.{item_spot}
-use Rattle.module_faults.specs.Orders as orders
-use Rattle.module_faults.specs.Orders.{may_be_absent}
-use Rattle.module_faults.specs.Faults.{part_spot}
-use Rattle.module_faults.specs.Meaning.{type_marks_meant, names_of, component_meant, components_meant, form_meant, type_meant, types_meant, module_meant}
-use Rattle.module_faults.proofs.PrintedBounds.{and-first, and-second}
+use Rattle.module_text.specs.declared.spots.Spot.{Spot}
+use Rattle.module_text.specs.declared.spots.Spot.TheVariants as spot_
+use Rattle.module_text.specs.Told as told
+use Rattle.module_text.specs.Resolving.{order_place, role_of, resolve}
+use Rattle.module_text.specs.Simple.{item_spot}
+use Rattle.module_text.specs.Orders as orders
+use Rattle.module_text.specs.Orders.{may_be_absent}
+use Rattle.module_text.specs.Faults.{part_spot}
+use Rattle.module_text.specs.Meaning.{type_marks_meant, names_of, component_meant, components_meant, form_meant, type_meant, types_meant, module_meant}
+use Rattle.module_text.proofs.PrintedBounds.{and-first, and-second}
 use Rattle.module_laws.proofs.Firsts.{same_bytes, mapped, got-within, got-at}
 use Rattle.module_laws.proofs.WordLaws.{not-true}
 use Rattle.module_laws.proofs.RoleLaws.{parts-meant, components-long, label_meant, role-same, nil-same, embed-same, order-same}

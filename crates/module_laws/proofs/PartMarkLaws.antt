@@ -7,8 +7,8 @@ use Rattle.std.specs.Prelude.{chars}
 use Rattle.std.proofs.lemmas.Bool.{true≢false, leb-true}
 use Rattle.std.proofs.lemmas.Bool.Decides.{nat_tests}
 use Rattle.std.proofs.lemmas.List.Elements.{All-nil, All-cons}
-use Rattle.xa_base.specs.WhiteSpace.{has_bytes}
-use Rattle.xa_base.specs.Characters.{is_xml_char}
+use Rattle.base_texts.specs.WhiteSpace.{has_bytes}
+use Rattle.base_texts.specs.Characters.{is_xml_char}
 use Rattle.asn_types.specs.declared.marks.Instruction.{Instruction}
 use Rattle.asn_types.specs.declared.types.Form.{Form}
 use Rattle.module_print.specs.Instructions.{instruction, instructions, bracketed, rank}
@@ -18,13 +18,13 @@ use Rattle.module_text.specs.declared.marks.PartMarkKind.TheVariants as part_mar
 use Rattle.module_text.specs.Ranks.{rank_of_part_mark, part_marks_from}
 use Rattle.module_text.specs.Texts.{part_mark_text, part_marks_text}
 use Rattle.module_text.specs.Plain.{ArePartMarks}
-use Rattle.module_faults.specs.Marks.{part_mark_may, is_rank, part_mark_stands}
-use Rattle.module_faults.specs.Told.{is_told_so}
-use Rattle.module_faults.specs.Faults.{part_mark_faults}
-use Rattle.module_faults.specs.Meaning.{part_mark_meant, part_marks_meant}
-use Rattle.module_faults.specs.Printable.{comes_before, are_in_order, is_of_part, MayHave, HasPartMarks}
-use Rattle.module_faults.proofs.PrintedBounds.{unless-none, front-none, behind-none, and-first, and-second}
-use Rattle.module_faults.proofs.Ranking.{AreFrom, AreBelow, listed}
+use Rattle.module_text.specs.Marks.{part_mark_may, is_rank, part_mark_stands}
+use Rattle.module_text.specs.Told.{is_told_so}
+use Rattle.module_text.specs.Faults.{part_mark_faults}
+use Rattle.module_text.specs.Meaning.{part_mark_meant, part_marks_meant}
+use Rattle.module_text.specs.Printable.{comes_before, are_in_order, is_of_part, MayHave, HasPartMarks}
+use Rattle.module_text.proofs.PrintedBounds.{unless-none, front-none, behind-none, and-first, and-second}
+use Rattle.module_text.proofs.Ranking.{AreFrom, AreBelow, listed}
 use Rattle.module_laws.proofs.NameLaws.{NameBytes, and-both, told-xml, told-other, told-same}
 
 -- ---- one instruction

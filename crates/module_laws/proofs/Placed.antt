@@ -2,7 +2,7 @@
 use Rattle.std.proofs.Common.{◌≡◌, ℕ, suc, ◌+◌, ◌*◌, ◌≤◌, Bool, true, false, ◌&&◌, ◌||◌, Option, Some, None, List, [], ◌∷◌, ◌++◌, map, length, codes, refl, sym, ap, subst, arith, length-append}
 use Rattle.std.specs.Prelude.{ℤ, if◌then◌else◌}
 use Rattle.std.specs.List.{flat_map}
-use Rattle.label_tree.specs.Rose.{Rose, node, Roses, none, more, label_of}
+use Rattle.base_trees.specs.Rose.{Rose, node, Roses, none, more, label_of}
 use Rattle.simple_types.specs.Space.{Space}
 use Rattle.module_print.specs.Notation.{listed, enumerated, block, new_line, class_range}
 use Rattle.module_print.specs.Printed.{labelled}
@@ -29,14 +29,14 @@ use Rattle.module_text.specs.declared.types.PlainLabel.{PlainLabel}
 use Rattle.module_text.specs.declared.modules.PlainAssignment.{PlainAssignment}
 use Rattle.module_text.specs.Texts.{ends_text, range_text, number_range_text, size_text, part_mark_text, type_mark_text, part_marks_text, type_marks_text, fixed_text, absence_text, item_text, parts_of, level_of_parts, form_text, part_text, part_texts, type_text, assignment_text}
 use Rattle.module_text.specs.Places.{behind, placed_number, placed_ends, placed_number_range, placed_size, placed_part_marks, placed_type_marks, placed_fixed, placed_absence, placed_items, placed_names, placed_parts, parts_at, next_at, type_at, placed_form, type_texts, placed_type, placed_types, placed_assignment, placed_from}
-use Rattle.module_faults.specs.declared.reasons.ModuleWhy.TheVariants as why
-use Rattle.module_faults.specs.declared.reasons.Fault.{Fault}
-use Rattle.module_faults.specs.declared.spots.Spot.{Spot}
-use Rattle.module_faults.specs.Listed.{fault, unless, order}
-use Rattle.module_faults.specs.Told.{has_list}
-use Rattle.module_faults.specs.Faults.{type_faults, part_faults, form_faults}
-use Rattle.module_faults.specs.Faults as rule
-use Rattle.xa_base.specs.Limits.{is_empty}
+use Rattle.module_text.specs.declared.reasons.ModuleWhy.TheVariants as why
+use Rattle.module_text.specs.declared.reasons.Fault.{Fault}
+use Rattle.module_text.specs.declared.spots.Spot.{Spot}
+use Rattle.module_text.specs.Listed.{fault, unless, order}
+use Rattle.module_text.specs.Told.{has_list}
+use Rattle.module_text.specs.Faults.{type_faults, part_faults, form_faults}
+use Rattle.module_text.specs.Faults as rule
+use Rattle.base_texts.specs.Limits.{is_empty}
 use Rattle.module_laws.proofs.Headed.{Run, widen, nothing, joined, joined₃, one, Front, usual, unresolved, silent, fronted, tailed}
 
 -- ---- how far lists of texts reach

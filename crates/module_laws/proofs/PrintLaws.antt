@@ -3,13 +3,13 @@ use Rattle.std.proofs.Common.{◌≡◌, ℕ, zero, suc, ◌<◌, ◌+◌, ◌-�
 use Rattle.std.specs.Prelude.{bytes_eq, nat_lt, unwrap_or, if◌then◌else◌}
 use Rattle.std.proofs.lemmas.Bool.{true≢false}
 use Rattle.std.proofs.lemmas.List.Elements.{All-nil, All-cons}
-use Rattle.label_tree.specs.Rose.{Rose, node, Roses, label_of, list_of, length_all}
-use Rattle.label_tree.specs.Rose as rose
+use Rattle.base_trees.specs.Rose.{Rose, node, Roses, label_of, list_of, length_all}
+use Rattle.base_trees.specs.Rose as rose
 use Rattle.simple_types.specs.declared.labels.ValueLabel.{ValueLabel}
 use Rattle.simple_types.specs.declared.simples.Class.{Class}
 use Rattle.simple_types.specs.declared.standards.Standard.TheVariants.{Free, Default}
 use Rattle.simple_types.specs.Space.{Space}
-use Rattle.simple_values.specs.Reading.{reads}
+use Rattle.simple_types.specs.Reading.{reads}
 use Rattle.asn_types.specs.declared.types.Component.{Component}
 use Rattle.asn_types.specs.Parts as parts
 use Rattle.asn_types.specs.Spaces as spaces
@@ -32,18 +32,18 @@ use Rattle.module_text.specs.declared.types.PlainLabel.{PlainLabel}
 use Rattle.module_text.specs.declared.modules.PlainAssignment.{PlainAssignment}
 use Rattle.module_text.specs.Texts.{part_marks_text, type_marks_text, value_text, fixed_text, absence_text, parts_of, level_of_parts, form_text, part_text, part_texts, type_text}
 use Rattle.module_text.specs.Plain.{ArePartMarks, IsAbsence, IsComponent, IsAlternative, IsForm, IsType, AreTypes}
-use Rattle.module_faults.specs.declared.reasons.ModuleWhy.TheVariants as why
-use Rattle.module_faults.specs.declared.spots.Spot.{Spot}
-use Rattle.module_faults.specs.declared.spots.Spot.TheVariants.{Elsewhere}
-use Rattle.module_faults.specs.Told as told
-use Rattle.module_faults.specs.Told.{Bounds, Sizes, range_of, sizes_of}
-use Rattle.module_faults.specs.Resolving.{body_at, next, follow, resolve, reference_of}
-use Rattle.module_faults.specs.Simple.{is_order_item, simple_told}
-use Rattle.module_faults.specs.Orders.{may_be_absent}
-use Rattle.module_faults.specs.Defaults.{spelling_told, is_told, default_told, octets_of}
-use Rattle.module_faults.specs.Faults.{part_mark_faults, is_canonical, fixed_faults, is_fixed, is_default, absence_faults, value_at, part_spot, nameless_parts, space_through, space_at}
-use Rattle.module_faults.specs.Meaning.{part_marks_meant, words_meant, int_meant, utf8_meant, list_meant, default_meant, standard_meant, component_meant, components_meant, form_meant, type_meant, types_meant, module_meant}
-use Rattle.module_faults.proofs.PrintedBounds.{unless-none}
+use Rattle.module_text.specs.declared.reasons.ModuleWhy.TheVariants as why
+use Rattle.module_text.specs.declared.spots.Spot.{Spot}
+use Rattle.module_text.specs.declared.spots.Spot.TheVariants.{Elsewhere}
+use Rattle.module_text.specs.Told as told
+use Rattle.module_text.specs.Told.{Bounds, Sizes, range_of, sizes_of}
+use Rattle.module_text.specs.Resolving.{body_at, next, follow, resolve, reference_of}
+use Rattle.module_text.specs.Simple.{is_order_item, simple_told}
+use Rattle.module_text.specs.Orders.{may_be_absent}
+use Rattle.module_text.specs.Defaults.{spelling_told, is_told, default_told, octets_of}
+use Rattle.module_text.specs.Faults.{part_mark_faults, is_canonical, fixed_faults, is_fixed, is_default, absence_faults, value_at, part_spot, nameless_parts, space_through, space_at}
+use Rattle.module_text.specs.Meaning.{part_marks_meant, words_meant, int_meant, utf8_meant, list_meant, default_meant, standard_meant, component_meant, components_meant, form_meant, type_meant, types_meant, module_meant}
+use Rattle.module_text.proofs.PrintedBounds.{unless-none}
 use Rattle.module_laws.proofs.Firsts.{same_bytes}
 use Rattle.module_laws.proofs.PartMarkLaws.{part_marks-printed}
 use Rattle.module_laws.proofs.TypeMarkLaws.{type_marks-printed}

@@ -3,8 +3,8 @@ use Rattle.std.proofs.Common.{◌≡◌, ℕ, zero, suc, ◌<◌, ◌+◌, Bool,
 use Rattle.std.specs.Prelude.{bytes_eq, slice_get, unwrap_or, if◌then◌else◌}
 use Rattle.std.proofs.lemmas.Bool.{true≢false}
 use Rattle.std.proofs.lemmas.List.Quantifiers.{position-Some}
-use Rattle.label_tree.specs.Rose.{Rose, node, Roses, label_of, length_all}
-use Rattle.label_tree.specs.Rose as rose
+use Rattle.base_trees.specs.Rose.{Rose, node, Roses, label_of, length_all}
+use Rattle.base_trees.specs.Rose as rose
 use Rattle.simple_types.specs.declared.simples.Class.{Class}
 use Rattle.simple_types.specs.Space.{Space}
 use Rattle.asn_types.specs.declared.types.Component.{Component}
@@ -21,14 +21,14 @@ use Rattle.module_text.specs.declared.types.PlainLabel.{PlainLabel}
 use Rattle.module_text.specs.declared.modules.PlainAssignment.{PlainAssignment}
 use Rattle.module_text.specs.Texts.{parts_of}
 use Rattle.module_text.specs.Plain.{IsType, AreTypes}
-use Rattle.module_faults.specs.declared.spots.Spot.{Spot}
-use Rattle.module_faults.specs.declared.spots.Spot.TheVariants.{Elsewhere}
-use Rattle.module_faults.specs.Told.{Bounds, Sizes, range_of, sizes_of}
-use Rattle.module_faults.specs.Resolving.{role_of, reference_of, number_of, body_at, body_of, next, follow, resolve, if_reference, near_references, near_references_of, all_references, all_references_in, chains_within, chains_end}
-use Rattle.module_faults.specs.Simple.{is_order_item, simple_told}
-use Rattle.module_faults.specs.Faults.{part_spot, space_through}
-use Rattle.module_faults.specs.Meaning.{words_meant, int_meant, utf8_meant, list_meant, components_meant, form_meant, type_meant, types_meant, assignment_meant, module_meant}
-use Rattle.module_faults.proofs.PrintedBounds.{and-first, and-second}
+use Rattle.module_text.specs.declared.spots.Spot.{Spot}
+use Rattle.module_text.specs.declared.spots.Spot.TheVariants.{Elsewhere}
+use Rattle.module_text.specs.Told.{Bounds, Sizes, range_of, sizes_of}
+use Rattle.module_text.specs.Resolving.{role_of, reference_of, number_of, body_at, body_of, next, follow, resolve, if_reference, near_references, near_references_of, all_references, all_references_in, chains_within, chains_end}
+use Rattle.module_text.specs.Simple.{is_order_item, simple_told}
+use Rattle.module_text.specs.Faults.{part_spot, space_through}
+use Rattle.module_text.specs.Meaning.{words_meant, int_meant, utf8_meant, list_meant, components_meant, form_meant, type_meant, types_meant, assignment_meant, module_meant}
+use Rattle.module_text.proofs.PrintedBounds.{and-first, and-second}
 use Rattle.module_laws.proofs.SimpleLaws.{Meant, simply}
 use Rattle.module_laws.proofs.RoleLaws.{parts-meant, label_meant, role-same}
 

@@ -2,9 +2,9 @@
 use Rattle.std.proofs.Common.{◌≡◌, ℕ, suc, ◌+◌, Bool, true, false, ◌&&◌, ◌||◌, Option, Some, None, List, [], ◌∷◌, length, refl, ap, ◌∙◌, arith}
 use Rattle.std.specs.Prelude.{◌==◌, if◌then◌else◌}
 use Rattle.std.specs.List.{list_any}
-use Rattle.label_tree.specs.Rose.{Rose, node, Roses, length_all}
-use Rattle.label_tree.specs.Rose as rose
-use Rattle.xa_base.specs.Limits.{is_empty}
+use Rattle.base_trees.specs.Rose.{Rose, node, Roses, length_all}
+use Rattle.base_trees.specs.Rose as rose
+use Rattle.base_texts.specs.Limits.{is_empty}
 use Rattle.simple_types.specs.declared.simples.Class.{Class}
 use Rattle.asn_types.specs.declared.marks.Instruction.{Instruction}
 use Rattle.asn_types.specs.declared.roles.Role.{Role}
@@ -27,12 +27,12 @@ use Rattle.module_text.specs.declared.types.PlainForm.TheVariants as form
 use Rattle.module_text.specs.declared.types.PlainLabel.{PlainLabel}
 use Rattle.module_text.specs.declared.modules.PlainAssignment.{PlainAssignment}
 use Rattle.module_text.specs.Texts.{parts_of}
-use Rattle.module_faults.specs.declared.spots.Spot.{Spot}
-use Rattle.module_faults.specs.Told as told
-use Rattle.module_faults.specs.Told.{Bounds, Sizes, range_of, sizes_of}
-use Rattle.module_faults.specs.Resolving.{order_place, is_item, role_of}
-use Rattle.module_faults.specs.Simple.{is_order_item}
-use Rattle.module_faults.specs.Meaning.{part_mark_meant, part_marks_meant, type_mark_meant, type_marks_meant, words_meant, int_meant, utf8_meant, list_meant, component_meant, components_meant, form_meant}
+use Rattle.module_text.specs.declared.spots.Spot.{Spot}
+use Rattle.module_text.specs.Told as told
+use Rattle.module_text.specs.Told.{Bounds, Sizes, range_of, sizes_of}
+use Rattle.module_text.specs.Resolving.{order_place, is_item, role_of}
+use Rattle.module_text.specs.Simple.{is_order_item}
+use Rattle.module_text.specs.Meaning.{part_mark_meant, part_marks_meant, type_mark_meant, type_marks_meant, words_meant, int_meant, utf8_meant, list_meant, component_meant, components_meant, form_meant}
 
 -- ---- instructions
 

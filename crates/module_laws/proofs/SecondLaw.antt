@@ -3,9 +3,9 @@ use Rattle.std.proofs.Common.{◌≡◌, ℕ, zero, suc, ◌<◌, ◌≤◌, ◌
 use Rattle.std.specs.Prelude.{bytes_eq, slice_get}
 use Rattle.std.specs.List.{flat_map, IsDistinct}
 use Rattle.std.proofs.lemmas.List.Elements.{All-nil, All-cons}
-use Rattle.label_tree.specs.Rose.{Rose, node, label_of}
-use Rattle.name_map.specs.ReservedWords.{reserved_words}
-use Rattle.name_map.proofs.Apart.{lacks-Contains}
+use Rattle.base_trees.specs.Rose.{Rose, node, label_of}
+use Rattle.asn_names.specs.ReservedWords.{reserved_words}
+use Rattle.asn_names.proofs.Apart.{lacks-Contains}
 use Rattle.asn_types.specs.declared.modules.Assignment.{Assignment}
 use Rattle.asn_types.specs.Bounds.{AreBounded}
 use Rattle.asn_types.specs.Modules as modules
@@ -15,10 +15,10 @@ use Rattle.module_text.specs.declared.modules.PlainAssignment.{PlainAssignment}
 use Rattle.module_text.specs.Texts.{part_marks_text, type_text, assignment_text}
 use Rattle.module_text.specs.Plain.{IsType, IsAssignment, limit}
 use Rattle.module_text.specs.Depth.{deep_types}
-use Rattle.module_faults.specs.declared.spots.Spot.TheVariants.{Elsewhere}
-use Rattle.module_faults.specs.Faults.{space_at}
-use Rattle.module_faults.specs.Meaning.{type_meant, assignment_meant, module_meant}
-use Rattle.module_faults.specs.Printable.{IsPrintableAssignment}
+use Rattle.module_text.specs.declared.spots.Spot.TheVariants.{Elsewhere}
+use Rattle.module_text.specs.Faults.{space_at}
+use Rattle.module_text.specs.Meaning.{type_meant, assignment_meant, module_meant}
+use Rattle.module_text.specs.Printable.{IsPrintableAssignment}
 use Rattle.module_laws.specs.Laws.{NoFaultIsPrintable}
 use Rattle.module_laws.proofs.NameLaws.{reference-bytes}
 use Rattle.module_laws.proofs.PartMarkLaws.{part_marks-printable}

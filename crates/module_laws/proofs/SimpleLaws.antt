@@ -4,12 +4,12 @@ use Rattle.std.specs.Prelude.{ℤ, bytes_eq, chars, unwrap_or, if◌then◌else�
 use Rattle.std.specs.List.{list_all}
 use Rattle.std.specs.Str.{is_utf8}
 use Rattle.std.proofs.lemmas.Bool.{true≢false}
-use Rattle.label_tree.specs.Rose.{Rose, node, Roses, length_all}
-use Rattle.label_tree.specs.Rose as rose
-use Rattle.xa_base.specs.Characters.{is_xml_char}
-use Rattle.xa_base.specs.WhiteSpace.{treated}
-use Rattle.xa_base.specs.declared.white_space.WhiteSpace.{WhiteSpace}
-use Rattle.xa_base.specs.declared.white_space.WhiteSpace.TheVariants.{Preserve, Replace, Collapse}
+use Rattle.base_trees.specs.Rose.{Rose, node, Roses, length_all}
+use Rattle.base_trees.specs.Rose as rose
+use Rattle.base_texts.specs.Characters.{is_xml_char}
+use Rattle.base_texts.specs.WhiteSpace.{treated}
+use Rattle.base_texts.specs.declared.white_space.WhiteSpace.{WhiteSpace}
+use Rattle.base_texts.specs.declared.white_space.WhiteSpace.TheVariants.{Preserve, Replace, Collapse}
 use Rattle.simple_types.specs.declared.simples.Class.{Class}
 use Rattle.simple_types.specs.Sound.{Sound, AreSound, AreWords, IsWord, has_list, is_union}
 use Rattle.simple_types.specs.Space.{Space, Spaces, none, more, Booleans, Wholes, Numbers, Words, Characters, ListOf, UnionOf, count_members}
@@ -35,19 +35,19 @@ use Rattle.module_text.specs.declared.types.PlainForm.TheVariants as form
 use Rattle.module_text.specs.declared.types.PlainLabel.{PlainLabel}
 use Rattle.module_text.specs.declared.modules.PlainAssignment.{PlainAssignment}
 use Rattle.module_text.specs.Plain.{IsAlternative, IsItem, IsType, AreTypes}
-use Rattle.module_faults.specs.declared.spots.Spot.{Spot}
-use Rattle.module_faults.specs.declared.spots.Spot.TheVariants.{Elsewhere, OrderItem}
-use Rattle.module_faults.specs.declared.spots.Spot.TheVariants as spot_
-use Rattle.module_faults.specs.declared.spots.Alone.{Alone}
-use Rattle.module_faults.specs.declared.spots.Alone.TheVariants as alone
-use Rattle.module_faults.specs.Told.{Bounds, Sizes, range_of, sizes_of, is_xml_text, have_names_alone, has_use_order, beside, alone_behind, told_alone, is_nothing, is_number_alone, is_list_alone, is_union_alone, white_space_alone, words_of}
-use Rattle.module_faults.specs.Resolving.{role_of}
-use Rattle.module_faults.specs.Simple.{if_so, is_counted, are_bounds, are_sizes, ascend, texts_ascend, is_word, numbers_of, whole_space, number_space, word_space, text_space, list_space, union_space, with_member, are_plain, item_spot, is_order_item, simple_told, members_told, item_told}
-use Rattle.module_faults.specs.Orders.{may_be_absent}
-use Rattle.module_faults.specs.Orders as orders
-use Rattle.module_faults.specs.Faults.{part_spot}
-use Rattle.module_faults.specs.Meaning.{part_marks_meant, type_marks_meant, names_of, words_meant, int_meant, utf8_meant, list_meant, components_meant, item_meant, type_meant, types_meant}
-use Rattle.module_faults.proofs.PrintedBounds.{and-first, and-second}
+use Rattle.module_text.specs.declared.spots.Spot.{Spot}
+use Rattle.module_text.specs.declared.spots.Spot.TheVariants.{Elsewhere, OrderItem}
+use Rattle.module_text.specs.declared.spots.Spot.TheVariants as spot_
+use Rattle.module_text.specs.declared.spots.Alone.{Alone}
+use Rattle.module_text.specs.declared.spots.Alone.TheVariants as alone
+use Rattle.module_text.specs.Told.{Bounds, Sizes, range_of, sizes_of, is_xml_text, have_names_alone, has_use_order, beside, alone_behind, told_alone, is_nothing, is_number_alone, is_list_alone, is_union_alone, white_space_alone, words_of}
+use Rattle.module_text.specs.Resolving.{role_of}
+use Rattle.module_text.specs.Simple.{if_so, is_counted, are_bounds, are_sizes, ascend, texts_ascend, is_word, numbers_of, whole_space, number_space, word_space, text_space, list_space, union_space, with_member, are_plain, item_spot, is_order_item, simple_told, members_told, item_told}
+use Rattle.module_text.specs.Orders.{may_be_absent}
+use Rattle.module_text.specs.Orders as orders
+use Rattle.module_text.specs.Faults.{part_spot}
+use Rattle.module_text.specs.Meaning.{part_marks_meant, type_marks_meant, names_of, words_meant, int_meant, utf8_meant, list_meant, components_meant, item_meant, type_meant, types_meant}
+use Rattle.module_text.proofs.PrintedBounds.{and-first, and-second}
 use Rattle.module_laws.proofs.Sounding.{counted, bounds, sizes, numbers_ascend, words_ascend}
 use Rattle.module_laws.proofs.Firsts.{same_bytes}
 use Rattle.module_laws.proofs.WordLaws.{not-true}

@@ -5,7 +5,7 @@ use Rattle.std.specs.Fmt.{signed_decimal}
 use Rattle.std.specs.Ordering.{int_eq}
 use Rattle.std.proofs.lemmas.Bool.{true≢false, ltb-true}
 use Rattle.std.proofs.lemmas.Bool.Decides.{Decides-int_eq}
-use Rattle.simple_values.specs.Lexical.{is_128_bits, whole_number}
+use Rattle.simple_types.specs.Lexical.{is_128_bits, whole_number}
 use Rattle.simple_types.specs.Sound.{AreBounds, AreSizes}
 use Rattle.asn_types.specs.Bounds.{IsBound, IsSize}
 use Rattle.module_print.specs.Notation.{size, size_range}
@@ -15,9 +15,9 @@ use Rattle.module_text.specs.declared.bounds.PlainEnds.TheVariants as ends
 use Rattle.module_text.specs.declared.bounds.PlainRange.{PlainRange}
 use Rattle.module_text.specs.declared.bounds.PlainRange.TheVariants as range_
 use Rattle.module_text.specs.Texts.{size_text}
-use Rattle.module_faults.specs.Told as told
-use Rattle.module_faults.specs.Faults as rule
-use Rattle.module_faults.proofs.PrintedBounds.{unless-none, front-none, behind-none, and-first, and-second, printed-is}
+use Rattle.module_text.specs.Told as told
+use Rattle.module_text.specs.Faults as rule
+use Rattle.module_text.proofs.PrintedBounds.{unless-none, front-none, behind-none, and-first, and-second, printed-is}
 use Rattle.module_laws.proofs.Sounding.{below-le, below-self, below-sizes}
 
 -- ---- of numbers

@@ -10,9 +10,9 @@ use Rattle.std.proofs.lemmas.Bool.{true≢false, leb-true, ltb-true}
 use Rattle.std.proofs.lemmas.Cmp.{int_cmp_total, nat_list_cmp_total}
 use Rattle.std.proofs.lemmas.Int.{ints}
 use Rattle.simple_types.specs.Sound.{IsCounted, AreBounds, AreSizes}
-use Rattle.module_faults.specs.Told.{Bounds, Sizes}
-use Rattle.module_faults.specs.Simple as simple
-use Rattle.module_faults.proofs.PrintedBounds.{and-first, and-second}
+use Rattle.module_text.specs.Told.{Bounds, Sizes}
+use Rattle.module_text.specs.Simple as simple
+use Rattle.module_text.proofs.PrintedBounds.{and-first, and-second}
 
 pub counted : (n : ℕ) → simple.is_counted n ≡ true → IsCounted n
 counted n e =

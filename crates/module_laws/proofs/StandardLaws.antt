@@ -2,13 +2,13 @@
 use Rattle.std.proofs.Common.{◌≡◌, ℕ, ◌+◌, Bool, true, false, ◌||◌, not, Option, Some, None, Ok, Err, List, [], ◌∷◌, is_some, refl, sym, ap, ◌∙◌}
 use Rattle.std.specs.Prelude.{bytes_eq, unwrap_or, if◌then◌else◌}
 use Rattle.std.proofs.lemmas.Bool.{true≢false}
-use Rattle.label_tree.specs.Rose.{Rose, node, Roses, label_of, list_of, length_all}
-use Rattle.label_tree.specs.Rose as rose
+use Rattle.base_trees.specs.Rose.{Rose, node, Roses, label_of, list_of, length_all}
+use Rattle.base_trees.specs.Rose as rose
 use Rattle.simple_types.specs.declared.labels.ValueLabel.{ValueLabel}
 use Rattle.simple_types.specs.declared.standards.Standard.{Standard}
 use Rattle.simple_types.specs.declared.standards.Standard.TheVariants.{Free, Default, Fixed}
 use Rattle.simple_types.specs.Space.{Space}
-use Rattle.simple_values.specs.Reading.{Reading, reads, spelled}
+use Rattle.simple_types.specs.Reading.{Reading, reads, spelled}
 use Rattle.asn_types.specs.declared.types.TypeLabel.{TypeLabel}
 use Rattle.asn_types.specs.Marks as marked
 use Rattle.asn_types.specs.Refs as refs
@@ -26,17 +26,17 @@ use Rattle.module_text.specs.declared.types.PlainLabel.{PlainLabel}
 use Rattle.module_text.specs.declared.modules.PlainAssignment.{PlainAssignment}
 use Rattle.module_text.specs.Ranks.{rank_of_part_mark}
 use Rattle.module_text.specs.Plain.{IsType, AreTypes}
-use Rattle.module_faults.specs.declared.reasons.ModuleWhy.TheVariants as why
-use Rattle.module_faults.specs.declared.spots.Spot.{Spot}
-use Rattle.module_faults.specs.Told as told
-use Rattle.module_faults.specs.Told.{is_xml_text}
-use Rattle.module_faults.specs.Resolving.{resolve, all_references, all_references_in, number_of}
-use Rattle.module_faults.specs.Orders.{may_be_absent}
-use Rattle.module_faults.specs.Defaults.{own_value, canonical_value, spelling_told, is_told, default_told, octets_of}
-use Rattle.module_faults.specs.Marks.{is_rank, part_mark_may, part_mark_stands}
-use Rattle.module_faults.specs.Faults.{part_mark_faults, is_canonical, fixed_faults, part_spot, space_through, space_at}
-use Rattle.module_faults.specs.Meaning.{part_marks_meant, default_meant, standard_meant, component_meant, components_meant, type_meant, types_meant, module_meant}
-use Rattle.module_faults.proofs.PrintedBounds.{unless-none, front-none, behind-none, and-first, and-second}
+use Rattle.module_text.specs.declared.reasons.ModuleWhy.TheVariants as why
+use Rattle.module_text.specs.declared.spots.Spot.{Spot}
+use Rattle.module_text.specs.Told as told
+use Rattle.module_text.specs.Told.{is_xml_text}
+use Rattle.module_text.specs.Resolving.{resolve, all_references, all_references_in, number_of}
+use Rattle.module_text.specs.Orders.{may_be_absent}
+use Rattle.module_text.specs.Defaults.{own_value, canonical_value, spelling_told, is_told, default_told, octets_of}
+use Rattle.module_text.specs.Marks.{is_rank, part_mark_may, part_mark_stands}
+use Rattle.module_text.specs.Faults.{part_mark_faults, is_canonical, fixed_faults, part_spot, space_through, space_at}
+use Rattle.module_text.specs.Meaning.{part_marks_meant, default_meant, standard_meant, component_meant, components_meant, type_meant, types_meant, module_meant}
+use Rattle.module_text.proofs.PrintedBounds.{unless-none, front-none, behind-none, and-first, and-second}
 use Rattle.module_laws.proofs.Firsts.{same_bytes}
 use Rattle.module_laws.proofs.RoleLaws.{attribute-same}
 use Rattle.module_laws.proofs.ResolveLaws.{AllLead, AllTyped, Leads, resolved-simply, leads-in}

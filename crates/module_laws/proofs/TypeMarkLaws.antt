@@ -5,9 +5,9 @@ use Rattle.std.specs.List.{list_all, flat_map, filter_map, AllByRecursion, IsDis
 use Rattle.std.proofs.lemmas.Bool.{true≢false, leb-true}
 use Rattle.std.proofs.lemmas.Bool.Decides.{nat_tests}
 use Rattle.std.proofs.lemmas.List.Elements.{All-nil, All-cons}
-use Rattle.label_tree.specs.Rose.{Roses}
-use Rattle.name_map.specs.declared.restoration.NameForm.TheVariants as name_form
-use Rattle.name_map.specs.Restoring.{capitalized, uncapitalized, form_of}
+use Rattle.base_trees.specs.Rose.{Roses}
+use Rattle.asn_names.specs.declared.restoration.NameForm.TheVariants as name_form
+use Rattle.asn_names.specs.Restoring.{capitalized, uncapitalized, form_of}
 use Rattle.asn_types.specs.declared.marks.Instruction.{Instruction}
 use Rattle.asn_types.specs.declared.marks.Instruction.TheVariants as mark
 use Rattle.asn_types.specs.declared.types.Form.{Form}
@@ -25,15 +25,15 @@ use Rattle.module_text.specs.declared.modules.PlainAssignment.{PlainAssignment}
 use Rattle.module_text.specs.Ranks.{rank_of_type_mark, type_marks_from}
 use Rattle.module_text.specs.Texts.{type_mark_text, type_marks_text}
 use Rattle.module_text.specs.Plain.{IsTypeMark, AreTypeMarks}
-use Rattle.module_faults.specs.declared.spots.Spot.{Spot}
-use Rattle.module_faults.specs.Simple.{is_order_item}
-use Rattle.module_faults.specs.Marks.{is_text_rank, stands_once, item_number, type_mark_may, next_item}
-use Rattle.module_faults.specs.Told.{Said, said, told_name, is_told_so, words_said, words_of}
-use Rattle.module_faults.specs.Faults.{type_mark_faults}
-use Rattle.module_faults.specs.Meaning.{type_mark_meant, type_marks_meant, names_of}
-use Rattle.module_faults.specs.Printable.{comes_before, are_in_order, is_of_part, is_text, text_marks, texts_due, MayBe, HasTypeMarks}
-use Rattle.module_faults.proofs.PrintedBounds.{unless-none, front-none, behind-none, and-first, and-second}
-use Rattle.module_faults.proofs.Ranking.{AreFrom, AreBelow, listed}
+use Rattle.module_text.specs.declared.spots.Spot.{Spot}
+use Rattle.module_text.specs.Simple.{is_order_item}
+use Rattle.module_text.specs.Marks.{is_text_rank, stands_once, item_number, type_mark_may, next_item}
+use Rattle.module_text.specs.Told.{Said, said, told_name, is_told_so, words_said, words_of}
+use Rattle.module_text.specs.Faults.{type_mark_faults}
+use Rattle.module_text.specs.Meaning.{type_mark_meant, type_marks_meant, names_of}
+use Rattle.module_text.specs.Printable.{comes_before, are_in_order, is_of_part, is_text, text_marks, texts_due, MayBe, HasTypeMarks}
+use Rattle.module_text.proofs.PrintedBounds.{unless-none, front-none, behind-none, and-first, and-second}
+use Rattle.module_text.proofs.Ranking.{AreFrom, AreBelow, listed}
 use Rattle.module_laws.proofs.NameLaws.{and-both, identifier-bytes, told-xml, told-other, told-same}
 use Rattle.module_laws.proofs.SimpleLaws.{all_head, all_tail}
 use Rattle.module_laws.proofs.Firsts.{same_bytes, bytes_same, bytes-self, bytes_apart, apart_bytes, mapped, place-here, place-further}

@@ -4,9 +4,9 @@ use Rattle.std.specs.Prelude.{bytes_eq, nat_lt, slice_get, if◌then◌else◌}
 use Rattle.std.specs.List.{list_any, IsDistinct}
 use Rattle.std.proofs.lemmas.Bool.{true≢false}
 use Rattle.std.proofs.lemmas.List.Elements.{All-nil, All-cons}
-use Rattle.label_tree.specs.Rose.{Rose, node, Roses, label_of, list_of, length_all, Allowed, AllowedAll}
-use Rattle.label_tree.specs.Rose as rose
-use Rattle.xa_base.specs.Limits.{is_empty}
+use Rattle.base_trees.specs.Rose.{Rose, node, Roses, label_of, list_of, length_all, Allowed, AllowedAll}
+use Rattle.base_trees.specs.Rose as rose
+use Rattle.base_texts.specs.Limits.{is_empty}
 use Rattle.simple_types.specs.declared.simples.Class.{Class}
 use Rattle.simple_types.specs.declared.standards.Standard.TheVariants.{Free}
 use Rattle.simple_types.specs.Space.{Space}
@@ -35,20 +35,20 @@ use Rattle.module_text.specs.Ranks.{rank_of_type_mark}
 use Rattle.module_text.specs.Texts.{size_text, type_marks_text, part_marks_text, fixed_text, absence_text, all_of, parts_of, level_of_parts, form_text, part_text, part_texts, type_text}
 use Rattle.module_text.specs.Plain.{ArePartMarks, IsComponent, IsAlternative, IsItem, IsForm, IsType, AreTypes}
 use Rattle.module_print.specs.Printed.{labelled}
-use Rattle.module_faults.specs.declared.reasons.ModuleWhy.TheVariants as why
-use Rattle.module_faults.specs.declared.spots.Spot.{Spot}
-use Rattle.module_faults.specs.declared.spots.Spot.TheVariants as spot_
-use Rattle.module_faults.specs.Told as told
-use Rattle.module_faults.specs.Told.{Bounds, Sizes, range_of, sizes_of}
-use Rattle.module_faults.specs.Resolving.{role_of, resolve, number_of, body_of, chains_within, chains_end, all_references, all_references_in}
-use Rattle.module_faults.specs.Simple.{is_order_item, item_spot, simple_told, is_simple}
-use Rattle.module_faults.specs.Orders as orders
-use Rattle.module_faults.specs.Marks.{stands_once, type_mark_may, next_item}
-use Rattle.module_faults.specs.Faults.{type_mark_faults, is_listed, are_alike, one_if, nameless_parts, part_spot, has_text, space_at}
-use Rattle.module_faults.specs.Meaning.{type_marks_meant, words_meant, int_meant, utf8_meant, list_meant, standard_meant, component_meant, components_meant, item_meant, form_meant, type_meant, types_meant, module_meant}
-use Rattle.module_faults.specs.Printable as printable
-use Rattle.module_faults.specs.Printable.{HasPartMarks, IsPrintableType, ArePrintable, AllPrintable}
-use Rattle.module_faults.proofs.PrintedBounds.{unless-none, front-none, behind-none, and-first, and-second}
+use Rattle.module_text.specs.declared.reasons.ModuleWhy.TheVariants as why
+use Rattle.module_text.specs.declared.spots.Spot.{Spot}
+use Rattle.module_text.specs.declared.spots.Spot.TheVariants as spot_
+use Rattle.module_text.specs.Told as told
+use Rattle.module_text.specs.Told.{Bounds, Sizes, range_of, sizes_of}
+use Rattle.module_text.specs.Resolving.{role_of, resolve, number_of, body_of, chains_within, chains_end, all_references, all_references_in}
+use Rattle.module_text.specs.Simple.{is_order_item, item_spot, simple_told, is_simple}
+use Rattle.module_text.specs.Orders as orders
+use Rattle.module_text.specs.Marks.{stands_once, type_mark_may, next_item}
+use Rattle.module_text.specs.Faults.{type_mark_faults, is_listed, are_alike, one_if, nameless_parts, part_spot, has_text, space_at}
+use Rattle.module_text.specs.Meaning.{type_marks_meant, words_meant, int_meant, utf8_meant, list_meant, standard_meant, component_meant, components_meant, item_meant, form_meant, type_meant, types_meant, module_meant}
+use Rattle.module_text.specs.Printable as printable
+use Rattle.module_text.specs.Printable.{HasPartMarks, IsPrintableType, ArePrintable, AllPrintable}
+use Rattle.module_text.proofs.PrintedBounds.{unless-none, front-none, behind-none, and-first, and-second}
 use Rattle.module_laws.proofs.NameLaws.{NameBytes, identifier-bytes}
 use Rattle.module_laws.proofs.PartMarkLaws.{part_marks-printable}
 use Rattle.module_laws.proofs.TypeMarkLaws.{type_marks-printable}

@@ -3,13 +3,13 @@ use Rattle.std.proofs.Common.{◌≡◌, ℕ, suc, Bool, true, false, ◌||◌, 
 use Rattle.std.specs.Prelude.{bytes_eq, if◌then◌else◌}
 use Rattle.std.proofs.lemmas.Bool.{true≢false}
 use Rattle.module_text.specs.declared.types.PlainName.{PlainName}
-use Rattle.module_faults.specs.declared.reasons.ModuleWhy.TheVariants as why
-use Rattle.module_faults.specs.Listed.{unless}
-use Rattle.module_faults.specs.Told.{Said, told_name, words_said}
-use Rattle.module_faults.specs.Simple.{text_lt, texts_behind}
-use Rattle.module_faults.specs.Faults.{has_text, is_word_above, word_faults}
-use Rattle.module_faults.specs.Meaning.{names_of}
-use Rattle.module_faults.proofs.PrintedBounds.{unless-none, front-none, behind-none}
+use Rattle.module_text.specs.declared.reasons.ModuleWhy.TheVariants as why
+use Rattle.module_text.specs.Listed.{unless}
+use Rattle.module_text.specs.Told.{Said, told_name, words_said}
+use Rattle.module_text.specs.Simple.{text_lt, texts_behind}
+use Rattle.module_text.specs.Faults.{has_text, is_word_above, word_faults}
+use Rattle.module_text.specs.Meaning.{names_of}
+use Rattle.module_text.proofs.PrintedBounds.{unless-none, front-none, behind-none}
 use Rattle.module_laws.proofs.NameLaws.{and-both}
 use Rattle.module_laws.proofs.Firsts.{AreNew}
 

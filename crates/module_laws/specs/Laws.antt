@@ -2,11 +2,11 @@
 use Rattle.std.specs.Prelude.{◌≡◌, ℕ, ◌<◌, ◌^◌, ◌↔◌, Some, List, [], length}
 use Rattle.module_text.specs.declared.modules.PlainAssignment.{PlainAssignment}
 use Rattle.module_text.specs.Grammar.{IsTextOf}
-use Rattle.module_faults.specs.declared.reasons.Fault.{Fault}
-use Rattle.module_faults.specs.Listed.{first, IsLeast}
-use Rattle.module_faults.specs.Faults.{faults}
-use Rattle.module_faults.specs.Meaning.{module_meant}
-use Rattle.module_faults.specs.ReadBack.{IsReadBack}
+use Rattle.module_text.specs.declared.reasons.Fault.{Fault}
+use Rattle.module_text.specs.Listed.{first, IsLeast}
+use Rattle.module_text.specs.Faults.{faults}
+use Rattle.module_text.specs.Meaning.{module_meant}
+use Rattle.module_text.specs.ReadBack.{IsReadBack}
 
 -- The first fault of a text is its least.
 abbrev pub LeastIsFirst : Type 0

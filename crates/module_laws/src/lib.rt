@@ -1,4 +1,4 @@
-//! What holds of the faults of printed modules, each law for all texts.
+//! Proves laws about the faults of printed modules.
 //!
 //! Read first: docs/MODULE-READ.md, then `specs/Laws`.
 #![tactic(auto)]

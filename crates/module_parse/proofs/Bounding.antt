@@ -2,10 +2,10 @@
 use mathlib.Core.Logic.{inl, inr}
 use Rattle.std.proofs.Common.{◌≡◌, ◌⊎◌, ℕ, Option, Some, None, List, refl, sym, subst}
 use Rattle.std.specs.Prelude.{codes}
-use Rattle.plain_text.specs.declared.reach.Reach.{Reach}
-use Rattle.plain_text.specs.declared.reach.Stop.{Stop}
-use Rattle.plain_text.specs.Reading.{nothing_at, or_at, behind_at}
-use Rattle.plain_text.specs.Reached.{IsFinal}
+use Rattle.module_grammar.specs.declared.reach.Reach.{Reach}
+use Rattle.module_grammar.specs.declared.reach.Stop.{Stop}
+use Rattle.module_grammar.specs.Reading.{nothing_at, or_at, behind_at}
+use Rattle.module_grammar.specs.Reached.{IsFinal}
 use Rattle.module_text.specs.declared.bounds.PlainNumber.{PlainNumber}
 use Rattle.module_text.specs.declared.bounds.PlainEnds.{PlainEnds}
 use Rattle.module_text.specs.declared.bounds.PlainEnds.TheVariants as ends

@@ -1,12 +1,12 @@
 -- What is read of readers put together, a step at a time.
 use Rattle.std.proofs.Common.{◌≡◌, ℕ, zero, suc, ◌+◌, ◌-◌, ◌<◌, ◌≤◌, ◌⊎◌, inl, inr, Bool, Option, Some, None, List, [], ◌∷◌, ◌++◌, length, get_or, drop, Result, Ok, Err, refl, sym, ap, subst, ◌∙◌, arith, append_assoc, append-nil, length-drop}
-use Rattle.plain_text.specs.declared.reach.Reach.{Reach}
-use Rattle.plain_text.specs.declared.reach.Stop.{Stop}
-use Rattle.plain_text.specs.declared.reach.Stop.TheVariants as stop
-use Rattle.plain_text.specs.Reading.{Answer, Found, Fails, Deep, Reader, later, word_at, byte_at, nothing_at, then_at, or_at, many_at, up_to, as_at, behind_at, before_at, sunk, sunk_at}
-use Rattle.plain_text.specs.Reached.{reach, reached, reading, Gives, Passes, IsFinal}
-use Rattle.plain_text.proofs.Stepping.{in_form, reading_as, one_and, reading_one}
-use Rattle.plain_text.proofs.Giving.{gives_as, gives_then, stops_then, gives_first, gives_second, sinks_first, gives_behind, stops_behind, gives_before, stops_at_word, stops_before}
+use Rattle.module_grammar.specs.declared.reach.Reach.{Reach}
+use Rattle.module_grammar.specs.declared.reach.Stop.{Stop}
+use Rattle.module_grammar.specs.declared.reach.Stop.TheVariants as stop
+use Rattle.module_grammar.specs.Reading.{Answer, Found, Fails, Deep, Reader, later, word_at, byte_at, nothing_at, then_at, or_at, many_at, up_to, as_at, behind_at, before_at, sunk, sunk_at}
+use Rattle.module_grammar.specs.Reached.{reach, reached, reading, Gives, Passes, IsFinal}
+use Rattle.module_grammar.proofs.Stepping.{in_form, reading_as, one_and, reading_one}
+use Rattle.module_grammar.proofs.Giving.{gives_as, gives_then, stops_then, gives_first, gives_second, sinks_first, gives_behind, stops_behind, gives_before, stops_at_word, stops_before}
 use Rattle.module_grammar.specs.BoundReading.{some_of, option_at}
 use Rattle.module_parse.specs.Reads.{IsRead, IsReadAs, IsStopped, Reads, ReadsWord, IsAgain, IsNothing, optional_of}
 

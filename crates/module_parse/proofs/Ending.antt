@@ -2,12 +2,12 @@
 use mathlib.Core.Logic.{inl, inr}
 use Rattle.std.proofs.Common.{◌≡◌, ◌⊎◌, ℕ, Bool, true, false, Option, Some, None, is_some, List, Result, Ok, Err, refl, sym, ap, ◌∙◌}
 use Rattle.std.specs.Prelude.{codes}
-use Rattle.label_tree.specs.Rose.{Rose}
-use Rattle.plain_text.specs.declared.reach.Reach.{Reach}
-use Rattle.plain_text.specs.declared.reach.Stop.{Stop}
-use Rattle.plain_text.specs.Reading.{Reader, word_at, nothing_at, or_at, as_at}
-use Rattle.plain_text.specs.Reached.{reading, IsFinal}
-use Rattle.plain_text.proofs.Stepping.{in_form, reading_as}
+use Rattle.base_trees.specs.Rose.{Rose}
+use Rattle.module_grammar.specs.declared.reach.Reach.{Reach}
+use Rattle.module_grammar.specs.declared.reach.Stop.{Stop}
+use Rattle.module_grammar.specs.Reading.{Reader, word_at, nothing_at, or_at, as_at}
+use Rattle.module_grammar.specs.Reached.{reading, IsFinal}
+use Rattle.module_grammar.proofs.Stepping.{in_form, reading_as}
 use Rattle.module_text.specs.declared.values.PlainValueLabel.{PlainValueLabel}
 use Rattle.module_text.specs.declared.values.PlainOctets.{PlainOctets}
 use Rattle.module_text.specs.declared.values.Absence.{Absence}

@@ -1,13 +1,13 @@
 -- What stands behind the word of a type.
 use mathlib.Core.Logic.{inl, inr}
 use Rattle.std.proofs.Common.{◌≡◌, ◌⊎◌, ℕ, suc, List, [], Result, Ok, Err, refl, sym, ap, subst, ◌∙◌}
-use Rattle.label_tree.specs.Rose.{Roses, node, none, roses_of}
-use Rattle.plain_text.specs.declared.reach.Reach.{Reach}
-use Rattle.plain_text.specs.declared.reach.Stop.{Stop}
-use Rattle.plain_text.specs.declared.reach.Stop.TheVariants as stop
-use Rattle.plain_text.specs.Reading.{Reader, nothing_at, then_at, or_at, as_at}
-use Rattle.plain_text.specs.Reached.{reading}
-use Rattle.plain_text.proofs.Stepping.{in_form, reading_as}
+use Rattle.base_trees.specs.Rose.{Roses, node, none, roses_of}
+use Rattle.module_grammar.specs.declared.reach.Reach.{Reach}
+use Rattle.module_grammar.specs.declared.reach.Stop.{Stop}
+use Rattle.module_grammar.specs.declared.reach.Stop.TheVariants as stop
+use Rattle.module_grammar.specs.Reading.{Reader, nothing_at, then_at, or_at, as_at}
+use Rattle.module_grammar.specs.Reached.{reading}
+use Rattle.module_grammar.proofs.Stepping.{in_form, reading_as}
 use Rattle.module_text.specs.declared.marks.TypeMark.{TypeMark}
 use Rattle.module_text.specs.declared.types.PlainName.{PlainName}
 use Rattle.module_text.specs.declared.types.NumberedItem.{NumberedItem}

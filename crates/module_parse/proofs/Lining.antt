@@ -1,11 +1,11 @@
 -- Words one behind the other, and new lines.
 use Rattle.std.proofs.Common.{◌≡◌, ◌==◌, if◌then◌else◌, ℕ, zero, suc, ◌+◌, ◌-◌, ◌<◌, ◌≤◌, Bool, true, false, List, [], ◌∷◌, ◌++◌, length, drop, Result, Ok, Err, refl, sym, ap, subst, ◌∙◌, arith, append_assoc, append-nil, add-one}
 use Rattle.std.specs.Prelude.{codes}
-use Rattle.plain_text.specs.declared.reach.Reach.{Reach}
-use Rattle.plain_text.specs.declared.reach.Stop.{Stop}
-use Rattle.plain_text.specs.declared.reach.Stop.TheVariants as stop
-use Rattle.plain_text.specs.Reading.{Answer, Found, Fails, Deep, Reader, later, one_byte_more, word_at, behind, go_on, then_at, as_at, answer_map}
-use Rattle.plain_text.specs.Reached.{reach, reached, reading}
+use Rattle.module_grammar.specs.declared.reach.Reach.{Reach}
+use Rattle.module_grammar.specs.declared.reach.Stop.{Stop}
+use Rattle.module_grammar.specs.declared.reach.Stop.TheVariants as stop
+use Rattle.module_grammar.specs.Reading.{Answer, Found, Fails, Deep, Reader, later, one_byte_more, word_at, behind, go_on, then_at, as_at, answer_map}
+use Rattle.module_grammar.specs.Reached.{reach, reached, reading}
 use Rattle.module_print.specs.Notation.{indent, new_line}
 use Rattle.module_parse.specs.Reads.{IsRead, IsStopped, ReadsWord}
 use Rattle.module_parse.proofs.Chaining.{as_read, as_stops, then_read, then_stops, then_next_stops, no_memory}

@@ -2,12 +2,12 @@
 use mathlib.Core.Logic.{inl, inr}
 use Rattle.std.proofs.Common.{◌≡◌, get_or, ℕ, ◌+◌, ◌-◌, ◌<◌, ◌≤◌, List, [], ◌∷◌, ◌++◌, length, take, drop, refl, sym, ap, ap₂, subst, ◌∙◌, arith, append_assoc, append-nil, drop-drop, take-add}
 use Rattle.std.specs.Prelude.{map, Result, Ok, Err, MatchResult}
-use Rattle.plain_text.specs.declared.reach.Reach.{Reach}
-use Rattle.plain_text.specs.declared.reach.Stop.{Stop}
-use Rattle.plain_text.specs.declared.reach.Stop.TheVariants as stop
-use Rattle.plain_text.specs.Reading.{Reader, many_at}
-use Rattle.plain_text.specs.Reached.{IsFinal}
-use Rattle.plain_text.specs.Shapes.{each_written}
+use Rattle.module_grammar.specs.declared.reach.Reach.{Reach}
+use Rattle.module_grammar.specs.declared.reach.Stop.{Stop}
+use Rattle.module_grammar.specs.declared.reach.Stop.TheVariants as stop
+use Rattle.module_grammar.specs.Reading.{Reader, many_at}
+use Rattle.module_grammar.specs.Reached.{IsFinal}
+use Rattle.module_grammar.specs.Shapes.{each_written}
 use Rattle.module_text.specs.Names.{is_capital}
 use Rattle.module_grammar.specs.MarkReading.{own_mark_at}
 use Rattle.module_grammar.specs.TypeReading.{start_at}

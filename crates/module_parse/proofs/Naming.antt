@@ -1,12 +1,12 @@
 -- Names and octets, whose text is the bytes between.
 use Rattle.std.proofs.Common.{◌≡◌, ℕ, suc, ◌+◌, ◌-◌, ◌<◌, ◌≤◌, Bool, true, false, Option, List, [], ◌∷◌, ◌++◌, length, get_or, take, drop, Result, Ok, Err, refl, sym, ap, subst, ◌∙◌, arith, inl, inr, append-nil}
-use Rattle.plain_text.specs.declared.reach.Reach.{Reach}
-use Rattle.plain_text.specs.declared.reach.Stop.{Stop}
-use Rattle.plain_text.specs.declared.reach.Stop.TheVariants as stop
-use Rattle.plain_text.specs.Reading.{Answer, Found, Fails, Deep, Reader, later, word_at, byte_at, then_at, many_at, as_at, behind_at}
-use Rattle.plain_text.specs.Reached.{reach, reached, reading}
-use Rattle.plain_text.specs.Shapes.{Sunk, never, each_written}
-use Rattle.plain_text.specs.Laws.{Told}
+use Rattle.module_grammar.specs.declared.reach.Reach.{Reach}
+use Rattle.module_grammar.specs.declared.reach.Stop.{Stop}
+use Rattle.module_grammar.specs.declared.reach.Stop.TheVariants as stop
+use Rattle.module_grammar.specs.Reading.{Answer, Found, Fails, Deep, Reader, later, word_at, byte_at, then_at, many_at, as_at, behind_at}
+use Rattle.module_grammar.specs.Reached.{reach, reached, reading}
+use Rattle.module_grammar.specs.Shapes.{Sunk, never, each_written}
+use Rattle.module_grammar.specs.Laws.{Told}
 use Rattle.module_text.specs.Names.{is_letter_or_digit, is_hexadecimal_digit, is_identifier, is_reference, is_small, is_capital}
 use Rattle.module_grammar.specs.NameReading.{piece_at, piece_text, byte_text, name_at, begun, identifier_at, reference_at, octet_at, octet_text, octets_at, octets_of, signed_at}
 use Rattle.module_grammar.proofs.NameLaws.{IsIdentifier, IsReference, identifier_law, reference_law}

@@ -1,13 +1,13 @@
 -- Digits, with `-` before them or without.
 use Rattle.std.proofs.Common.{◌≡◌, ◌==◌, if◌then◌else◌, ◌⊎◌, inl, inr, ℕ, zero, suc, ◌+◌, ◌-◌, ◌<◌, ◌≤◌, Bool, true, false, List, [], ◌∷◌, length, take, drop, get_or, codes, Result, Ok, Err, refl, sym, ap, ◌∙◌, arith, drop-cons, drop_of_length-le, eqb-true}
-use Rattle.xa_base.specs.Digits.{is_digit}
-use Rattle.plain_text.specs.declared.reach.Reach.{Reach}
-use Rattle.plain_text.specs.declared.reach.Stop.{Stop}
-use Rattle.plain_text.specs.declared.reach.Stop.TheVariants as stop
-use Rattle.plain_text.specs.Reading.{Found, Fails, Reader, later, byte_at, word_at, then_at, or_at, many_at, behind_at}
-use Rattle.plain_text.specs.Reached.{reach, reached, reading, Passes, IsFinal}
-use Rattle.plain_text.proofs.Stepping.{in_form, reading_as, and_then, reading_then}
-use Rattle.plain_text.proofs.Giving.{gives_as, gives_then, gives_first, gives_second, gives_behind, stops_behind, sinks_first}
+use Rattle.base_texts.specs.Digits.{is_digit}
+use Rattle.module_grammar.specs.declared.reach.Reach.{Reach}
+use Rattle.module_grammar.specs.declared.reach.Stop.{Stop}
+use Rattle.module_grammar.specs.declared.reach.Stop.TheVariants as stop
+use Rattle.module_grammar.specs.Reading.{Found, Fails, Reader, later, byte_at, word_at, then_at, or_at, many_at, behind_at}
+use Rattle.module_grammar.specs.Reached.{reach, reached, reading, Passes, IsFinal}
+use Rattle.module_grammar.proofs.Stepping.{in_form, reading_as, and_then, reading_then}
+use Rattle.module_grammar.proofs.Giving.{gives_as, gives_then, gives_first, gives_second, gives_behind, stops_behind, sinks_first}
 use Rattle.module_grammar.specs.NameReading.{numeral_at, digits_of, signed_at, signed}
 use Rattle.module_parse.specs.Spans.{between, Spans, GivesSpan, digits_at}
 use Rattle.module_parse.proofs.Spanning.{byte_here, no_byte_here, no_byte_left}

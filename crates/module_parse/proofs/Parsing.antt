@@ -2,12 +2,12 @@
 use mathlib.Core.Logic.{inl, inr}
 use Rattle.std.proofs.Common.{◌≡◌, ◌==◌, if◌then◌else◌, ℕ, ◌+◌, Bool, true, false, List, length, Result, Ok, Err, refl, sym, ap, ◌∙◌, arith}
 use Rattle.std.proofs.lemmas.Bool.Decides.{eqb_tells}
-use Rattle.plain_text.specs.declared.reach.Reach.{Reach}
-use Rattle.plain_text.specs.declared.reach.Stop.{Stop}
-use Rattle.plain_text.specs.declared.reach.Stop.TheVariants as stop
-use Rattle.plain_text.specs.Reading.{Answer, Found, Fails, Deep, later}
-use Rattle.plain_text.specs.Reached.{reach, reached, reading}
-use Rattle.plain_text.specs.Verdicts.{Verdict, Read, Syntax, TooDeep, judged}
+use Rattle.module_grammar.specs.declared.reach.Reach.{Reach}
+use Rattle.module_grammar.specs.declared.reach.Stop.{Stop}
+use Rattle.module_grammar.specs.declared.reach.Stop.TheVariants as stop
+use Rattle.module_grammar.specs.Reading.{Answer, Found, Fails, Deep, later}
+use Rattle.module_grammar.specs.Reached.{reach, reached, reading}
+use Rattle.module_grammar.specs.Verdicts.{Verdict, Read, Syntax, TooDeep, judged}
 use Rattle.module_text.specs.declared.modules.PlainAssignment.{PlainAssignment}
 use Rattle.module_text.specs.Plain.{limit}
 use Rattle.module_text.specs.Grammar.{IsTextOf, IsBroken, Sinks}

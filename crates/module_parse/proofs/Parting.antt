@@ -1,12 +1,12 @@
 -- Parts, and blocks of them.
 use Rattle.std.proofs.Common.{◌≡◌, ℕ, suc, ◌+◌, ◌<◌, ◌≤◌, Option, None, List, [], ◌∷◌, ◌++◌, length, Result, Ok, Err, refl, sym, ap, ap₂, subst, ◌∙◌, arith, append_assoc, append-nil}
 use Rattle.std.specs.Prelude.{map, codes}
-use Rattle.plain_text.specs.declared.reach.Reach.{Reach}
-use Rattle.plain_text.specs.declared.reach.Stop.{Stop}
-use Rattle.plain_text.specs.declared.reach.Stop.TheVariants as stop
-use Rattle.plain_text.specs.Reading.{Reader, word_at, then_at, many_at, behind_at, before_at}
-use Rattle.plain_text.specs.Reached.{reading, IsFinal}
-use Rattle.plain_text.proofs.Stepping.{in_form, and_then, with_first, reading_as, reading_then}
+use Rattle.module_grammar.specs.declared.reach.Reach.{Reach}
+use Rattle.module_grammar.specs.declared.reach.Stop.{Stop}
+use Rattle.module_grammar.specs.declared.reach.Stop.TheVariants as stop
+use Rattle.module_grammar.specs.Reading.{Reader, word_at, then_at, many_at, behind_at, before_at}
+use Rattle.module_grammar.specs.Reached.{reading, IsFinal}
+use Rattle.module_grammar.proofs.Stepping.{in_form, and_then, with_first, reading_as, reading_then}
 use Rattle.module_print.specs.Notation.{new_line}
 use Rattle.module_text.specs.declared.marks.PartMark.{PartMark}
 use Rattle.module_text.specs.declared.values.PlainOctets.{PlainOctets}
@@ -16,7 +16,7 @@ use Rattle.module_text.specs.declared.types.PlainPart.{PlainPart}
 use Rattle.module_grammar.specs.MarkReading.{part_marks_at}
 use Rattle.module_grammar.specs.ValueReading.{listed_of, listed_at}
 use Rattle.module_grammar.specs.TypeReading.{Typed, TypedPart, label_at, component_of, ending_at, bare_of, alternative_at, opening, between, closing, block_at, parts_of, type_at}
-use Rattle.plain_boxes.specs.declared.made.PartHead.{PartHead}
+use Rattle.module_text.specs.declared.made.PartHead.{PartHead}
 use Rattle.module_parse.specs.declared.forms.Sort.{Sort}
 use Rattle.module_parse.specs.declared.forms.Sort.TheVariants as sort
 use Rattle.module_parse.specs.Reads.{IsRead, IsStopped, IsAgain, IsReadAs}

@@ -1,12 +1,12 @@
 -- Encoding instructions, rank by rank.
 use mathlib.Core.Logic.{inl, inr}
 use Rattle.std.proofs.Common.{◌≡◌, get_or, drop, drop-cons, add-one, ◌⊎◌, ℕ, ◌+◌, ◌<◌, ◌≤◌, List, [], ◌∷◌, ◌++◌, length, Result, Ok, Err, refl, sym, ap, subst, ◌∙◌, arith, append_assoc, append-nil}
-use Rattle.plain_text.specs.declared.reach.Reach.{Reach}
-use Rattle.plain_text.specs.declared.reach.Stop.{Stop}
-use Rattle.plain_text.specs.declared.reach.Stop.TheVariants as stop
-use Rattle.plain_text.specs.Reading.{Reader, then_at, or_at, many_at, as_at, nothing_at}
-use Rattle.plain_text.specs.Reached.{reach, reading, IsFinal}
-use Rattle.plain_text.proofs.Stepping.{in_form, and_then, or_next, with_first, reading_as, reading_then, reading_or}
+use Rattle.module_grammar.specs.declared.reach.Reach.{Reach}
+use Rattle.module_grammar.specs.declared.reach.Stop.{Stop}
+use Rattle.module_grammar.specs.declared.reach.Stop.TheVariants as stop
+use Rattle.module_grammar.specs.Reading.{Reader, then_at, or_at, many_at, as_at, nothing_at}
+use Rattle.module_grammar.specs.Reached.{reach, reading, IsFinal}
+use Rattle.module_grammar.proofs.Stepping.{in_form, and_then, or_next, with_first, reading_as, reading_then, reading_or}
 use Rattle.module_text.specs.declared.marks.TypeMarkKind.{TypeMarkKind}
 use Rattle.module_grammar.specs.MarkReading.{joined, ranked_at, no_marks, no_marks_at, either_kind, or_kind_at, own_mark_at}
 use Rattle.module_parse.specs.declared.marks.TypeRank.{TypeRank}

@@ -1,11 +1,11 @@
 -- Bytes of a class, one after the other.
 use Rattle.std.proofs.Common.{◌≡◌, if◌then◌else◌, ℕ, suc, ◌+◌, ◌-◌, ◌<◌, ◌≤◌, Bool, true, false, List, [], ◌∷◌, ◌++◌, length, take, drop, get_or, Result, Ok, Err, refl, sym, ap, ap₂, ◌∙◌, arith, append_assoc, append-nil, take-suc, get_or-drop, length-drop, drop-cons, drop_of_length-le}
-use Rattle.plain_text.specs.declared.reach.Reach.{Reach}
-use Rattle.plain_text.specs.declared.reach.Stop.{Stop}
-use Rattle.plain_text.specs.declared.reach.Stop.TheVariants as stop
-use Rattle.plain_text.specs.Reading.{Answer, Found, Fails, Deep, Reader, later, byte_at, many_at}
-use Rattle.plain_text.specs.Reached.{reach, reached, reading}
-use Rattle.plain_text.proofs.Stepping.{in_form, one_and, reading_many}
+use Rattle.module_grammar.specs.declared.reach.Reach.{Reach}
+use Rattle.module_grammar.specs.declared.reach.Stop.{Stop}
+use Rattle.module_grammar.specs.declared.reach.Stop.TheVariants as stop
+use Rattle.module_grammar.specs.Reading.{Answer, Found, Fails, Deep, Reader, later, byte_at, many_at}
+use Rattle.module_grammar.specs.Reached.{reach, reached, reading}
+use Rattle.module_grammar.proofs.Stepping.{in_form, one_and, reading_many}
 use Rattle.module_parse.specs.Spans.{between, Spans}
 
 -- ---- one byte

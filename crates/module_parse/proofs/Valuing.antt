@@ -2,13 +2,13 @@
 use mathlib.Core.Logic.{inl, inr}
 use Rattle.std.proofs.Common.{◌≡◌, ◌⊎◌, ℕ, suc, ◌+◌, ◌-◌, ◌<◌, ◌≤◌, List, length, Result, Ok, Err, refl, sym, ap, subst, ◌∙◌, arith}
 use Rattle.std.specs.Prelude.{codes}
-use Rattle.label_tree.specs.Rose.{Rose}
-use Rattle.plain_text.specs.declared.reach.Reach.{Reach}
-use Rattle.plain_text.specs.declared.reach.Stop.{Stop}
-use Rattle.plain_text.specs.declared.reach.Stop.TheVariants as stop
-use Rattle.plain_text.specs.Reading.{Reader, word_at, or_at, as_at}
-use Rattle.plain_text.specs.Reached.{reach, reading}
-use Rattle.plain_text.proofs.Stepping.{in_form, or_next, reading_as, reading_or}
+use Rattle.base_trees.specs.Rose.{Rose}
+use Rattle.module_grammar.specs.declared.reach.Reach.{Reach}
+use Rattle.module_grammar.specs.declared.reach.Stop.{Stop}
+use Rattle.module_grammar.specs.declared.reach.Stop.TheVariants as stop
+use Rattle.module_grammar.specs.Reading.{Reader, word_at, or_at, as_at}
+use Rattle.module_grammar.specs.Reached.{reach, reading}
+use Rattle.module_grammar.proofs.Stepping.{in_form, or_next, reading_as, reading_or}
 use Rattle.module_text.specs.declared.values.PlainValueLabel.{PlainValueLabel}
 use Rattle.module_grammar.specs.NameReading.{identifier_at, signed_at, quoted_at}
 use Rattle.module_grammar.specs.ValueReading.{Values, OneValue, value_of, braced_at, chosen_at, one_value_at, value_at}

@@ -1,10 +1,10 @@
 -- Words and single bytes.
 use Rattle.std.proofs.Common.{◌≡◌, ◌==◌, if◌then◌else◌, ℕ, suc, ◌+◌, ◌<◌, ◌≤◌, Bool, true, false, List, [], ◌∷◌, length, get_or, drop, Result, Ok, Err, refl, sym, ap, ◌∙◌, arith}
-use Rattle.plain_text.specs.declared.reach.Reach.{Reach}
-use Rattle.plain_text.specs.declared.reach.Stop.{Stop}
-use Rattle.plain_text.specs.declared.reach.Stop.TheVariants as stop
-use Rattle.plain_text.specs.Reading.{Answer, Found, Fails, Deep, Reader, later, one_byte_more, word_at, byte_at}
-use Rattle.plain_text.specs.Reached.{reach, reached, reading, Passes, PassesWithin}
+use Rattle.module_grammar.specs.declared.reach.Reach.{Reach}
+use Rattle.module_grammar.specs.declared.reach.Stop.{Stop}
+use Rattle.module_grammar.specs.declared.reach.Stop.TheVariants as stop
+use Rattle.module_grammar.specs.Reading.{Answer, Found, Fails, Deep, Reader, later, one_byte_more, word_at, byte_at}
+use Rattle.module_grammar.specs.Reached.{reach, reached, reading, Passes, PassesWithin}
 use Rattle.module_parse.specs.Reads.{IsRead, IsStopped, ReadsWord, ReadsByte, PassesWord}
 use Rattle.module_parse.proofs.Spanning.{byte_here, no_byte_here, no_byte_left}
 use Rattle.module_parse.proofs.Chaining.{no_memory}

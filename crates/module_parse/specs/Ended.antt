@@ -1,12 +1,12 @@
 -- Parts with what is said of them behind their types.
 use Rattle.std.specs.Prelude.{◌≡◌, ℕ, List, Result, Ok, Err}
-use Rattle.plain_text.specs.declared.reach.Reach.{Reach}
-use Rattle.plain_text.specs.declared.reach.Stop.{Stop}
-use Rattle.plain_text.specs.declared.reach.Stop.TheVariants as stop
+use Rattle.module_grammar.specs.declared.reach.Reach.{Reach}
+use Rattle.module_grammar.specs.declared.reach.Stop.{Stop}
+use Rattle.module_grammar.specs.declared.reach.Stop.TheVariants as stop
 use Rattle.module_text.specs.declared.types.PlainPart.{PlainPart}
 use Rattle.module_grammar.specs.TypeReading as type
-use Rattle.plain_boxes.specs.declared.made.PartHead.{PartHead}
-use Rattle.plain_boxes.specs.Made.{part_of}
+use Rattle.module_text.specs.declared.made.PartHead.{PartHead}
+use Rattle.module_text.specs.Made.{part_of}
 use Rattle.module_parse.specs.declared.forms.Sort.{Sort}
 use Rattle.module_parse.specs.declared.forms.Sort.TheVariants as sort
 use Rattle.module_parse.specs.Reads.{IsStopped}

@@ -1,6 +1,6 @@
 -- What bytes are found to be.
 use Rattle.std.specs.Prelude.{ℕ, ⊤, List, Result, Ok, Err}
-use Rattle.xa_base.specs.declared.texts.Memory.{Memory}
+use Rattle.base_texts.specs.declared.texts.Memory.{Memory}
 use Rattle.module_text.specs.Grammar.{IsTextOf, IsBroken, Sinks}
 use Rattle.module_parse.specs.declared.modules.Finding.{Finding}
 use Rattle.module_parse.specs.declared.modules.Finding.TheVariants as finding

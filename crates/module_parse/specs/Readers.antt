@@ -2,11 +2,11 @@
 use mathlib.Core.Logic.{inl, inr}
 use Rattle.std.specs.Prelude.{◌≡◌, ℕ, ◌⊎◌, Option, None, List, [], ◌∷◌, ◌++◌, map, codes, Vec, Result, Ok, Err}
 use Rattle.std.specs.Global.{Global}
-use Rattle.label_tree.specs.Rose.{Rose, roses_of}
+use Rattle.base_trees.specs.Rose.{Rose, roses_of}
 use Rattle.simple_types.specs.declared.simples.Class.{Class}
-use Rattle.plain_text.specs.declared.reach.Reach.{Reach}
-use Rattle.plain_text.specs.declared.reach.Stop.{Stop}
-use Rattle.plain_text.specs.Reading.{Reader, word_at, nothing_at, then_at, or_at, many_at, as_at, behind_at}
+use Rattle.module_grammar.specs.declared.reach.Reach.{Reach}
+use Rattle.module_grammar.specs.declared.reach.Stop.{Stop}
+use Rattle.module_grammar.specs.Reading.{Reader, word_at, nothing_at, then_at, or_at, many_at, as_at, behind_at}
 use Rattle.module_text.specs.declared.bounds.PlainNumber.{PlainNumber}
 use Rattle.module_text.specs.declared.bounds.PlainEnds.{PlainEnds}
 use Rattle.module_text.specs.declared.bounds.PlainEnds.TheVariants as ends
@@ -24,9 +24,9 @@ use Rattle.module_text.specs.declared.types.NumberedItem.{NumberedItem}
 use Rattle.module_text.specs.declared.types.PlainPart.{PlainPart}
 use Rattle.module_text.specs.declared.types.PlainForm.{PlainForm}
 use Rattle.module_text.specs.declared.types.PlainForm.TheVariants as form
-use Rattle.plain_boxes.specs.declared.made.BoxedForm.{BoxedForm}
-use Rattle.plain_boxes.specs.declared.made.Parts.{Parts}
-use Rattle.plain_boxes.specs.Made.{formed}
+use Rattle.module_text.specs.declared.made.BoxedForm.{BoxedForm}
+use Rattle.module_text.specs.declared.made.Parts.{Parts}
+use Rattle.module_text.specs.Made.{formed}
 use Rattle.module_parse.specs.declared.marks.PartRank.{PartRank}
 use Rattle.module_parse.specs.declared.marks.PartRank.TheVariants as part_rank
 use Rattle.module_parse.specs.declared.marks.TypeRank.{TypeRank}

@@ -1,11 +1,11 @@
 -- What the code reads of the bytes, from a place on, as a reader says.
 use Rattle.std.specs.Prelude.{◌≡◌, ℕ, ◌+◌, ◌<◌, ◌≤◌, ⊤, Bool, get_or, Option, Some, None, List, ◌++◌, length, Vec, Result, Ok, Err}
 use Rattle.std.specs.Global.{Global}
-use Rattle.plain_text.specs.declared.reach.Reach.{Reach}
-use Rattle.plain_text.specs.declared.reach.Stop.{Stop}
-use Rattle.plain_text.specs.declared.reach.Stop.TheVariants as stop
-use Rattle.plain_text.specs.Reading.{Reader, later, word_at, byte_at}
-use Rattle.plain_text.specs.Reached.{reach, reading, Gives}
+use Rattle.module_grammar.specs.declared.reach.Reach.{Reach}
+use Rattle.module_grammar.specs.declared.reach.Stop.{Stop}
+use Rattle.module_grammar.specs.declared.reach.Stop.TheVariants as stop
+use Rattle.module_grammar.specs.Reading.{Reader, later, word_at, byte_at}
+use Rattle.module_grammar.specs.Reached.{reach, reading, Gives}
 use Rattle.module_parse.specs.Spans.{between}
 
 -- This value is read, and reading goes on from that place.

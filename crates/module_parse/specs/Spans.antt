@@ -1,11 +1,11 @@
 -- What is read where only its bytes count.
 use Rattle.std.specs.Prelude.{◌≡◌, ℕ, ◌-◌, ◌≤◌, ⊤, List, take, drop, length, Result, Ok, Err}
-use Rattle.plain_text.specs.declared.reach.Reach.{Reach}
-use Rattle.xa_base.specs.Digits.{is_digit}
-use Rattle.plain_text.specs.Reading.{Reader, byte_at, many_at}
-use Rattle.plain_text.specs.Reached.{reading}
-use Rattle.plain_text.specs.declared.reach.Stop.{Stop}
-use Rattle.plain_text.specs.declared.reach.Stop.TheVariants as stop
+use Rattle.module_grammar.specs.declared.reach.Reach.{Reach}
+use Rattle.base_texts.specs.Digits.{is_digit}
+use Rattle.module_grammar.specs.Reading.{Reader, byte_at, many_at}
+use Rattle.module_grammar.specs.Reached.{reading}
+use Rattle.module_grammar.specs.declared.reach.Stop.{Stop}
+use Rattle.module_grammar.specs.declared.reach.Stop.TheVariants as stop
 
 -- the bytes from the one place up to the other
 abbrev pub between : List ℕ → ℕ → ℕ → List ℕ

@@ -6,8 +6,8 @@ ghost use Rattle.module_grammar.specs.BoundReading.{ends_at, range_at, some_rang
 
 use crate::names::{number, octets};
 use crate::steps::{again, literal, nothing, optional};
+use module_grammar::{Reach, Stop};
 use module_text::{PlainEnds, PlainNumber, PlainOctets, PlainRange};
-use plain_text::{Reach, Stop};
 use simple_types::Class;
 use std::alloc::Global;
 

@@ -8,9 +8,9 @@ ghost use Rattle.module_grammar.specs.TypeReading.{ending_at};
 use crate::bounds::fixed;
 use crate::steps::{again, literal, nothing};
 use crate::values::value;
-use label_tree::Tree;
+use base_trees::Tree;
+use module_grammar::{Reach, Stop};
 use module_text::{Absence, PlainOctets, PlainValueLabel};
-use plain_text::{Reach, Stop};
 use std::alloc::Global;
 
 fn default(

@@ -1,6 +1,6 @@
 //! Types, with so many in one another at most, on lines that are indented by so many levels.
 ghost use Rattle.std.specs.Prelude.{◌≡◌, ◌++◌, ◌≤◌, ◌+◌, ◌<◌, ◌^◌, length, suc};
-ghost use Rattle.plain_text.specs.Reading.{behind_at};
+ghost use Rattle.module_grammar.specs.Reading.{behind_at};
 ghost use Rattle.module_print.specs.Notation.{new_line};
 ghost use Rattle.module_grammar.specs.TypeReading as grammar;
 ghost use Rattle.module_grammar.specs.TypeReading.{type_at};
@@ -15,14 +15,14 @@ use crate::marks::{part_marks, too_deep, type_marks};
 use crate::names::plain_reference;
 use crate::parts::{closing_brace, item_label, label, word_and_line};
 use crate::steps::{again, literal, nothing};
-use label_tree::Tree;
+use base_texts::Text;
+use base_trees::Tree;
+use module_grammar::{Reach, Stop};
 use module_text::{
-    Absence, PlainEnds, PlainForm, PlainLabel, PlainList, PlainName, PlainOctets, PlainPart,
+    Absence, Boxed, BoxedForm, PartHead, Parts, PlainEnds, PlainForm, PlainLabel, PlainList,
+    PlainName, PlainOctets, PlainPart, join,
 };
-use plain_boxes::{Boxed, BoxedForm, PartHead, Parts, join};
-use plain_text::{Reach, Stop};
 use std::alloc::Global;
-use xa_base::Text;
 
 type TypeTree = Tree<PlainLabel>;
 

@@ -1,6 +1,6 @@
 //! Items of an ENUMERATED.
 ghost use Rattle.std.specs.Prelude.{◌≤◌, length, codes};
-ghost use Rattle.plain_text.specs.Reading.{behind_at};
+ghost use Rattle.module_grammar.specs.Reading.{behind_at};
 ghost use Rattle.module_grammar.specs.NameReading.{plain_identifier_at};
 ghost use Rattle.module_grammar.specs.ValueReading.{listed_at};
 ghost use Rattle.module_grammar.specs.TypeReading.{numbered_at, enumerated_at};
@@ -9,8 +9,8 @@ ghost use Rattle.module_parse.specs.Readers.{enumerated_form_at};
 
 use crate::names::{number, plain_identifier};
 use crate::steps::{again, literal, nothing};
+use module_grammar::{Reach, Stop};
 use module_text::{NumberedItem, PlainForm, PlainList, PlainName};
-use plain_text::{Reach, Stop};
 use std::alloc::Global;
 
 fn numbered_item(alloc: Global, bytes: &[u8], from: Reach) -> Result<(NumberedItem, Reach), Stop>

@@ -1,7 +1,7 @@
-//! Texts of the plain grammar, read.
+//! Reads the text of a printed module into a tree, or reports its first error.
 //!
-//! Each function reads one thing from a place of the bytes on, as `module_grammar` says: it gives the thing and the place behind
-//! it, or else the longest front that begins a text, or the place of a type or a value that lies too deep.
+//! Each function reads one thing at a place of the bytes, as `module_grammar` defines it. It returns the thing and the place
+//! after it, or the longest prefix that begins a text, or the place of a type or a value that is nested too deep.
 #![tactic(auto)]
 
 mod bounds;

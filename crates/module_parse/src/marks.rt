@@ -1,6 +1,6 @@
 //! Encoding instructions.
 ghost use Rattle.std.specs.Prelude.{◌≤◌, length};
-ghost use Rattle.plain_text.specs.Reading.{many_at, sunk_at};
+ghost use Rattle.module_grammar.specs.Reading.{many_at, sunk_at};
 ghost use Rattle.module_grammar.specs.MarkReading.{word_kind_at, name_as_at, name_mark_at, namespace_at, white_space_at, text_mark_at, part_marks_at, type_marks_at, own_mark_at};
 ghost use Rattle.module_grammar.specs.TypeReading.{Typed, start_at};
 ghost use Rattle.module_parse.specs.Reads.{Reads, ReadsMore, Finds, IsStopped, Stays, Moves};
@@ -8,8 +8,8 @@ ghost use Rattle.module_parse.specs.Readers.{part_kind_at, part_mark_at, type_ki
 
 use crate::names::{identifier, quoted};
 use crate::steps::{ByteClass, again, byte, literal, nothing};
+use module_grammar::{Reach, Stop};
 use module_text::{NameAs, PartMark, PartMarkKind, PlainList, TypeMark, TypeMarkKind};
-use plain_text::{Reach, Stop};
 use std::alloc::Global;
 
 // CAPITALIZED, UNCAPITALIZED or a quoted text.

@@ -1,8 +1,8 @@
 //! Modules.
 ghost use Rattle.std.specs.Prelude.{◌≡◌, ◌≤◌, length};
 ghost use Rattle.module_text.specs.Plain as plain;
-ghost use Rattle.plain_text.specs.Reading.{many_at};
-ghost use Rattle.plain_text.specs.Reached.{reach, StaysWithin};
+ghost use Rattle.module_grammar.specs.Reading.{many_at};
+ghost use Rattle.module_grammar.specs.Reached.{reach, StaysWithin};
 ghost use Rattle.module_grammar.specs.ModuleReading.{assignment_at, module_at};
 ghost use Rattle.module_parse.specs.Reads.{Reads, ReadsList, Stays, Moves};
 ghost use Rattle.module_parse.specs.Parsed.{Parses};
@@ -11,10 +11,10 @@ use crate::forms::body;
 use crate::marks::part_marks;
 use crate::names::reference;
 use crate::steps::{again, literal};
+use base_texts::Memory;
+use module_grammar::{Reach, Stop};
 use module_text::PlainAssignment;
-use plain_text::{Reach, Stop};
 use std::alloc::Global;
-use xa_base::Memory;
 
 // How many types, and how many values, lie in one another at most.
 const LIMIT: u32 = 1024;

@@ -1,17 +1,17 @@
 //! Names, numbers, quoted texts and octets.
 ghost use Rattle.std.specs.Prelude.{◌≡◌, ◌≤◌, length, map, IfOk};
-ghost use Rattle.plain_text.specs.Reading.{many_at};
-ghost use Rattle.plain_text.specs.Shapes.{each_written};
+ghost use Rattle.module_grammar.specs.Reading.{many_at};
+ghost use Rattle.module_grammar.specs.Shapes.{each_written};
 ghost use Rattle.module_parse.specs.Spans.{Spans, Lies, GivesSpan, LiesWithin, digits_at};
 ghost use Rattle.module_parse.specs.Reads.{Reads, ReadsAs, ReadsSpan, PassesMoving, PassesStaying, Stays, Moves};
 ghost use Rattle.module_grammar.specs.NameReading.{piece_at, piece_text, identifier_at, reference_at, plain_identifier_at, numeral_at, signed_at, number_at, quoted_byte_at, byte_of, quoted_at, octet_at, octet_text, octets_at};
 ghost use Rattle.module_grammar.specs.TypeReading.{plain_reference_at};
 
 use crate::steps::{ByteClass, again, byte, literal};
+use base_texts::{Text, is_digit};
+use module_grammar::{Reach, Stop, later, word};
 use module_text::{PlainName, PlainNumber, Written, identifier_text, reference_text};
-use plain_text::{Reach, Stop, later, word};
 use std::alloc::{AllocError, Global};
-use xa_base::{Text, is_digit};
 
 // A letter or a digit, behind a hyphen or not.
 fn piece(bytes: &[u8], from: Reach) -> Result<Reach, Stop>

@@ -6,9 +6,9 @@ ghost use Rattle.module_parse.specs.Reads.{Reads, ReadsWord, PassesMoving, Stays
 
 use crate::names::identifier;
 use crate::steps::{again, literal, nothing};
-use plain_text::{Reach, Stop};
+use base_texts::Text;
+use module_grammar::{Reach, Stop};
 use std::alloc::Global;
-use xa_base::Text;
 
 /// An identifier with a space behind it.
 pub fn label(alloc: Global, bytes: &[u8], from: Reach) -> Result<(Text, Reach), Stop>

@@ -1,11 +1,11 @@
 //! Words, and what comes behind what failed.
 ghost use Rattle.std.specs.Prelude.{◌≡◌, ◌≤◌, length, MatchResult};
-ghost use Rattle.plain_text.specs.Reached.{IsFinal};
+ghost use Rattle.module_grammar.specs.Reached.{IsFinal};
 ghost use Rattle.module_parse.specs.Reads.{ReadsWord, ReadsByte, PassesWord, IsAgain, IsNothing, optional_of};
 ghost use Rattle.module_parse.specs.Classes.{class_test};
 
-use plain_text::{Reach, Stop, later, word};
-use xa_base::is_digit;
+use base_texts::is_digit;
+use module_grammar::{Reach, Stop, later, word};
 
 /// This word.
 pub fn literal(text: &[u8], bytes: &[u8], from: Reach) -> Result<Reach, Stop>

@@ -1,18 +1,18 @@
 //! Values behind DEFAULT.
 ghost use Rattle.std.specs.Prelude.{◌≡◌, ◌≤◌, length, codes, List};
-ghost use Rattle.label_tree.specs.Rose.{Rose, node, none};
-ghost use Rattle.plain_text.specs.Reading.{sunk_at, byte_at, behind_at};
+ghost use Rattle.base_trees.specs.Rose.{Rose, node, none};
+ghost use Rattle.module_grammar.specs.Reading.{sunk_at, byte_at, behind_at};
 ghost use Rattle.module_grammar.specs.ValueReading.{label, is_value_first, listed_at, braced_at, chosen_at, value_at};
 ghost use Rattle.module_parse.specs.Reads.{Reads, ReadsList, IsStopped, Stays, Moves};
 ghost use Rattle.module_parse.specs.Readers.{late_value_at};
 
 use crate::names::{identifier, quoted, signed};
 use crate::steps::{ByteClass, again, byte, literal};
-use label_tree::Tree;
+use base_texts::Text;
+use base_trees::Tree;
+use module_grammar::{Reach, Stop};
 use module_text::{PlainValue, PlainValueLabel};
-use plain_text::{Reach, Stop};
 use std::alloc::Global;
-use xa_base::Text;
 
 type ValueTree = Tree<PlainValueLabel>;
 

@@ -1,7 +1,7 @@
 -- The first fault of lists one behind another.
 use Rattle.std.proofs.Common.{◌≡◌, Option, Some, None, List, [], ◌∷◌, ◌++◌}
-use Rattle.module_faults.specs.declared.reasons.Fault.{Fault}
-use Rattle.module_faults.specs.Listed.{first}
+use Rattle.module_text.specs.declared.reasons.Fault.{Fault}
+use Rattle.module_text.specs.Listed.{first}
 
 -- it is that of the first list, where this has one,
 pub first-front : (xs ys : List Fault) (f : Fault) → Some f ≡ first xs → Some f ≡ first (xs ++ ys)

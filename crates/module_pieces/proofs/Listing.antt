@@ -7,13 +7,13 @@ use Rattle.module_text.specs.declared.marks.PartMark.{PartMark}
 use Rattle.module_text.specs.declared.types.NumberedItem.{NumberedItem}
 use Rattle.module_text.specs.declared.types.PlainName.{PlainName}
 use Rattle.module_text.specs.Ranks.{rank_of_part_mark}
-use Rattle.module_faults.specs.declared.reasons.Fault.{Fault}
-use Rattle.module_faults.specs.declared.reasons.ModuleWhy.TheVariants.{Duplicate, Spelling}
-use Rattle.module_faults.specs.Listed.{fault, first}
-use Rattle.module_faults.specs.Told.{whole_of}
-use Rattle.module_faults.specs.Simple.{with_number}
-use Rattle.module_faults.specs.Marks.{part_mark_stands}
-use Rattle.module_faults.specs.Faults.{part_mark_faults, has_text, item_faults, numbered_faults, is_word_above, word_faults}
+use Rattle.module_text.specs.declared.reasons.Fault.{Fault}
+use Rattle.module_text.specs.declared.reasons.ModuleWhy.TheVariants.{Duplicate, Spelling}
+use Rattle.module_text.specs.Listed.{fault, first}
+use Rattle.module_text.specs.Told.{whole_of}
+use Rattle.module_text.specs.Simple.{with_number}
+use Rattle.module_text.specs.Marks.{part_mark_stands}
+use Rattle.module_text.specs.Faults.{part_mark_faults, has_text, item_faults, numbered_faults, is_word_above, word_faults}
 use Rattle.module_pieces.proofs.Firsts.{first-front, first-behind}
 
 -- ---- encoding instructions of parts

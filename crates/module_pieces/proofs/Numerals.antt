@@ -6,14 +6,14 @@ use Rattle.std.specs.Str.{IsAscii}
 use Rattle.std.specs.Str.Parse.{without_leading_sign, starts_with_minus, signed_digits_value}
 use Rattle.std.proofs.lemmas.Bool.{true≢false, leb-true, ltb-true, eqb-true}
 use Rattle.std.proofs.lemmas.Str.{IsUtf8-from_ascii}
-use Rattle.xa_base.specs.Digits.{is_digit, is_numeral}
-use Rattle.simple_values.specs.declared.numbers.Whole.{Whole}
-use Rattle.simple_values.specs.declared.numbers.Whole.TheVariants.{Within, Above, Below}
-use Rattle.simple_values.specs.Written.{Writes}
-use Rattle.simple_values.specs.Lexical.{whole_number, is_128_bits}
-use Rattle.simple_values.proofs.WholeNumbers.{and-first, and-second, unwritten, written_within, written_below, written_above}
+use Rattle.base_texts.specs.Digits.{is_digit, is_numeral}
+use Rattle.simple_types.specs.declared.numbers.Whole.{Whole}
+use Rattle.simple_types.specs.declared.numbers.Whole.TheVariants.{Within, Above, Below}
+use Rattle.simple_types.specs.Written.{Writes}
+use Rattle.simple_types.specs.Lexical.{whole_number, is_128_bits}
+use Rattle.simple_types.proofs.WholeNumbers.{and-first, and-second, unwritten, written_within, written_below, written_above}
 use mir.Syntax.{w128}
-use Rattle.module_faults.specs.Told.{if_128_bits}
+use Rattle.module_text.specs.Told.{if_128_bits}
 
 -- what the code keeps of a number
 abbrev pub kept : Option Whole → Option ℤ

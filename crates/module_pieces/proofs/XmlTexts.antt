@@ -5,8 +5,8 @@ use Rattle.std.specs.Str.{IsUtf8, is_utf8}
 use Rattle.std.proofs.lemmas.Bool.{false_from_ne_true}
 use Rattle.std.proofs.lemmas.List.Folds.{list_all-append}
 use Rattle.std.proofs.lemmas.Str.{IsUtf8-from_is_utf8, is_utf8-from_IsUtf8}
-use Rattle.xa_base.specs.Characters.{is_xml_char}
-use Rattle.module_faults.specs.Told.{is_xml_text}
+use Rattle.base_texts.specs.Characters.{is_xml_char}
+use Rattle.module_text.specs.Told.{is_xml_text}
 
 pub xml-utf8 : (bs : List ℕ) → IsUtf8 bs → list_all is_xml_char (chars bs) ≡ is_xml_text bs
 xml-utf8 bs u = rw (is_utf8-from_IsUtf8 bs u) refl

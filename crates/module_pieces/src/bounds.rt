@@ -1,13 +1,12 @@
 //! Bounds of numbers and sizes.
 ghost use Rattle.std.specs.Prelude.{◌≡◌};
-ghost use Rattle.module_faults.specs.Listed.{first};
-ghost use Rattle.module_faults.specs.Told as told;
-ghost use Rattle.module_faults.specs.Faults as rule;
+ghost use Rattle.module_text.specs.Listed.{first};
+ghost use Rattle.module_text.specs.Told as told;
+ghost use Rattle.module_text.specs.Faults as rule;
 
 use crate::finding::unless;
 use crate::numbers::{is_printed_number, is_size, size_of, whole_of};
-use module_faults::{Fault, ModuleWhy};
-use module_text::{PlainEnds, PlainNumber, PlainRange};
+use module_text::{Fault, ModuleWhy, PlainEnds, PlainNumber, PlainRange};
 
 /// A least and a greatest number, where there is one.
 pub type Bounds = (Option<i128>, Option<i128>);
@@ -109,7 +108,7 @@ fn ends_fault(ends: &PlainEnds) -> Option<Fault>
 }
 
 /// The first fault of the bounds of an INTEGER.
-#[tactic(auto, unfolding(module_faults::specs::Listed::first))]
+#[tactic(auto, unfolding(module_text::specs::Listed::first))]
 pub fn range_fault(range: &Option<PlainRange>) -> Option<Fault>
     ensures { result ≡ first (rule.range_faults range.now) }
 {
@@ -137,7 +136,7 @@ fn one_size_fault(number: &PlainNumber) -> Option<Fault>
 }
 
 /// The first fault of a size.
-#[tactic(auto, using(crate::proofs::Firsts::firsts), unfolding(module_faults::specs::Listed::first))]
+#[tactic(auto, using(crate::proofs::Firsts::firsts), unfolding(module_text::specs::Listed::first))]
 pub fn size_fault(size: &Option<PlainEnds>) -> Option<Fault>
     ensures { result ≡ first (rule.size_faults size.now) }
 {

@@ -1,11 +1,11 @@
 //! Faults one behind another.
 ghost use Rattle.std.specs.Prelude.{◌≡◌};
-ghost use Rattle.module_faults.specs.Listed as listed;
+ghost use Rattle.module_text.specs.Listed as listed;
 
-use module_faults::{Fault, ModuleWhy};
+use module_text::{Fault, ModuleWhy};
 
 /// A fault here, for this reason, unless it is so.
-#[tactic(auto, unfolding(module_faults::specs::Listed::first))]
+#[tactic(auto, unfolding(module_text::specs::Listed::first))]
 pub fn unless(holds: bool, at: u64, why: ModuleWhy) -> Option<Fault>
     ensures { result ≡ listed.first (listed.unless holds at why) }
 {

@@ -1,17 +1,16 @@
 //! Items of an ENUMERATED.
 ghost use Rattle.std.specs.Prelude.{◌≡◌, ◌||◌, None, Some, [], IfOk, MatchOption, option_map};
-ghost use Rattle.module_faults.specs.Listed.{first};
-ghost use Rattle.module_faults.specs.Simple as simple;
-ghost use Rattle.module_faults.specs.Faults as rule;
+ghost use Rattle.module_text.specs.Listed.{first};
+ghost use Rattle.module_text.specs.Simple as simple;
+ghost use Rattle.module_text.specs.Faults as rule;
 
 use crate::bounds::is_below;
 use crate::finding::unless;
 use crate::numbers::{is_printed_number, whole_of};
 use crate::seen::Seen;
-use module_faults::{Fault, ModuleWhy};
-use module_text::{NumberedItem, PlainName, Written};
+use base_texts::Memory;
+use module_text::{Fault, ModuleWhy, NumberedItem, PlainName, Written};
 use std::alloc::Global;
-use xa_base::Memory;
 
 // Whether the identifier is `int` and the number.
 fn is_numbered_so(item: &NumberedItem) -> bool

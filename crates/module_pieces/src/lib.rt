@@ -1,14 +1,17 @@
-//! What the pieces of a plain text say, and their faults: numbers, bounds, names, items, encoding instructions, shapes of types.
+//! Reads the parts of a printed type, its numbers, bounds, names, items and instructions, and reports their faults.
 //!
-//! Read first: docs/MODULE-READ.md, `Faults` in the specs of `module_faults`, then `src/numbers.rt`, which all else stands on.
+//! Read first: docs/MODULE-READ.md, `Faults` in the specs of `module_text`, then `src/numbers.rt`, the base of the others;
+//! `Indexed` in the specs, then `src/indexes.rt`.
 #![tactic(auto)]
 
 mod bounds;
 mod finding;
+mod indexes;
 mod items;
 mod names;
 mod numbers;
 mod part_marks;
+mod places;
 mod resolving;
 mod seen;
 mod shapes;
@@ -17,6 +20,7 @@ mod words;
 
 pub use bounds::{Bounds, bounds_of, range_fault, range_of, size_fault, sizes_of};
 pub use finding::unless;
+pub use indexes::{Index, index_of, indexes_of};
 pub use items::{numbered_fault, numbers_of, text_lt, word_fault};
 pub use names::{is_told_so, is_xml_text, told_name};
 pub use numbers::{is_printed_number, size_of, whole_of};

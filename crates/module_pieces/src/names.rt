@@ -1,13 +1,13 @@
 //! Names and texts beside the identifiers of ASN.1.
 ghost use Rattle.std.specs.Prelude.{◌≡◌, ◌∷◌, IfOk, bytes_eq, chars};
 ghost use Rattle.std.specs.List.{list_all};
-ghost use Rattle.xa_base.specs.Characters.{is_xml_char};
-ghost use Rattle.name_map.specs.Restoring.{capitalized, uncapitalized, form_of};
-ghost use Rattle.module_faults.specs.Told as told;
+ghost use Rattle.base_texts.specs.Characters.{is_xml_char};
+ghost use Rattle.asn_names.specs.Restoring.{capitalized, uncapitalized, form_of};
+ghost use Rattle.module_text.specs.Told as told;
 
+use base_texts::{Memory, is_xml_char};
 use module_text::NameAs;
 use std::alloc::Global;
-use xa_base::{Memory, is_xml_char};
 
 fn are_xml_chars(text: &str) -> bool
     ensures { result ≡ list_all is_xml_char (chars text.now) }

@@ -1,13 +1,13 @@
 //! Numbers as they are written.
 ghost use Rattle.std.specs.Prelude.{◌≡◌, ◌-◌};
 ghost use Rattle.std.specs.Str.Parse.{without_leading_sign, starts_with_minus};
-ghost use Rattle.simple_values.specs.Lexical.{whole_number};
-ghost use Rattle.module_faults.specs.Told as told;
-ghost use Rattle.module_faults.specs.Faults as rule;
+ghost use Rattle.simple_types.specs.Lexical.{whole_number};
+ghost use Rattle.module_text.specs.Told as told;
+ghost use Rattle.module_text.specs.Faults as rule;
 
+use base_texts::{is_numeral, utf8_text};
 use itoa::Buffer;
 use module_text::PlainNumber;
-use xa_base::{is_numeral, utf8_text};
 
 fn has_minus(bytes: &[u8]) -> bool
     ensures { result ≡ starts_with_minus bytes.now }

@@ -1,15 +1,14 @@
 //! Encoding instructions of parts and assignments.
 ghost use Rattle.std.specs.Prelude.{◌≡◌, None};
-ghost use Rattle.module_faults.specs.Listed.{first};
-ghost use Rattle.module_faults.specs.Told as told;
-ghost use Rattle.module_faults.specs.Marks as may;
-ghost use Rattle.module_faults.specs.Faults as rule;
+ghost use Rattle.module_text.specs.Listed.{first};
+ghost use Rattle.module_text.specs.Told as told;
+ghost use Rattle.module_text.specs.Marks as may;
+ghost use Rattle.module_text.specs.Faults as rule;
 ghost use Rattle.module_text.specs.Ranks.{rank_of_part_mark};
 
 use crate::finding::unless;
 use crate::names::{is_told_so, is_xml_text};
-use module_faults::{Fault, ModuleWhy};
-use module_text::{NameAs, PartMark, PartMarkKind};
+use module_text::{Fault, ModuleWhy, NameAs, PartMark, PartMarkKind};
 
 fn is_attribute(mark: &PartMark) -> bool
     ensures { result ≡ told.is_attribute mark.now }

@@ -1,7 +1,7 @@
 //! References, and the roles of parts.
 ghost use Rattle.std.specs.Prelude.{◌≡◌, ◌<◌, length};
 ghost use Rattle.module_text.specs.Texts.{parts_of};
-ghost use Rattle.module_faults.specs.Resolving as rule;
+ghost use Rattle.module_text.specs.Resolving as rule;
 
 use crate::part_marks::{has_attribute, has_untagged};
 use crate::type_marks::{has_embed_values, has_use_nil, has_use_order, has_use_union};

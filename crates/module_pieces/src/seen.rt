@@ -1,11 +1,11 @@
 //! Names that stood before.
 ghost use Rattle.std.specs.Prelude.{◌≡◌, ◌++◌, ◌∷◌, [], false, OnOk};
-ghost use Rattle.module_faults.specs.Faults.{has_text};
+ghost use Rattle.module_text.specs.Faults.{has_text};
 
+use base_texts::{Memory, Text};
 use indexmap::IndexSet;
 use std::alloc::Global;
 use std::marker::Model;
-use xa_base::{Memory, Text};
 
 /// Names of which no two are equal, in the order in which they stood.
 #[derive(Drop)]

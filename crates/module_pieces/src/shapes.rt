@@ -1,9 +1,9 @@
 //! What EMBED-VALUES and USE-NIL ask of a type, and what its parts are.
 ghost use Rattle.std.specs.Prelude.{◌≡◌};
-ghost use Rattle.label_tree.specs.Rose.{roses_of};
-ghost use Rattle.module_faults.specs.Orders as rule;
+ghost use Rattle.base_trees.specs.Rose.{roses_of};
+ghost use Rattle.module_text.specs.Orders as rule;
 
-use label_tree::Tree;
+use base_trees::Tree;
 use module_text::{Absence, PlainForm, PlainLabel};
 use simple_types::Class;
 

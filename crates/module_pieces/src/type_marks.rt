@@ -1,12 +1,11 @@
 //! Encoding instructions of types.
 ghost use Rattle.std.specs.Prelude.{◌≡◌};
 ghost use Rattle.module_text.specs.Ranks.{rank_of_type_mark};
-ghost use Rattle.module_faults.specs.Told as told;
-ghost use Rattle.module_faults.specs.Marks as may;
+ghost use Rattle.module_text.specs.Told as told;
+ghost use Rattle.module_text.specs.Marks as may;
 
-use module_faults::Alone;
-use module_text::{TypeMark, TypeMarkKind};
-use xa_base::WhiteSpace;
+use base_texts::WhiteSpace;
+use module_text::{Alone, TypeMark, TypeMarkKind};
 
 fn is_use_nil(mark: &TypeMark) -> bool
     ensures { result ≡ told.is_use_nil mark.now }

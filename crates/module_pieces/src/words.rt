@@ -3,12 +3,12 @@ ghost use Rattle.std.specs.Prelude.{◌≡◌, ◌∷◌, [], List, true, false,
 ghost use Rattle.module_text.specs.declared.types.PlainName.{PlainName};
 ghost use Rattle.std.specs.List.{list_all, filter_map};
 ghost use Rattle.std.specs.Str.{is_utf8};
-ghost use Rattle.module_faults.specs.Told as told;
+ghost use Rattle.module_text.specs.Told as told;
 
 use crate::names::told_name;
+use base_texts::{Memory, Text, TextError};
 use module_text::{NameAs, PlainName, TypeMark, TypeMarkKind, Written};
 use std::alloc::Global;
-use xa_base::{Memory, Text, TextError};
 
 // What the next TEXT says, of which item, and the instructions behind it.
 fn next_text(marks: &[TypeMark]) -> Option<(&Text, &NameAs, &[TypeMark])>

@@ -4,3 +4,7 @@ pub mod Standards
 pub mod Typing
 pub mod Valuing
 mod Rows
+mod Free
+mod Copied
+mod Valued
+mod Plainly

@@ -2,15 +2,15 @@
 use Rattle.std.proofs.Common.{◌≡◌, ℕ, Bool, true, false, pos, negsuc, Some, None, List, [], ◌∷◌, refl, codes}
 use Rattle.std.specs.Fmt.{digits}
 use Rattle.std.specs.Str.{chars}
-use Rattle.label_tree.specs.Rose.{Rose, node, roses_of}
-use Rattle.xa_base.specs.Characters.{is_xml_char}
-use Rattle.xa_base.specs.WhiteSpace.{treated, words_of, is_white_space}
-use Rattle.xa_base.specs.declared.white_space.WhiteSpace.TheVariants.{Collapse}
+use Rattle.base_trees.specs.Rose.{Rose, node, roses_of}
+use Rattle.base_texts.specs.Characters.{is_xml_char}
+use Rattle.base_texts.specs.WhiteSpace.{treated, words_of, is_white_space}
+use Rattle.base_texts.specs.declared.white_space.WhiteSpace.TheVariants.{Collapse}
 use Rattle.simple_types.specs.declared.simples.Class.TheVariants.{Any}
 use Rattle.simple_types.specs.declared.standards.Standard.{Standard}
 use Rattle.simple_types.specs.declared.standards.Standard.TheVariants.{Free, Default, Fixed}
-use Rattle.simple_values.specs.Lexical.{whole_number, in_class}
-use Rattle.simple_values.specs.Reading.{reads, spelled}
+use Rattle.simple_types.specs.Lexical.{whole_number, in_class}
+use Rattle.simple_types.specs.Reading.{reads, spelled}
 use Rattle.asn_types.specs.declared.marks.Instruction.{Instruction}
 use Rattle.asn_types.specs.declared.marks.Instruction.TheVariants as mark
 use Rattle.asn_types.specs.declared.types.Component.{Component}

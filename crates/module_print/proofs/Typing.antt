@@ -1,9 +1,9 @@
 -- Types, written with their parts.
 use Rattle.std.proofs.Common.{◌≡◌, ℕ, zero, suc, ◌+◌, ◌<◌, ◌≤◌, List, [], ◌∷◌, ◌++◌, length, drop, get_or, Result, Ok, Err, OnOk, sym, ◌∙◌, ap, arith, append_assoc, add-one}
 use Rattle.std.proofs.lemmas.List.{append-nil, drop_all, length-append}
-use Rattle.label_tree.specs.Rose.{Rose, node, more, roses_of, label_of, kids_of}
-use Rattle.label_tree.proofs.Roses.{node-parts}
-use Rattle.label_tree.proofs.Kids.{roses_of-drop}
+use Rattle.base_trees.specs.Rose.{Rose, node, more, roses_of, label_of, kids_of}
+use Rattle.base_trees.proofs.Roses.{node-parts}
+use Rattle.base_trees.proofs.Kids.{roses_of-drop}
 use Rattle.asn_types.specs.declared.marks.Instruction.{Instruction}
 use Rattle.asn_types.specs.declared.modules.Assignment.{Assignment}
 use Rattle.asn_types.specs.declared.types.Component.{Component}

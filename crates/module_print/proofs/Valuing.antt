@@ -3,10 +3,10 @@ use Rattle.std.proofs.Common.{◌≡◌, ℕ, zero, suc, Some, None, List, [], �
 use Rattle.std.specs.Prelude.{map, slice_get, Option}
 use Rattle.std.specs.List.{flat_map}
 use Rattle.std.proofs.lemmas.List.{append-nil}
-use Rattle.label_tree.specs.Rose.{Rose, node, roses_of, label_of, kids_of}
-use Rattle.label_tree.proofs.Roses.{roses_of-list_of}
+use Rattle.base_trees.specs.Rose.{Rose, node, roses_of, label_of, kids_of}
+use Rattle.base_trees.proofs.Roses.{roses_of-list_of}
 use Rattle.simple_types.specs.declared.labels.ValueLabel.{ValueLabel}
-use Rattle.simple_values.specs.Reading.{choice_at}
+use Rattle.simple_types.specs.Reading.{choice_at}
 use Rattle.asn_types.specs.declared.types.Component.{Component}
 use Rattle.asn_types.specs.declared.types.Form.TheVariants as form
 use Rattle.asn_types.specs.declared.types.TypeLabel.{TypeLabel}

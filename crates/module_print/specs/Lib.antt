@@ -2,3 +2,6 @@ pub mod Notation
 pub mod Instructions
 pub mod Values
 pub mod Printed
+pub mod Names
+pub mod Plain
+pub mod Stripped

@@ -3,11 +3,11 @@
 use Rattle.std.specs.Prelude.{ℕ, zero, suc, Option, Some, None, Ok, Err, List, [], ◌∷◌, ◌++◌, map, slice_get, unwrap_or, codes, if◌then◌else◌}
 use Rattle.std.specs.Option.{option_map}
 use Rattle.std.specs.Fmt.{signed_decimal}
-use Rattle.label_tree.specs.Rose.{Rose, node, Roses, label_of, kids_of}
-use Rattle.label_tree.specs.Rose as rose
+use Rattle.base_trees.specs.Rose.{Rose, node, Roses, label_of, kids_of}
+use Rattle.base_trees.specs.Rose as rose
 use Rattle.simple_types.specs.declared.labels.ValueLabel.{ValueLabel}
 use Rattle.simple_types.specs.declared.labels.ValueLabel.TheVariants as label
-use Rattle.simple_values.specs.Reading.{reads, Reading, choice_at}
+use Rattle.simple_types.specs.Reading.{reads, Reading, choice_at}
 use Rattle.asn_types.specs.declared.types.Component.{Component}
 use Rattle.asn_types.specs.declared.types.Form.{Form}
 use Rattle.asn_types.specs.declared.types.Form.TheVariants as form

@@ -3,11 +3,11 @@ ghost use Rattle.std.specs.Prelude.{◌≡◌, ◌++◌, [], OnOk, IfOk, unwrap_
 ghost use Rattle.module_print.specs.Instructions.{as_name, number_identifier, item_identifier, as_item, name_prefix, namespace_prefix, white_space_prefix, text_prefix, instruction, rank, if_ranked, ranked, instructions};
 
 use crate::notation::write_quoted;
+use asn_names::{NameForm, restoring};
 use asn_types::{Form, Instruction, Marks};
+use base_texts::{Memory, Text, WhiteSpace};
 use itoa::Buffer;
-use name_map::{NameForm, restoring};
 use std::alloc::{AllocError, Global};
-use xa_base::{Memory, Text, WhiteSpace};
 
 // A name, in the form that tells it from the generated one.
 fn write_as_name(out: &mut Vec<u8>, generated: &Text, name: &Text) -> Result<(), AllocError>

@@ -1,12 +1,15 @@
-//! Modules of ASN.1 as text.
+//! Prints a module as ASN.1 text, with the encoding instructions of X.693 or without.
 //!
-//! Read first: docs/MODULES.md, `specs/Printed`, then `print_module` in `src/printing.rt`.
+//! Read first: docs/MODULES.md, `specs/Printed`, then `print_module` in `src/printing.rt`; `specs/Plain` (`plain`), then
+//! `plain_module` in `src/stripping.rt`.
 #![tactic(auto)]
 
 mod instructions;
 mod notation;
 mod printing;
+mod stripping;
 mod types;
 mod values;
 
 pub use printing::print_module;
+pub use stripping::plain_module;

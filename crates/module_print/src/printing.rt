@@ -5,8 +5,8 @@ ghost use Rattle.module_print.specs.Printed.{printed_assignment, printed};
 
 use crate::types::write_type;
 use asn_types::{Assignment, Module};
+use base_texts::Memory;
 use std::alloc::Global;
-use xa_base::Memory;
 
 const OPENING: &[u8] = b"Schema-Set DEFINITIONS XER INSTRUCTIONS AUTOMATIC TAGS ::= BEGIN\n";
 

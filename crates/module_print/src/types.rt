@@ -1,6 +1,6 @@
 //! Types with their parts.
 ghost use Rattle.std.specs.Prelude.{◌≡◌, ◌++◌, ◌∷◌, [], ◌≤◌, OnOk, suc, map, length};
-ghost use Rattle.label_tree.specs.Rose.{roses_of, Allowed, AllowedAll};
+ghost use Rattle.base_trees.specs.Rose.{roses_of, Allowed, AllowedAll};
 ghost use Rattle.asn_types.specs.Modules.{IsStandard, AreStandards, AreWellFormed, AllWellFormed};
 ghost use Rattle.asn_types.specs.Parts.{parts_of, MayHave};
 ghost use Rattle.module_print.specs.Notation.{enumerated, block, listed, new_line};
@@ -13,10 +13,10 @@ use crate::notation::{
 };
 use crate::values::write_default;
 use asn_types::{Component, Form, Marks, Module, TypeLabel};
-use label_tree::Tree;
+use base_texts::{Memory, Text};
+use base_trees::Tree;
 use simple_types::{Class, Standard};
 use std::alloc::AllocError;
-use xa_base::{Memory, Text};
 
 // An item that stands for a number.
 fn write_numbered_item(out: &mut Vec<u8>, n: i128) -> Result<(), AllocError>

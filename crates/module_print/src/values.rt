@@ -1,21 +1,20 @@
 //! Values behind DEFAULT.
 ghost use Rattle.std.specs.Prelude.{◌≡◌, ◌++◌, [], Some, None, MatchOption, OnOk, unwrap_or, map};
-ghost use Rattle.label_tree.specs.Rose.{roses_of, label_of, kids_of};
-ghost use Rattle.simple_values.specs.Answering.{AnswersReading};
-ghost use Rattle.simple_values.specs.Reading.{Reading, choice_at};
+ghost use Rattle.base_trees.specs.Rose.{roses_of, label_of, kids_of};
+ghost use Rattle.simple_types.specs.Answering.{AnswersReading};
+ghost use Rattle.simple_types.specs.Reading.{Reading, choice_at};
 ghost use Rattle.asn_types.specs.Modules.{IsSpellingOf};
 ghost use Rattle.module_print.specs.Instructions.{item_identifier};
 ghost use Rattle.module_print.specs.Values.{truth, whole, item, characters, items, alternative, chosen, value_notation, part_notation, read_notation, default};
 
 use crate::notation::{write_number, write_quoted};
 use asn_types::{Component, Form, Module, TypeLabel, resolve, simple_at};
-use flat_tree::{Flat, Kids, Node};
-use label_tree::Tree;
-use simple_types::ValueLabel;
-use simple_values::{SimpleError, accept};
+use base_flat_trees::{Flat, Kids, Node};
+use base_texts::{Memory, Text};
+use base_trees::Tree;
+use simple_types::{SimpleError, ValueLabel, accept};
 use std::alloc::AllocError;
 use std::iter::Iterator;
-use xa_base::{Memory, Text};
 
 fn write_truth(out: &mut Vec<u8>, label: &ValueLabel) -> Result<(), AllocError>
     ensures { OnOk result (out.new.items ≡ out.old.items ++ truth label.now) }

@@ -6,12 +6,12 @@ use Rattle.asn_types.specs.declared.modules.Assignment.{Assignment}
 use Rattle.module_text.specs.declared.modules.PlainAssignment.{PlainAssignment}
 use Rattle.module_text.specs.Texts.{text_of}
 use Rattle.module_text.specs.Grammar.{IsTextOf}
-use Rattle.module_faults.specs.declared.reasons.Fault.{Fault}
-use Rattle.module_faults.specs.declared.reasons.ModuleError.{ModuleError}
-use Rattle.module_faults.specs.Listed.{first}
-use Rattle.module_faults.specs.Faults.{faults}
-use Rattle.module_faults.specs.Meaning.{module_meant}
-use Rattle.module_faults.specs.ReadBack.{IsReadBack, IsBadAt, IsErrorOf, Answers}
+use Rattle.module_text.specs.declared.reasons.Fault.{Fault}
+use Rattle.module_text.specs.declared.reasons.ModuleError.{ModuleError}
+use Rattle.module_text.specs.Listed.{first}
+use Rattle.module_text.specs.Faults.{faults}
+use Rattle.module_text.specs.Meaning.{module_meant}
+use Rattle.module_text.specs.ReadBack.{IsReadBack, IsBadAt, IsErrorOf, Answers}
 use Rattle.module_laws.specs.Laws.{LeastIsFirst, NoFaultIsPrintable}
 use Rattle.module_read.specs.Tells.{Tells}
 use Rattle.module_read.proofs.OfTexts.{AreOfText, OfText, bad_text, faults_are, first_is}

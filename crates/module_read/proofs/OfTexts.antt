@@ -2,7 +2,7 @@
 use Rattle.std.proofs.Common.{◌≡◌, ℕ, suc, ◌+◌, ◌-◌, Bool, true, false, cond, not, ◌&&◌, ◌||◌, Option, Some, None, List, [], ◌∷◌, ◌++◌, is_some, refl}
 use Rattle.std.specs.Prelude.{ℤ, All, IsUtf8, nat_lt}
 use Rattle.std.proofs.lemmas.List.Elements.{All-nil, All-cons, All-append, All-head}
-use Rattle.label_tree.specs.Rose.{Rose, node, Roses, none, more, label_of}
+use Rattle.base_trees.specs.Rose.{Rose, node, Roses, none, more, label_of}
 use Rattle.simple_types.specs.Space.{Space}
 use Rattle.module_text.specs.declared.bounds.PlainNumber.{PlainNumber}
 use Rattle.module_text.specs.declared.bounds.PlainEnds.{PlainEnds}
@@ -23,21 +23,21 @@ use Rattle.module_text.specs.declared.types.PlainLabel.{PlainLabel}
 use Rattle.module_text.specs.declared.modules.PlainAssignment.{PlainAssignment}
 use Rattle.module_text.specs.Ranks.{rank_of_part_mark, rank_of_type_mark}
 use Rattle.module_text.specs.Texts.{parts_of}
-use Rattle.module_faults.specs.declared.reasons.ModuleWhy.{ModuleWhy}
-use Rattle.module_faults.specs.declared.reasons.ModuleWhy.TheVariants as why
-use Rattle.module_faults.specs.declared.reasons.Fault.{Fault}
-use Rattle.module_faults.specs.declared.spots.Spot.{Spot}
-use Rattle.module_faults.specs.declared.spots.Spot.TheVariants.{Elsewhere}
-use Rattle.module_faults.specs.Listed.{fault, unless}
-use Rattle.module_faults.specs.Told.{whole_of, is_printed_number, words_of, has_list}
-use Rattle.module_faults.specs.Resolving.{resolve, number_of, chains_end}
-use Rattle.module_faults.specs.Simple.{is_order_item}
-use Rattle.module_faults.specs.Marks.{part_mark_stands, type_mark_may, stands_once, next_item}
-use Rattle.module_faults.specs.Defaults.{octets_of}
-use Rattle.name_map.specs.ReservedWords.{reserved_words}
-use Rattle.module_faults.specs.Faults.{type_faults, part_faults}
-use Rattle.module_faults.specs.Faults as rule
-use Rattle.module_faults.specs.ReadBack.{HasFault, IsBadAt}
+use Rattle.module_text.specs.declared.reasons.ModuleWhy.{ModuleWhy}
+use Rattle.module_text.specs.declared.reasons.ModuleWhy.TheVariants as why
+use Rattle.module_text.specs.declared.reasons.Fault.{Fault}
+use Rattle.module_text.specs.declared.spots.Spot.{Spot}
+use Rattle.module_text.specs.declared.spots.Spot.TheVariants.{Elsewhere}
+use Rattle.module_text.specs.Listed.{fault, unless}
+use Rattle.module_text.specs.Told.{whole_of, is_printed_number, words_of, has_list}
+use Rattle.module_text.specs.Resolving.{resolve, number_of, chains_end}
+use Rattle.module_text.specs.Simple.{is_order_item}
+use Rattle.module_text.specs.Marks.{part_mark_stands, type_mark_may, stands_once, next_item}
+use Rattle.module_text.specs.Defaults.{octets_of}
+use Rattle.asn_names.specs.ReservedWords.{reserved_words}
+use Rattle.module_text.specs.Faults.{type_faults, part_faults}
+use Rattle.module_text.specs.Faults as rule
+use Rattle.module_text.specs.ReadBack.{HasFault, IsBadAt}
 
 abbrev pub OfText : ModuleWhy → Type 0
 OfText why.NotUtf8 = ⊥

@@ -5,19 +5,19 @@ use Rattle.std.specs.Str.{is_utf8}
 use Rattle.std.specs.Str.Lossy.{utf8_valid_len}
 use Rattle.std.proofs.lemmas.Str.{utf8_valid_len-IsValidUpTo, IsUtf8-from_is_utf8, is_utf8-from_IsUtf8}
 use Rattle.asn_types.specs.declared.modules.Assignment.{Assignment}
-use Rattle.plain_text.specs.Verdicts.{Verdict, Read, Syntax, TooDeep}
+use Rattle.module_grammar.specs.Verdicts.{Verdict, Read, Syntax, TooDeep}
 use Rattle.module_text.specs.declared.modules.PlainAssignment.{PlainAssignment}
 use Rattle.module_text.specs.Plain.{limit}
 use Rattle.module_text.specs.Grammar.{IsTextOf}
 use Rattle.module_grammar.specs.ModulesRead.{module_verdict}
 use Rattle.module_grammar.specs.TextsRead.{AllTextsRead}
-use Rattle.module_faults.specs.declared.reasons.ModuleWhy.{ModuleWhy}
-use Rattle.module_faults.specs.declared.reasons.ModuleWhy.TheVariants as why
-use Rattle.module_faults.specs.declared.reasons.Fault.{Fault}
-use Rattle.module_faults.specs.Listed.{fault, first}
-use Rattle.module_faults.specs.Faults.{faults}
-use Rattle.module_faults.specs.Meaning.{module_meant}
-use Rattle.module_faults.specs.ReadBack.{HasFault, IsBadAt}
+use Rattle.module_text.specs.declared.reasons.ModuleWhy.{ModuleWhy}
+use Rattle.module_text.specs.declared.reasons.ModuleWhy.TheVariants as why
+use Rattle.module_text.specs.declared.reasons.Fault.{Fault}
+use Rattle.module_text.specs.Listed.{fault, first}
+use Rattle.module_text.specs.Faults.{faults}
+use Rattle.module_text.specs.Meaning.{module_meant}
+use Rattle.module_text.specs.ReadBack.{HasFault, IsBadAt}
 use Rattle.module_laws.specs.Laws.{LeastIsFirst, NoFaultIsPrintable}
 use Rattle.module_read.specs.Tells.{Tells, OneAnswer, SomeAnswer}
 use Rattle.module_read.proofs.OfTexts.{AreOfText, bad_text, faults_are, first_is}

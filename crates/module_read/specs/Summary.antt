@@ -1,7 +1,7 @@
 -- What is told of a module.
 use Rattle.std.specs.Prelude.{ℕ, List, ◌++◌, codes, decimal}
 use Rattle.std.specs.List.{flat_map}
-use Rattle.label_tree.specs.Rose.{shown_count}
+use Rattle.base_trees.specs.Rose.{shown_count}
 use Rattle.asn_types.specs.declared.modules.Assignment.{Assignment}
 use Rattle.asn_types.specs.Names.{local_told, space_told}
 

@@ -3,10 +3,10 @@ use Rattle.std.specs.Prelude.{◌≡◌, ◌⊎◌, ◌≤◌, ℕ, List, [], le
 use Rattle.asn_types.specs.declared.modules.Assignment.{Assignment}
 use Rattle.module_text.specs.declared.modules.PlainAssignment.{PlainAssignment}
 use Rattle.module_text.specs.Grammar.{IsTextOf}
-use Rattle.module_faults.specs.declared.reasons.ModuleWhy.{ModuleWhy}
-use Rattle.module_faults.specs.Faults.{faults}
-use Rattle.module_faults.specs.Meaning.{module_meant}
-use Rattle.module_faults.specs.ReadBack.{IsReadBack, IsBadAt}
+use Rattle.module_text.specs.declared.reasons.ModuleWhy.{ModuleWhy}
+use Rattle.module_text.specs.Faults.{faults}
+use Rattle.module_text.specs.Meaning.{module_meant}
+use Rattle.module_text.specs.ReadBack.{IsReadBack, IsBadAt}
 
 -- The bytes are a text without a fault that tells this module; they are its print, and it is printable.
 pub record Tells (bytes : List ℕ) (M : List Assignment) : Type 0 where

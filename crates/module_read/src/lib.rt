@@ -1,13 +1,20 @@
-//! Printed modules read back, and what is told of them.
+//! Reads printed modules back and lists their assignments.
 //!
-//! Read first: docs/MODULE-READ.md, `ReadBack` in the specs of `module_faults`, then `read_module` in `src/reading.rt`.
+//! Read first: docs/MODULE-READ.md, `ReadBack` and `Meaning` in the specs of `module_text`, then `read_module` in
+//! `src/reading.rt`; `specs/Ready` (what is required of a text), then `src/types.rt`.
 #![tactic(auto)]
 
+mod forms;
 mod laws;
 mod lines;
+mod marks;
+mod modules;
+mod parts;
 mod reading;
+mod types;
 
 pub use laws::{one_answer, some_answer};
 pub use lines::summary;
-pub use module_faults::{ModuleError, ModuleWhy};
+pub use module_text::{ModuleError, ModuleWhy};
+pub use modules::make;
 pub use reading::read_module;

@@ -4,9 +4,9 @@ ghost use Rattle.asn_types.specs.Names.{space_told};
 ghost use Rattle.module_read.specs.Summary as told;
 
 use asn_types::{Assignment, Marks, Module};
+use base_texts::Memory;
 use itoa::Buffer;
 use std::alloc::Global;
-use xa_base::Memory;
 
 // The namespace that they tell, which has no bytes where there is none.
 fn space_of(marks: &Marks) -> &[u8]

@@ -2,17 +2,16 @@
 ghost use Rattle.std.specs.Prelude.{◌≡◌, ◌≤◌, [], IfOk, IsUtf8, MatchResult, length};
 ghost use Rattle.module_text.specs.Grammar.{IsTextOf};
 ghost use Rattle.module_text.specs.Texts.{text_of};
-ghost use Rattle.module_faults.specs.Faults.{faults};
-ghost use Rattle.module_faults.specs.ReadBack.{Answers, IsErrorOf};
+ghost use Rattle.module_text.specs.Faults.{faults};
+ghost use Rattle.module_text.specs.ReadBack.{Answers, IsErrorOf};
 ghost use Rattle.module_read.specs.Tells.{Tells};
 
+use crate::modules::make;
 use asn_types::Module;
 use module_check::first_fault;
-use module_faults::{ModuleError, ModuleWhy};
 use module_laws::{least_is_first, no_fault_is_printable};
-use module_make::make;
 use module_parse::{Finding, parse};
-use module_text::PlainAssignment;
+use module_text::{ModuleError, ModuleWhy, PlainAssignment};
 use std::alloc::Global;
 
 // The module that a text without a fault tells.

@@ -2,7 +2,7 @@
 use Rattle.std.proofs.Common.{◌≡◌, ℕ, ◌≤◌, Bool, true, false, ◌&&◌, not, Option, Some, None, List, [], ◌∷◌, Box, Global, length, drop, slice_get, refl, sym, ap, ◌∙◌, subst, arith}
 use Rattle.std.specs.Prelude.{MatchOption}
 use Rattle.std.proofs.lemmas.List.{at_drop_all}
-use Rattle.label_tree.specs.Rose.{Rose, roses_of, node_count, count_all}
+use Rattle.base_trees.specs.Rose.{Rose, roses_of, node_count, count_all}
 use Rattle.simple_types.specs.declared.simples.Simple.{Simple}
 use Rattle.simple_types.specs.declared.simples.Simple.TheVariants as variant
 use Rattle.simple_types.specs.declared.simples.SimpleList.{SimpleList}
@@ -12,9 +12,9 @@ use Rattle.simple_types.specs.Space.{Space, Spaces, ListOf, UnionOf, count_membe
 use Rattle.simple_types.proofs.Members.{count_in}
 use Rattle.simple_types.proofs.Seen as seen
 use Rattle.module_text.specs.declared.types.PlainLabel.{PlainLabel}
-use Rattle.module_faults.specs.declared.spots.Spot.{Spot}
-use Rattle.module_faults.specs.Told.{Sizes}
-use Rattle.module_faults.specs.Simple.{if_so, is_counted, are_sizes, union_space, list_space, simple_told, members_told, item_told}
+use Rattle.module_text.specs.declared.spots.Spot.{Spot}
+use Rattle.module_text.specs.Told.{Sizes}
+use Rattle.module_text.specs.Simple.{if_so, is_counted, are_sizes, union_space, list_space, simple_told, members_told, item_told}
 use Rattle.module_simple.specs.Made.{made_space, IsMade, Makes, AreMade}
 use Rattle.module_simple.proofs.Sounding.{counted, sizes, and-first, and-second}
 use Rattle.module_simple.proofs.Telling.{with_those, those-all, no-item, first-item}

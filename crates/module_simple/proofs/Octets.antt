@@ -2,7 +2,7 @@
 use Rattle.std.proofs.Common.{◌≡◌, ℕ, ◌+◌, ◌*◌, Bool, true, false, ◌&&◌, Option, Some, None, List, [], ◌∷◌, ◌++◌, length, refl, sym, ap, ◌∙◌, arith, append_assoc}
 use Rattle.std.proofs.lemmas.Bool.{true≢false}
 use Rattle.module_text.specs.Names.{is_hexadecimal_digit}
-use Rattle.module_faults.specs.Defaults.{digit_of, with_octet, octets_of}
+use Rattle.module_text.specs.Defaults.{digit_of, with_octet, octets_of}
 use Rattle.module_simple.specs.Made.{behind_it}
 
 -- a digit more than pairs

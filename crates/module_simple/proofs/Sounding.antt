@@ -17,12 +17,12 @@ use Rattle.std.specs.Prelude.{chars, bytes_eq}
 use Rattle.std.specs.Str.{is_utf8}
 use Rattle.std.proofs.lemmas.Bool.{false_from_ne_true}
 use Rattle.std.proofs.lemmas.Slice.Eq.{bytes_eq-Decides}
-use Rattle.xa_base.specs.declared.white_space.WhiteSpace.{WhiteSpace}
-use Rattle.xa_base.specs.WhiteSpace.{treated}
-use Rattle.xa_base.specs.Characters.{is_xml_char}
+use Rattle.base_texts.specs.declared.white_space.WhiteSpace.{WhiteSpace}
+use Rattle.base_texts.specs.WhiteSpace.{treated}
+use Rattle.base_texts.specs.Characters.{is_xml_char}
 use Rattle.simple_types.specs.Sound.{IsWord, AreWords}
-use Rattle.module_faults.specs.Told.{Bounds, Sizes, is_xml_text}
-use Rattle.module_faults.specs.Simple as simple
+use Rattle.module_text.specs.Told.{Bounds, Sizes, is_xml_text}
+use Rattle.module_text.specs.Simple as simple
 
 pub and-first : (a b : Bool) → (a && b) ≡ true → a ≡ true
 and-first true b e = refl

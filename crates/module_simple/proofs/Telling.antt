@@ -1,8 +1,8 @@
 -- The space of a type by its form, and of the members of a union one behind another.
 use Rattle.std.proofs.Common.{◌≡◌, ℕ, ◌+◌, ◌<◌, Bool, true, false, not, Option, Some, None, List, [], ◌∷◌, ◌++◌, ◌&&◌, length, get_or, drop, refl, sym, ap, ◌∙◌}
-use Rattle.label_tree.specs.Rose.{Rose, node, Roses, none, more, roses_of, label_of, kids_of}
-use Rattle.label_tree.proofs.Roses.{roses_of-list_of}
-use Rattle.label_tree.proofs.Kids.{roses_of-drop}
+use Rattle.base_trees.specs.Rose.{Rose, node, Roses, none, more, roses_of, label_of, kids_of}
+use Rattle.base_trees.proofs.Roses.{roses_of-list_of}
+use Rattle.base_trees.proofs.Kids.{roses_of-drop}
 use Rattle.simple_types.specs.declared.simples.Simple.{Simple}
 use Rattle.simple_types.specs.Seen.{space_of, spaces_in}
 use Rattle.simple_types.specs.Sound.{Sound, AreSound, is_union}
@@ -11,10 +11,10 @@ use Rattle.simple_types.specs.Space.{Space, Spaces, Booleans}
 use Rattle.module_text.specs.declared.types.PlainForm.{PlainForm}
 use Rattle.module_text.specs.declared.types.PlainForm.TheVariants as form
 use Rattle.module_text.specs.declared.types.PlainLabel.{PlainLabel}
-use Rattle.module_faults.specs.declared.spots.Spot.{Spot}
-use Rattle.module_faults.specs.declared.spots.Spot.TheVariants.{Elsewhere}
-use Rattle.module_faults.specs.Told.{range_of, sizes_of, have_names_alone, told_alone, is_nothing, is_number_alone, is_list_alone, is_union_alone, white_space_alone, words_of}
-use Rattle.module_faults.specs.Simple.{if_so, whole_space, number_space, numbers_of, word_space, text_space, list_space, union_space, with_member, are_plain, item_spot, is_order_item, simple_told, members_told, item_told}
+use Rattle.module_text.specs.declared.spots.Spot.{Spot}
+use Rattle.module_text.specs.declared.spots.Spot.TheVariants.{Elsewhere}
+use Rattle.module_text.specs.Told.{range_of, sizes_of, have_names_alone, told_alone, is_nothing, is_number_alone, is_list_alone, is_union_alone, white_space_alone, words_of}
+use Rattle.module_text.specs.Simple.{if_so, whole_space, number_space, numbers_of, word_space, text_space, list_space, union_space, with_member, are_plain, item_spot, is_order_item, simple_told, members_told, item_told}
 
 -- ---- by the form
 

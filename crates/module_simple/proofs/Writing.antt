@@ -3,15 +3,15 @@ use Rattle.std.proofs.Common.{◌≡◌, ℕ, suc, ◌+◌, ◌<◌, Bool, true,
 use Rattle.std.specs.List.{join_with_byte, position_or_len, filter_map}
 use Rattle.std.proofs.lemmas.Bool.{true≢false}
 use Rattle.std.proofs.lemmas.List.{append-nil}
-use Rattle.label_tree.specs.Rose.{Rose, node, Roses, none, more, roses_of, list_of, label_of, kids_of}
-use Rattle.label_tree.proofs.Roses.{roses_of-list_of}
-use Rattle.label_tree.proofs.Kids.{roses_of-drop}
+use Rattle.base_trees.specs.Rose.{Rose, node, Roses, none, more, roses_of, list_of, label_of, kids_of}
+use Rattle.base_trees.proofs.Roses.{roses_of-list_of}
+use Rattle.base_trees.proofs.Kids.{roses_of-drop}
 use Rattle.module_text.specs.declared.values.PlainValue.{PlainValue}
 use Rattle.module_text.specs.declared.values.PlainValue.TheVariants as value
 use Rattle.module_text.specs.declared.values.PlainValueLabel.{PlainValueLabel}
 use Rattle.module_text.specs.declared.types.PlainName.{PlainName}
 use Rattle.module_text.specs.declared.types.PlainLabel.{PlainLabel}
-use Rattle.module_faults.specs.Defaults.{both, alone, alternative_named, is_list_form, spelling_told, spellings_told}
+use Rattle.module_text.specs.Defaults.{both, alone, alternative_named, is_list_form, spelling_told, spellings_told}
 use Rattle.module_simple.specs.Made.{if_told, behind_it}
 use Rattle.module_simple.specs.Written.{leaf_told, list_told, chosen_told}
 

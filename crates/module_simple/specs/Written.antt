@@ -2,12 +2,12 @@
 use Rattle.std.specs.Prelude.{ℕ, Option, Some, None, List, codes, slice_get}
 use Rattle.std.specs.Option.{option_map}
 use Rattle.std.specs.List.{join_with_byte}
-use Rattle.label_tree.specs.Rose.{Rose, roses_of}
+use Rattle.base_trees.specs.Rose.{Rose, roses_of}
 use Rattle.module_text.specs.declared.values.PlainValue.{PlainValue}
 use Rattle.module_text.specs.declared.values.PlainValue.TheVariants as value
 use Rattle.module_text.specs.declared.values.PlainValueLabel.{PlainValueLabel}
 use Rattle.module_text.specs.declared.types.PlainLabel.{PlainLabel}
-use Rattle.module_faults.specs.Defaults.{if_bool, if_int, if_utf8, item_named, alone, spellings_told}
+use Rattle.module_text.specs.Defaults.{if_bool, if_int, if_utf8, item_named, alone, spellings_told}
 
 -- of a value that is neither a list nor an alternative
 abbrev pub leaf_told : PlainLabel → PlainValue → Option (List ℕ)

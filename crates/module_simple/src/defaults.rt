@@ -1,28 +1,27 @@
 //! Values behind DEFAULT, and fixed values.
 ghost use Rattle.std.specs.Prelude.{◌≡◌, ◌<◌, true, false, length, Some, None, IfOk, IfSome, MatchOption, slice_get};
 ghost use Rattle.module_text.specs.Names.{is_hexadecimal_digit};
-ghost use Rattle.label_tree.specs.Rose.{roses_of, label_of, kids_of};
+ghost use Rattle.base_trees.specs.Rose.{roses_of, label_of, kids_of};
 ghost use Rattle.simple_types.specs.Seen.{space_of};
 ghost use Rattle.simple_types.specs.Sound.{Sound};
-ghost use Rattle.module_faults.specs.Defaults as rule;
-ghost use Rattle.module_faults.specs.Faults as faulty;
-ghost use Rattle.module_faults.specs.Listed.{first};
-ghost use Rattle.module_index.specs.Indexed.{IsIndex, Indexes, IndexAll};
+ghost use Rattle.module_text.specs.Defaults as rule;
+ghost use Rattle.module_text.specs.Faults as faulty;
+ghost use Rattle.module_text.specs.Listed.{first};
+ghost use Rattle.module_pieces.specs.Indexed.{IsIndex, Indexes, IndexAll};
 ghost use Rattle.module_simple.specs.Made.{made_space, IsMade, if_told, behind_it};
 ghost use Rattle.module_simple.specs.Written.{leaf_told, list_told, chosen_told};
 
-use flat_tree::{Flat, Kids, Node};
+use base_flat_trees::{Flat, Kids, Node};
+use base_texts::{Memory, Text, TextError};
+use base_trees::Tree;
 use itoa::Buffer;
-use label_tree::Tree;
-use module_faults::{Fault, ModuleWhy};
-use module_index::{Index, index_of};
-use module_pieces::{is_xml_text, unless};
-use module_text::{Absence, PlainForm, PlainLabel, PlainOctets, PlainValue, PlainValueLabel};
-use simple_types::{Simple, ValueLabel};
-use simple_values::{SimpleError, accept, spell};
+use module_pieces::{Index, index_of, is_xml_text, unless};
+use module_text::{
+    Absence, Fault, ModuleWhy, PlainForm, PlainLabel, PlainOctets, PlainValue, PlainValueLabel,
+};
+use simple_types::{Simple, SimpleError, ValueLabel, accept, spell};
 use std::alloc::Global;
 use std::iter::Iterator;
-use xa_base::{Memory, Text, TextError};
 
 // A hexadecimal digit as a number.
 fn digit_of(byte: u8) -> Option<u8>
@@ -477,7 +476,7 @@ fn is_told(
 }
 
 /// The fault of a fixed value of a part whose simple type this is.
-#[tactic(auto, unfolding(module_faults::specs::Listed::first))]
+#[tactic(auto, unfolding(module_text::specs::Listed::first))]
 pub fn fixed_fault(
     alloc: Global,
     simple: &Option<Simple>,
@@ -577,7 +576,7 @@ fn is_default(
 }
 
 /// The fault of what is said of a part where it is absent. Its type, through references, is this, with this index if it is known.
-#[tactic(auto, unfolding(module_faults::specs::Listed::first))]
+#[tactic(auto, unfolding(module_text::specs::Listed::first))]
 pub fn absence_fault(
     alloc: Global,
     simple: &Option<Simple>,

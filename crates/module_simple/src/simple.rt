@@ -1,26 +1,26 @@
 //! The simple type for which a type stands.
 ghost use Rattle.std.specs.Prelude.{◌≡◌, ◌&&◌, Some, None, IfOk, MatchOption, not};
 ghost use Rattle.std.specs.List.{list_all};
-ghost use Rattle.label_tree.specs.Rose.{roses_of};
+ghost use Rattle.base_trees.specs.Rose.{roses_of};
 ghost use Rattle.simple_types.specs.Seen.{space_of, spaces_in};
 ghost use Rattle.simple_types.specs.Sound.{Sound, AreSound, has_list, have_list, is_union};
 ghost use Rattle.simple_types.specs.Space.{Booleans};
-ghost use Rattle.module_faults.specs.Told as told;
-ghost use Rattle.module_faults.specs.Simple as rule;
+ghost use Rattle.module_text.specs.Told as told;
+ghost use Rattle.module_text.specs.Simple as rule;
 ghost use Rattle.module_simple.specs.Made.{Makes, AreMade, is_list_space};
 
-use label_tree::Tree;
-use module_faults::{Alone, Spot};
+use base_texts::{Memory, Text, WhiteSpace, is_treated};
+use base_trees::Tree;
 use module_pieces::{
     Bounds, have_names_alone, is_xml_text, numbers_of, range_of, sizes_of, text_lt, told_alone,
     white_space_alone, words_of,
 };
 use module_text::{
-    NumberedItem, PlainEnds, PlainForm, PlainLabel, PlainName, PlainPart, PlainRange, TypeMark,
+    Alone, NumberedItem, PlainEnds, PlainForm, PlainLabel, PlainName, PlainPart, PlainRange, Spot,
+    TypeMark,
 };
 use simple_types::{Class, NumberList, Simple, SimpleList, TextList};
 use std::alloc::Global;
-use xa_base::{Memory, Text, WhiteSpace, is_treated};
 
 fn is_counted(n: usize) -> bool
     ensures { result ≡ rule.is_counted n }

@@ -1,3 +1,6 @@
 pub mod Ascii
 pub mod Placing
 mod Rows
+pub mod PrintedBounds
+pub mod Ranking
+mod FaultRows

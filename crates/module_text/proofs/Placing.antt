@@ -1,7 +1,7 @@
 -- Places count for nothing in a text.
 use Rattle.std.proofs.Common.{◌≡◌, ℕ, suc, ◌+◌, Option, Some, None, List, [], ◌∷◌, ◌++◌, map, length, codes, refl, ap, ◌∙◌}
 use Rattle.std.specs.List.{flat_map}
-use Rattle.label_tree.specs.Rose.{Rose, node, Roses, none, more}
+use Rattle.base_trees.specs.Rose.{Rose, node, Roses, none, more}
 use Rattle.module_print.specs.Notation.{quoted, class_range, enumerated, block}
 use Rattle.module_print.specs.Printed.{labelled, opening, closing}
 use Rattle.module_print.specs.Values.{items}

@@ -1,6 +1,6 @@
 -- A text with each form, what it tells, and where it stands: all of it computes.
 use Rattle.std.proofs.Common.{◌≡◌, ℕ, Some, None, List, [], ◌∷◌, ◌++◌, refl, codes}
-use Rattle.label_tree.specs.Rose.{Rose, node, roses_of}
+use Rattle.base_trees.specs.Rose.{Rose, node, roses_of}
 use Rattle.simple_types.specs.declared.simples.Class.TheVariants.{NmToken}
 use Rattle.module_print.specs.Printed.{opening, closing}
 use Rattle.module_text.specs.declared.bounds.PlainNumber.{PlainNumber}

@@ -1,7 +1,7 @@
 -- Types and values that stand too deep: those with 1,024 others of their kind above them, one in the other.
 use Rattle.std.specs.Prelude.{ℕ, zero, suc, ◌+◌, ◌-◌, List, [], ◌∷◌, ◌++◌, length}
 use Rattle.std.specs.List.{flat_map}
-use Rattle.label_tree.specs.Rose.{Rose, node, Roses, none, more}
+use Rattle.base_trees.specs.Rose.{Rose, node, Roses, none, more}
 use Rattle.module_text.specs.declared.marks.TypeMark.{TypeMark}
 use Rattle.module_text.specs.declared.values.PlainValueLabel.{PlainValueLabel}
 use Rattle.module_text.specs.declared.values.Absence.{Absence}

@@ -6,3 +6,15 @@ pub mod Places
 pub mod Depth
 pub mod Grammar
 pub mod Laws
+pub mod Told
+pub mod Resolving
+pub mod Simple
+pub mod Defaults
+pub mod Orders
+pub mod Marks
+pub mod Listed
+pub mod Faults
+pub mod Meaning
+pub mod Printable
+pub mod ReadBack
+pub mod Made

@@ -1,6 +1,6 @@
 -- The names and the numbers of the plain grammar.
 use Rattle.std.specs.Prelude.{ℕ, ◌==◌, Bool, true, false, ◌&&◌, ◌||◌, not, nat_le, List, [], ◌∷◌, codes, bytes_eq, if◌then◌else◌}
-use Rattle.xa_base.specs.Digits.{is_digit, is_numeral}
+use Rattle.base_texts.specs.Digits.{is_digit, is_numeral}
 
 abbrev pub is_capital : ℕ → Bool
 is_capital b = nat_le 0x41 b && nat_le b 0x5A

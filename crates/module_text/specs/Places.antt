@@ -1,7 +1,7 @@
 -- Where the things of a text stand, each at its first byte.
 use Rattle.std.specs.Prelude.{◌≡◌, ℕ, zero, suc, ◌+◌, Option, List, [], ◌∷◌, ◌++◌, length, codes}
 use Rattle.std.specs.Option.{option_map}
-use Rattle.label_tree.specs.Rose.{Rose, node, Roses, none, more}
+use Rattle.base_trees.specs.Rose.{Rose, node, Roses, none, more}
 use Rattle.module_print.specs.Notation.{new_line}
 use Rattle.module_print.specs.Printed.{labelled, opening}
 use Rattle.module_text.specs.declared.bounds.PlainNumber.{PlainNumber}

@@ -1,7 +1,7 @@
 -- Which trees have a text in the plain grammar: names and numbers have their form, encoding instructions stand in order, and
 -- what the layout can't tell isn't there. Whether a name, a number or an instruction may be what it is, is another question.
 use Rattle.std.specs.Prelude.{◌≡◌, ℕ, ◌≤◌, Bool, true, false, Option, Some, None, List, [], ◌∷◌, length, All, ◌⊎◌}
-use Rattle.label_tree.specs.Rose.{Rose, node, Roses, none, more, length_all, height}
+use Rattle.base_trees.specs.Rose.{Rose, node, Roses, none, more, length_all, height}
 use Rattle.module_text.specs.declared.bounds.PlainNumber.{PlainNumber}
 use Rattle.module_text.specs.declared.bounds.PlainEnds.{PlainEnds}
 use Rattle.module_text.specs.declared.bounds.PlainEnds.TheVariants as ends

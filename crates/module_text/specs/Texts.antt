@@ -2,7 +2,7 @@
 -- count for nothing in it.
 use Rattle.std.specs.Prelude.{ℕ, suc, Option, Some, None, List, [], ◌∷◌, ◌++◌, map, codes}
 use Rattle.std.specs.List.{flat_map}
-use Rattle.label_tree.specs.Rose.{Rose, node, Roses, none, more}
+use Rattle.base_trees.specs.Rose.{Rose, node, Roses, none, more}
 use Rattle.module_print.specs.Notation.{quoted, commented, class_range, enumerated, block}
 use Rattle.module_print.specs.Instructions.{bracketed}
 use Rattle.module_print.specs.Values.{items}

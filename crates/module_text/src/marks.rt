@@ -1,6 +1,6 @@
 //! Encoding instructions as they are written.
 use crate::written::Written;
-use xa_base::Text;
+use base_texts::Text;
 
 /// How a name or a text is told beside the identifier or the reference.
 #[derive(Drop)]

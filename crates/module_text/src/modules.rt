@@ -2,8 +2,8 @@
 use crate::marks::PartMark;
 use crate::types::PlainLabel;
 use crate::written::PlainList;
-use label_tree::Tree;
-use xa_base::Text;
+use base_texts::Text;
+use base_trees::Tree;
 
 /// A type with a name. What a whole text tells is a list of these.
 #[derive(Drop)]

@@ -2,8 +2,8 @@
 ghost use Rattle.std.specs.Prelude.{◌≡◌, true, IfOk};
 ghost use Rattle.module_text.specs.Names.{is_identifier, is_reference};
 
+use base_texts::{Memory, Text};
 use std::alloc::Global;
-use xa_base::{Memory, Text};
 
 /// The text of an identifier.
 #[tactic(auto, using(crate::proofs::Ascii::identifier_utf8))]

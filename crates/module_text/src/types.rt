@@ -3,8 +3,8 @@ use crate::bounds::{PlainEnds, PlainNumber, PlainRange};
 use crate::marks::{PartMark, TypeMark};
 use crate::values::{Absence, PlainOctets};
 use crate::written::PlainList;
+use base_texts::Text;
 use simple_types::Class;
-use xa_base::Text;
 
 /// An identifier or a reference, where it stands.
 #[derive(Drop)]

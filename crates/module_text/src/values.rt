@@ -1,7 +1,7 @@
 //! Values behind DEFAULT, and fixed values.
 use crate::written::Written;
-use label_tree::Tree;
-use xa_base::Text;
+use base_texts::Text;
+use base_trees::Tree;
 
 /// A value, but for the values inside it.
 #[derive(Drop)]

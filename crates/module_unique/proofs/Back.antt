@@ -4,10 +4,10 @@ use Rattle.std.specs.Prelude.{ℤ, pos, All, bytes_eq, slice_get, unwrap_or, opt
 use Rattle.std.specs.List.{IsDistinct}
 use Rattle.std.specs.Ordering.{int_eq}
 use Rattle.std.proofs.lemmas.Bool.Decides.{Decides-int_eq}
-use Rattle.label_tree.specs.Rose.{Rose, node, Roses, none, more, label_of, length_all, height, depth_all}
+use Rattle.base_trees.specs.Rose.{Rose, node, Roses, none, more, label_of, length_all, height, depth_all}
 use Rattle.simple_types.specs.declared.standards.Standard.{Standard}
 use Rattle.simple_types.specs.declared.standards.Standard.TheVariants.{Free, Default, Fixed}
-use Rattle.simple_values.specs.Lexical.{is_128_bits}
+use Rattle.simple_types.specs.Lexical.{is_128_bits}
 use Rattle.asn_types.specs.declared.marks.Instruction.{Instruction}
 use Rattle.asn_types.specs.declared.types.Component.{Component}
 use Rattle.asn_types.specs.declared.types.Form.{Form}
@@ -31,15 +31,15 @@ use Rattle.module_text.specs.declared.types.PlainForm.TheVariants as plain
 use Rattle.module_text.specs.declared.types.PlainLabel.{PlainLabel}
 use Rattle.module_text.specs.declared.modules.PlainAssignment.{PlainAssignment}
 use Rattle.module_text.specs.Plain.{limit}
-use Rattle.module_faults.specs.declared.spots.Spot.{Spot}
-use Rattle.module_faults.specs.declared.spots.Spot.TheVariants.{Elsewhere, Order, OrderItem}
-use Rattle.module_faults.specs.Told as told
-use Rattle.module_faults.specs.Resolving as resolving
-use Rattle.module_faults.specs.Simple.{with_number, numbers_of, is_order_item}
-use Rattle.module_faults.specs.Defaults.{octets_of}
-use Rattle.module_faults.specs.Orders.{may_be_absent}
-use Rattle.module_faults.specs.Meaning.{part_marks_meant, type_marks_meant, names_of, words_meant, int_meant, utf8_meant, list_meant}
-use Rattle.module_faults.specs.Printable.{HasPartMarks, HasNames, IsInSpot, part_spot}
+use Rattle.module_text.specs.declared.spots.Spot.{Spot}
+use Rattle.module_text.specs.declared.spots.Spot.TheVariants.{Elsewhere, Order, OrderItem}
+use Rattle.module_text.specs.Told as told
+use Rattle.module_text.specs.Resolving as resolving
+use Rattle.module_text.specs.Simple.{with_number, numbers_of, is_order_item}
+use Rattle.module_text.specs.Defaults.{octets_of}
+use Rattle.module_text.specs.Orders.{may_be_absent}
+use Rattle.module_text.specs.Meaning.{part_marks_meant, type_marks_meant, names_of, words_meant, int_meant, utf8_meant, list_meant}
+use Rattle.module_text.specs.Printable.{HasPartMarks, HasNames, IsInSpot, part_spot}
 use Rattle.module_laws.proofs.Firsts.{got-at, got-mapped, only-at}
 use Rattle.module_unique.specs.Alike.{HasOctets}
 use Rattle.module_unique.proofs.Telling.{number_told, range_told, size_told, type_marks_told, fixed_told, default_told, standard_told, name_at, numbered_told, component_told, components_told, only_told, form_told, type_told, types_told, assignment_told, module_told}

@@ -2,7 +2,7 @@
 use Rattle.std.proofs.Common.{◌≡◌, ℕ, zero, suc, ◌<◌, ◌+◌, Bool, true, false, ◌&&◌, Some, None, List, [], ◌∷◌, map, length, refl, ap, ap₂, subst, ◌∙◌, arith, option_map}
 use Rattle.std.specs.Prelude.{All, bytes_eq, IfSome, MatchBool, if◌then◌else◌}
 use Rattle.std.specs.List.{IsDistinct}
-use Rattle.label_tree.specs.Rose.{Rose, node, Roses, none, more, length_all}
+use Rattle.base_trees.specs.Rose.{Rose, node, Roses, none, more, length_all}
 use Rattle.asn_types.specs.declared.types.Component.{Component}
 use Rattle.asn_types.specs.declared.types.Form.{Form}
 use Rattle.asn_types.specs.declared.types.Form.TheVariants as form
@@ -15,9 +15,9 @@ use Rattle.asn_types.specs.Refs as refs
 use Rattle.module_print.specs.Printed.{reference_at}
 use Rattle.module_text.specs.declared.modules.PlainAssignment.{PlainAssignment}
 use Rattle.module_text.specs.Texts as laid
-use Rattle.module_faults.specs.declared.spots.Spot.{Spot}
-use Rattle.module_faults.specs.Resolving as resolving
-use Rattle.module_faults.specs.Printable.{part_spot}
+use Rattle.module_text.specs.declared.spots.Spot.{Spot}
+use Rattle.module_text.specs.Resolving as resolving
+use Rattle.module_text.specs.Printable.{part_spot}
 use Rattle.module_unique.specs.Utf8Texts.{TypeIsUtf8}
 use Rattle.module_unique.proofs.Telling.{components_told, form_told, type_told, types_told, module_told}
 use Rattle.module_unique.proofs.Goods.{Good, AllGood, GoodBody}

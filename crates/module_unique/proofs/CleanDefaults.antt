@@ -2,12 +2,12 @@
 use Rattle.std.proofs.Common.{◌≡◌, ℕ, Bool, true, false, Option, Some, None, List, [], map, refl, sym, ap, subst, ◌∙◌, Ok}
 use Rattle.std.specs.Prelude.{IsUtf8, All, bytes_eq, is_some, option_and_then, if◌then◌else◌}
 use Rattle.std.specs.List.{IsDistinct}
-use Rattle.label_tree.specs.Rose.{Rose, node, Roses, list_of}
+use Rattle.base_trees.specs.Rose.{Rose, node, Roses, list_of}
 use Rattle.simple_types.specs.declared.standards.Standard.TheVariants.{Fixed}
 use Rattle.simple_types.specs.declared.labels.ValueLabel.{ValueLabel}
 use Rattle.simple_types.specs.Sound.{Sound}
 use Rattle.simple_types.specs.Space.{Space}
-use Rattle.simple_values.specs.Reading.{Holds, reads, spelled}
+use Rattle.simple_types.specs.Reading.{Holds, reads, spelled}
 use Rattle.asn_types.specs.declared.types.Form.{Form}
 use Rattle.asn_types.specs.declared.types.Form.TheVariants as form
 use Rattle.asn_types.specs.declared.types.TypeLabel.{TypeLabel}
@@ -26,14 +26,14 @@ use Rattle.module_text.specs.declared.types.PlainForm.{PlainForm}
 use Rattle.module_text.specs.declared.types.PlainForm.TheVariants as plain
 use Rattle.module_text.specs.declared.types.PlainLabel.{PlainLabel}
 use Rattle.module_text.specs.declared.modules.PlainAssignment.{PlainAssignment}
-use Rattle.module_faults.specs.declared.spots.Spot.{Spot}
-use Rattle.module_faults.specs.declared.spots.Spot.TheVariants.{Elsewhere}
-use Rattle.module_faults.specs.declared.reasons.ModuleWhy.TheVariants as why
-use Rattle.module_faults.specs.Told.{is_xml_text}
-use Rattle.module_faults.specs.Resolving as resolving
-use Rattle.module_faults.specs.Simple.{simple_told}
-use Rattle.module_faults.specs.Defaults as defaults
-use Rattle.module_faults.specs.Faults as rule
+use Rattle.module_text.specs.declared.spots.Spot.{Spot}
+use Rattle.module_text.specs.declared.spots.Spot.TheVariants.{Elsewhere}
+use Rattle.module_text.specs.declared.reasons.ModuleWhy.TheVariants as why
+use Rattle.module_text.specs.Told.{is_xml_text}
+use Rattle.module_text.specs.Resolving as resolving
+use Rattle.module_text.specs.Simple.{simple_told}
+use Rattle.module_text.specs.Defaults as defaults
+use Rattle.module_text.specs.Faults as rule
 use Rattle.module_laws.proofs.Firsts.{bytes_same}
 use Rattle.module_unique.specs.Alike.{HasOctets}
 use Rattle.module_unique.specs.Utf8Texts.{TypeIsUtf8}

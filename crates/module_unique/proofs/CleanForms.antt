@@ -9,16 +9,16 @@ use Rattle.std.specs.Fmt.{signed_decimal}
 use Rattle.std.proofs.lemmas.Bool.{true≢false}
 use Rattle.std.proofs.lemmas.Int.{ints}
 use Rattle.simple_types.specs.Sound.{AreBounds, AreSizes}
-use Rattle.simple_values.specs.Lexical.{is_128_bits}
+use Rattle.simple_types.specs.Lexical.{is_128_bits}
 use Rattle.asn_types.specs.Bounds.{IsBound, IsSize, AreWhole}
 use Rattle.module_print.specs.Instructions.{number_identifier}
 use Rattle.module_text.specs.declared.bounds.PlainEnds.TheVariants as ends
-use Rattle.module_faults.specs.declared.reasons.ModuleWhy.{ModuleWhy}
-use Rattle.module_faults.specs.declared.reasons.ModuleWhy.TheVariants as why
-use Rattle.module_faults.specs.declared.reasons.Fault.{Fault}
-use Rattle.module_faults.specs.Listed.{unless}
-use Rattle.module_faults.specs.Told.{whole_of, size_of, is_printed, is_printed_number}
-use Rattle.module_faults.specs.Faults as rule
+use Rattle.module_text.specs.declared.reasons.ModuleWhy.{ModuleWhy}
+use Rattle.module_text.specs.declared.reasons.ModuleWhy.TheVariants as why
+use Rattle.module_text.specs.declared.reasons.Fault.{Fault}
+use Rattle.module_text.specs.Listed.{unless}
+use Rattle.module_text.specs.Told.{whole_of, size_of, is_printed, is_printed_number}
+use Rattle.module_text.specs.Faults as rule
 use Rattle.module_laws.proofs.Firsts.{bytes-self, bytes-turned}
 use Rattle.module_unique.proofs.Telling.{number_told, both_told, range_told, size_told, numbered_told, name_at}
 use Rattle.module_unique.proofs.Digits.{small_bits, number_back, size_back, numbers_same}

@@ -2,7 +2,7 @@
 use Rattle.std.proofs.Common.{◌≡◌, ℕ, zero, suc, ◌<◌, ◌≤◌, ◌+◌, Option, Some, None, List, [], ◌∷◌, map, length, refl, ap, subst, ◌∙◌, arith, option_map}
 use Rattle.std.specs.Prelude.{All, bytes_eq, slice_get, option_and_then}
 use Rattle.std.specs.List.{IsDistinct}
-use Rattle.label_tree.specs.Rose.{Rose, Roses, none, more, label_of, list_of, height, depth_all}
+use Rattle.base_trees.specs.Rose.{Rose, Roses, none, more, label_of, list_of, height, depth_all}
 use Rattle.asn_types.specs.declared.types.Component.{Component}
 use Rattle.asn_types.specs.declared.types.TypeLabel.{TypeLabel}
 use Rattle.asn_types.specs.declared.modules.Assignment.{Assignment}
@@ -10,10 +10,10 @@ use Rattle.asn_types.specs.Refs as refs
 use Rattle.module_print.specs.Printed.{reference_at}
 use Rattle.module_text.specs.declared.modules.PlainAssignment.{PlainAssignment}
 use Rattle.module_text.specs.Plain.{limit}
-use Rattle.module_faults.specs.declared.spots.Spot.{Spot}
-use Rattle.module_faults.specs.declared.spots.Spot.TheVariants.{Elsewhere}
-use Rattle.module_faults.specs.Printable.{part_spot}
-use Rattle.module_faults.specs.Resolving as resolving
+use Rattle.module_text.specs.declared.spots.Spot.{Spot}
+use Rattle.module_text.specs.declared.spots.Spot.TheVariants.{Elsewhere}
+use Rattle.module_text.specs.Printable.{part_spot}
+use Rattle.module_text.specs.Resolving as resolving
 use Rattle.module_laws.proofs.Firsts.{got-at, got-mapped, mapped, all-at}
 use Rattle.module_unique.specs.Utf8Texts.{TypeIsUtf8, TypesAreUtf8}
 use Rattle.module_unique.proofs.Telling.{assignment_told, type_told, module_told}

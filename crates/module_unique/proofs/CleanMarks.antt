@@ -6,23 +6,23 @@ use Rattle.std.specs.Str.{is_utf8}
 use Rattle.std.proofs.lemmas.Bool.{ltb-true}
 use Rattle.std.proofs.lemmas.Bool.Decides.{nat_tests}
 use Rattle.std.proofs.lemmas.Str.{is_utf8-from_IsUtf8}
-use Rattle.xa_base.specs.Characters.{is_xml_char}
-use Rattle.xa_base.specs.WhiteSpace.{has_bytes}
-use Rattle.name_map.specs.declared.restoration.NameForm.{NameForm}
-use Rattle.name_map.specs.declared.restoration.NameForm.TheVariants as name_form
-use Rattle.name_map.specs.Restoring.{form_of}
+use Rattle.base_texts.specs.Characters.{is_xml_char}
+use Rattle.base_texts.specs.WhiteSpace.{has_bytes}
+use Rattle.asn_names.specs.declared.restoration.NameForm.{NameForm}
+use Rattle.asn_names.specs.declared.restoration.NameForm.TheVariants as name_form
+use Rattle.asn_names.specs.Restoring.{form_of}
 use Rattle.asn_types.specs.declared.marks.Instruction.{Instruction}
 use Rattle.asn_types.specs.declared.marks.Instruction.TheVariants as mark
 use Rattle.asn_types.specs.Marks.{is_attribute}
 use Rattle.module_print.specs.Instructions.{rank}
 use Rattle.module_text.specs.Ranks.{rank_of_part_mark}
-use Rattle.module_faults.specs.declared.reasons.ModuleWhy.TheVariants as why
-use Rattle.module_faults.specs.Listed.{unless}
-use Rattle.module_faults.specs.Told.{is_xml_text, is_form, has_xml_characters, is_told_so, told_name}
-use Rattle.module_faults.specs.Marks as may
-use Rattle.module_faults.specs.Faults as rule
-use Rattle.module_faults.specs.Printable.{comes_before, are_in_order, is_of_part, MayHave, HasPartMarks}
-use Rattle.module_faults.proofs.PrintedBounds.{and-first, and-second}
+use Rattle.module_text.specs.declared.reasons.ModuleWhy.TheVariants as why
+use Rattle.module_text.specs.Listed.{unless}
+use Rattle.module_text.specs.Told.{is_xml_text, is_form, has_xml_characters, is_told_so, told_name}
+use Rattle.module_text.specs.Marks as may
+use Rattle.module_text.specs.Faults as rule
+use Rattle.module_text.specs.Printable.{comes_before, are_in_order, is_of_part, MayHave, HasPartMarks}
+use Rattle.module_text.proofs.PrintedBounds.{and-first, and-second}
 use Rattle.module_unique.specs.Utf8Texts.{MarkIsUtf8}
 use Rattle.module_unique.proofs.Telling.{as_form, name_told, part_kind, part_marks_told}
 use Rattle.module_unique.proofs.Marked.{name_back, part_rank}

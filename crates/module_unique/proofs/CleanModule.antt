@@ -2,11 +2,11 @@
 use Rattle.std.proofs.Common.{◌≡◌, ℕ, zero, suc, ◌≤◌, ◌+◌, ◌-◌, Bool, true, false, ◌&&◌, ◌||◌, not, None, List, [], ◌∷◌, ◌++◌, map, length, refl, ap, ap₂, ◌∙◌, arith}
 use Rattle.std.specs.Prelude.{All, bytes_eq, is_some, nat_lt, if◌then◌else◌}
 use Rattle.std.specs.List.{Contains, AllByRecursion, IsDistinct}
-use Rattle.label_tree.specs.Rose.{Rose, node, Roses, none, more, label_of, length_all, height, depth_all}
-use Rattle.xa_base.specs.Limits.{is_empty}
+use Rattle.base_trees.specs.Rose.{Rose, node, Roses, none, more, label_of, length_all, height, depth_all}
+use Rattle.base_texts.specs.Limits.{is_empty}
 use Rattle.simple_types.specs.declared.standards.Standard.TheVariants.{Free}
-use Rattle.name_map.specs.ReservedWords.{reserved_words}
-use Rattle.name_map.proofs.Apart.{has-Contains}
+use Rattle.asn_names.specs.ReservedWords.{reserved_words}
+use Rattle.asn_names.proofs.Apart.{has-Contains}
 use Rattle.asn_types.specs.declared.types.Component.{Component}
 use Rattle.asn_types.specs.declared.types.TypeLabel.{TypeLabel}
 use Rattle.asn_types.specs.declared.modules.Assignment.{Assignment}
@@ -17,15 +17,15 @@ use Rattle.module_text.specs.declared.types.PlainLabel.{PlainLabel}
 use Rattle.module_text.specs.declared.modules.PlainAssignment.{PlainAssignment}
 use Rattle.module_text.specs.Plain.{limit}
 use Rattle.module_text.specs.Texts as laid
-use Rattle.module_faults.specs.declared.spots.Spot.{Spot}
-use Rattle.module_faults.specs.declared.spots.Spot.TheVariants.{Elsewhere}
-use Rattle.module_faults.specs.declared.reasons.ModuleWhy.TheVariants as why
-use Rattle.module_faults.specs.declared.reasons.Fault.{Fault}
-use Rattle.module_faults.specs.Listed.{unless}
-use Rattle.module_faults.specs.Told as told
-use Rattle.module_faults.specs.Resolving as resolving
-use Rattle.module_faults.specs.Faults as rule
-use Rattle.module_faults.specs.Printable.{part_spot, IsPrintable}
+use Rattle.module_text.specs.declared.spots.Spot.{Spot}
+use Rattle.module_text.specs.declared.spots.Spot.TheVariants.{Elsewhere}
+use Rattle.module_text.specs.declared.reasons.ModuleWhy.TheVariants as why
+use Rattle.module_text.specs.declared.reasons.Fault.{Fault}
+use Rattle.module_text.specs.Listed.{unless}
+use Rattle.module_text.specs.Told as told
+use Rattle.module_text.specs.Resolving as resolving
+use Rattle.module_text.specs.Faults as rule
+use Rattle.module_text.specs.Printable.{part_spot, IsPrintable}
 use Rattle.module_unique.specs.Alike.{HasOctets, IsOfOctets}
 use Rattle.module_unique.specs.Utf8Texts.{MarkIsUtf8, PartIsUtf8, TypeIsUtf8, TypesAreUtf8, HasTexts}
 use Rattle.module_unique.proofs.Telling.{part_marks_told, component_told, components_told, form_told, type_told, types_told, assignment_told, module_told}

@@ -2,8 +2,8 @@
 use Rattle.std.proofs.Common.{◌≡◌, ℕ, suc, ◌≤◌, ◌-◌, Bool, true, false, ◌&&◌, not, Option, Some, List, map, length, refl, sym, ap, subst, ◌∙◌, arith, option_map}
 use Rattle.std.specs.Prelude.{All, bytes_eq, slice_get, if◌then◌else◌}
 use Rattle.std.specs.List.{IsDistinct}
-use Rattle.label_tree.specs.Rose.{Rose, node, Roses, none, more, label_of, list_of, length_all, depth_all}
-use Rattle.label_tree.proofs.Roses.{length-list_of}
+use Rattle.base_trees.specs.Rose.{Rose, node, Roses, none, more, label_of, list_of, length_all, depth_all}
+use Rattle.base_trees.proofs.Roses.{length-list_of}
 use Rattle.asn_types.specs.declared.types.Component.{Component}
 use Rattle.asn_types.specs.declared.types.Form.{Form}
 use Rattle.asn_types.specs.declared.types.Form.TheVariants as form
@@ -18,11 +18,11 @@ use Rattle.module_text.specs.declared.types.PlainLabel.{PlainLabel}
 use Rattle.module_text.specs.declared.modules.PlainAssignment.{PlainAssignment}
 use Rattle.module_text.specs.Plain.{limit}
 use Rattle.module_text.specs.Texts as laid
-use Rattle.module_faults.specs.declared.spots.Spot.{Spot}
-use Rattle.module_faults.specs.Told as told
-use Rattle.module_faults.specs.Resolving as resolving
-use Rattle.module_faults.specs.Orders as orders
-use Rattle.module_faults.specs.Printable.{HasPartMarks}
+use Rattle.module_text.specs.declared.spots.Spot.{Spot}
+use Rattle.module_text.specs.Told as told
+use Rattle.module_text.specs.Resolving as resolving
+use Rattle.module_text.specs.Orders as orders
+use Rattle.module_text.specs.Printable.{HasPartMarks}
 use Rattle.module_laws.proofs.Firsts.{mapped, all-at}
 use Rattle.module_unique.specs.Utf8Texts.{TypeIsUtf8, TypesAreUtf8}
 use Rattle.module_unique.proofs.Telling.{component_told, form_told, type_told, types_told, module_told}

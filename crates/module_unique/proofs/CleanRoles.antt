@@ -3,8 +3,8 @@ use Rattle.std.proofs.Common.{◌≡◌, ℕ, zero, suc, ◌+◌, ◌-◌, Bool,
 use Rattle.std.specs.Prelude.{All, bytes_eq, slice_get, if◌then◌else◌}
 use Rattle.std.specs.List.{list_all, list_any}
 use Rattle.std.proofs.lemmas.Bool.{true≢false}
-use Rattle.label_tree.specs.Rose.{Rose, node, Roses, none, more, list_of, length_all}
-use Rattle.xa_base.specs.declared.white_space.WhiteSpace.TheVariants.{Preserve, Replace, Collapse}
+use Rattle.base_trees.specs.Rose.{Rose, node, Roses, none, more, list_of, length_all}
+use Rattle.base_texts.specs.declared.white_space.WhiteSpace.TheVariants.{Preserve, Replace, Collapse}
 use Rattle.simple_types.specs.declared.standards.Standard.{Standard}
 use Rattle.simple_types.specs.declared.standards.Standard.TheVariants.{Free, Default, Fixed}
 use Rattle.asn_types.specs.declared.marks.Instruction.{Instruction}
@@ -26,10 +26,10 @@ use Rattle.module_text.specs.declared.values.Absence.TheVariants as absence
 use Rattle.module_text.specs.declared.types.PlainPart.{PlainPart}
 use Rattle.module_text.specs.declared.types.PlainLabel.{PlainLabel}
 use Rattle.module_text.specs.Texts as laid
-use Rattle.module_faults.specs.Told as told
-use Rattle.module_faults.specs.Resolving as resolving
-use Rattle.module_faults.specs.Orders as orders
-use Rattle.module_faults.specs.Printable.{is_of_part, HasPartMarks}
+use Rattle.module_text.specs.Told as told
+use Rattle.module_text.specs.Resolving as resolving
+use Rattle.module_text.specs.Orders as orders
+use Rattle.module_text.specs.Printable.{is_of_part, HasPartMarks}
 use Rattle.module_laws.proofs.Firsts.{bytes-self}
 use Rattle.module_unique.proofs.Telling.{part_kind, part_marks_told, type_kind, type_marks_told, standard_told, component_told, components_told, form_told, type_told, types_told}
 use Rattle.module_unique.proofs.Values.{named_back}

@@ -7,11 +7,11 @@ use Rattle.std.specs.Ordering.{nat_cmp, int_cmp, is_lt}
 use Rattle.std.specs.Cmp.Lexicographic.{slice_cmp}
 use Rattle.std.proofs.lemmas.Bool.{true≢false, lt-ltb, le-leb}
 use Rattle.std.proofs.lemmas.Int.{ints}
-use Rattle.label_tree.specs.Rose.{Rose, node, Roses, label_of, length_all}
-use Rattle.label_tree.specs.Rose as rose
-use Rattle.xa_base.specs.WhiteSpace.{treated}
-use Rattle.xa_base.specs.declared.white_space.WhiteSpace.{WhiteSpace}
-use Rattle.xa_base.specs.declared.white_space.WhiteSpace.TheVariants.{Preserve, Replace, Collapse}
+use Rattle.base_trees.specs.Rose.{Rose, node, Roses, label_of, length_all}
+use Rattle.base_trees.specs.Rose as rose
+use Rattle.base_texts.specs.WhiteSpace.{treated}
+use Rattle.base_texts.specs.declared.white_space.WhiteSpace.{WhiteSpace}
+use Rattle.base_texts.specs.declared.white_space.WhiteSpace.TheVariants.{Preserve, Replace, Collapse}
 use Rattle.simple_types.specs.declared.simples.Class.{Class}
 use Rattle.simple_types.specs.Sound.{Sound, AreSound, IsCounted, AreBounds, AreSizes, AreWords, has_list}
 use Rattle.simple_types.specs.Space.{Space, Spaces, none, more, Booleans, Wholes, Numbers, Words, Characters, ListOf, UnionOf, count_members}
@@ -26,14 +26,14 @@ use Rattle.asn_types.specs.Bounds.{HasBounds}
 use Rattle.asn_types.specs.Modules.{IsForm}
 use Rattle.asn_types.specs.Parts.{parts_of}
 use Rattle.asn_types.specs.Simples.{counting, white_space_marks, IsPlain, ArePlain, MapsTo, MapToEach}
-use Rattle.module_faults.specs.declared.spots.Spot.{Spot}
-use Rattle.module_faults.specs.declared.spots.Spot.TheVariants.{Elsewhere, Order, OrderItem}
-use Rattle.module_faults.specs.declared.spots.Alone.{Alone}
-use Rattle.module_faults.specs.declared.spots.Alone.TheVariants as alone
-use Rattle.module_faults.specs.Told.{range_of, sizes_of, have_names_alone, beside, alone_behind, told_alone, is_nothing, is_number_alone, is_list_alone, is_union_alone, white_space_alone, words_of}
-use Rattle.module_faults.specs.Simple as simple
-use Rattle.module_faults.specs.Simple.{if_so, simple_told, members_told, item_told, is_order_item}
-use Rattle.module_faults.specs.Printable.{is_of_part, is_text, texts_due, is_sequence_of, part_spot, HasNames, HasPartMarks, IsInSpot}
+use Rattle.module_text.specs.declared.spots.Spot.{Spot}
+use Rattle.module_text.specs.declared.spots.Spot.TheVariants.{Elsewhere, Order, OrderItem}
+use Rattle.module_text.specs.declared.spots.Alone.{Alone}
+use Rattle.module_text.specs.declared.spots.Alone.TheVariants as alone
+use Rattle.module_text.specs.Told.{range_of, sizes_of, have_names_alone, beside, alone_behind, told_alone, is_nothing, is_number_alone, is_list_alone, is_union_alone, white_space_alone, words_of}
+use Rattle.module_text.specs.Simple as simple
+use Rattle.module_text.specs.Simple.{if_so, simple_told, members_told, item_told, is_order_item}
+use Rattle.module_text.specs.Printable.{is_of_part, is_text, texts_due, is_sequence_of, part_spot, HasNames, HasPartMarks, IsInSpot}
 use Rattle.module_laws.proofs.Firsts.{bytes_same}
 use Rattle.module_unique.specs.Utf8Texts.{WordsAreUtf8, TypeIsUtf8, TypesAreUtf8}
 use Rattle.module_unique.proofs.Telling.{range_told, size_told, part_marks_told, type_kind, type_marks_told, name_at, numbered_told, components_told, form_told, type_told, types_told}

@@ -3,11 +3,11 @@ use Rattle.std.proofs.Common.{◌≡◌, ℕ, zero, suc, ◌<◌, ◌≤◌, ◌
 use Rattle.std.specs.Prelude.{◌≢◌, All, IsUtf8, bytes_eq, chars, drop, filter, is_some, slice_get, unwrap_or, if◌then◌else◌}
 use Rattle.std.specs.List.{list_all, IsDistinct}
 use Rattle.std.proofs.lemmas.Bool.{true≢false, ltb-true}
-use Rattle.label_tree.specs.Rose.{Roses}
-use Rattle.xa_base.specs.Characters.{is_xml_char}
-use Rattle.xa_base.specs.declared.white_space.WhiteSpace.TheVariants.{Preserve, Replace, Collapse}
-use Rattle.name_map.specs.declared.restoration.NameForm.TheVariants as name_form
-use Rattle.name_map.specs.Restoring.{form_of, capitalized, uncapitalized}
+use Rattle.base_trees.specs.Rose.{Roses}
+use Rattle.base_texts.specs.Characters.{is_xml_char}
+use Rattle.base_texts.specs.declared.white_space.WhiteSpace.TheVariants.{Preserve, Replace, Collapse}
+use Rattle.asn_names.specs.declared.restoration.NameForm.TheVariants as name_form
+use Rattle.asn_names.specs.Restoring.{form_of, capitalized, uncapitalized}
 use Rattle.asn_types.specs.declared.marks.Instruction.{Instruction}
 use Rattle.asn_types.specs.declared.marks.Instruction.TheVariants as mark
 use Rattle.asn_types.specs.declared.types.Form.{Form}
@@ -19,15 +19,15 @@ use Rattle.module_text.specs.declared.types.PlainForm.{PlainForm}
 use Rattle.module_text.specs.declared.types.PlainForm.TheVariants as plain
 use Rattle.module_text.specs.declared.types.PlainLabel.{PlainLabel}
 use Rattle.module_text.specs.declared.modules.PlainAssignment.{PlainAssignment}
-use Rattle.module_faults.specs.declared.spots.Spot.{Spot}
-use Rattle.module_faults.specs.declared.reasons.ModuleWhy.TheVariants as why
-use Rattle.module_faults.specs.Listed.{unless}
-use Rattle.module_faults.specs.Told.{is_told_so}
-use Rattle.module_faults.specs.Simple.{is_order_item}
-use Rattle.module_faults.specs.Marks as may
-use Rattle.module_faults.specs.Faults as rule
-use Rattle.module_faults.specs.Printable.{comes_before, are_in_order, is_of_part, is_text, text_marks, texts_due, MayBe}
-use Rattle.module_faults.proofs.PrintedBounds.{and-first, and-second}
+use Rattle.module_text.specs.declared.spots.Spot.{Spot}
+use Rattle.module_text.specs.declared.reasons.ModuleWhy.TheVariants as why
+use Rattle.module_text.specs.Listed.{unless}
+use Rattle.module_text.specs.Told.{is_told_so}
+use Rattle.module_text.specs.Simple.{is_order_item}
+use Rattle.module_text.specs.Marks as may
+use Rattle.module_text.specs.Faults as rule
+use Rattle.module_text.specs.Printable.{comes_before, are_in_order, is_of_part, is_text, text_marks, texts_due, MayBe}
+use Rattle.module_text.proofs.PrintedBounds.{and-first, and-second}
 use Rattle.module_laws.proofs.Firsts.{only-at}
 use Rattle.module_unique.specs.Utf8Texts.{MarkIsUtf8}
 use Rattle.module_unique.proofs.Telling.{name_told, name_at, type_kind, type_marks_told}

@@ -2,9 +2,9 @@
 use Rattle.std.proofs.Common.{◌≡◌, ℕ, zero, suc, ◌≤◌, Bool, true, false, ◌&&◌, ◌||◌, not, Option, Some, None, List, [], ◌∷◌, map, length, refl, sym, ap, ap₂, ◌∙◌, arith}
 use Rattle.std.specs.Prelude.{All, bytes_eq, is_some, if◌then◌else◌}
 use Rattle.std.specs.List.{list_any, AllByRecursion, IsDistinct}
-use Rattle.label_tree.specs.Rose.{Rose, node, Roses, label_of, length_all, depth_all}
-use Rattle.xa_base.specs.Limits.{is_empty}
-use Rattle.xa_base.specs.declared.white_space.WhiteSpace.TheVariants.{Preserve, Replace, Collapse}
+use Rattle.base_trees.specs.Rose.{Rose, node, Roses, label_of, length_all, depth_all}
+use Rattle.base_texts.specs.Limits.{is_empty}
+use Rattle.base_texts.specs.declared.white_space.WhiteSpace.TheVariants.{Preserve, Replace, Collapse}
 use Rattle.simple_types.specs.declared.standards.Standard.{Standard}
 use Rattle.simple_types.specs.declared.standards.Standard.TheVariants.{Free, Default, Fixed}
 use Rattle.simple_types.specs.Space.{Space}
@@ -27,16 +27,16 @@ use Rattle.module_text.specs.declared.values.Absence.TheVariants as absence
 use Rattle.module_text.specs.declared.types.PlainLabel.{PlainLabel}
 use Rattle.module_text.specs.declared.modules.PlainAssignment.{PlainAssignment}
 use Rattle.module_text.specs.Plain.{limit}
-use Rattle.module_faults.specs.declared.spots.Spot.{Spot}
-use Rattle.module_faults.specs.declared.spots.Spot.TheVariants.{Elsewhere, Order, OrderItem}
-use Rattle.module_faults.specs.declared.reasons.ModuleWhy.TheVariants as why
-use Rattle.module_faults.specs.declared.reasons.Fault.{Fault}
-use Rattle.module_faults.specs.Told as told
-use Rattle.module_faults.specs.Resolving as resolving
-use Rattle.module_faults.specs.Simple as simple
-use Rattle.module_faults.specs.Orders as orders
-use Rattle.module_faults.specs.Faults as rule
-use Rattle.module_faults.specs.Printable as printable
+use Rattle.module_text.specs.declared.spots.Spot.{Spot}
+use Rattle.module_text.specs.declared.spots.Spot.TheVariants.{Elsewhere, Order, OrderItem}
+use Rattle.module_text.specs.declared.reasons.ModuleWhy.TheVariants as why
+use Rattle.module_text.specs.declared.reasons.Fault.{Fault}
+use Rattle.module_text.specs.Told as told
+use Rattle.module_text.specs.Resolving as resolving
+use Rattle.module_text.specs.Simple as simple
+use Rattle.module_text.specs.Orders as orders
+use Rattle.module_text.specs.Faults as rule
+use Rattle.module_text.specs.Printable as printable
 use Rattle.module_laws.proofs.Firsts.{bytes-self}
 use Rattle.module_unique.specs.Alike.{HasOctets}
 use Rattle.module_unique.specs.Utf8Texts.{MarkIsUtf8, StandardIsUtf8, TypeIsUtf8}

@@ -2,13 +2,13 @@
 use Rattle.std.proofs.Common.{◌≡◌, ℕ, zero, suc, Bool, true, false, Option, Some, None, List, [], ◌∷◌, map, length, refl, sym, ap, subst, ◌∙◌, arith, option_map}
 use Rattle.std.specs.Prelude.{ℤ, bytes_eq, slice_get, unwrap_or}
 use Rattle.std.specs.Fmt.{signed_decimal}
-use Rattle.label_tree.specs.Rose.{Rose, node, Roses, list_of, roses_of, label_of, kids_of, length_all}
-use Rattle.label_tree.specs.Rose as rose
-use Rattle.label_tree.proofs.Roses.{list_of-roses_of, length-list_of}
+use Rattle.base_trees.specs.Rose.{Rose, node, Roses, list_of, roses_of, label_of, kids_of, length_all}
+use Rattle.base_trees.specs.Rose as rose
+use Rattle.base_trees.proofs.Roses.{list_of-roses_of, length-list_of}
 use Rattle.simple_types.specs.declared.labels.ValueLabel.{ValueLabel}
 use Rattle.simple_types.specs.declared.labels.ValueLabel.TheVariants as label
 use Rattle.simple_types.specs.Space.{Space, Spaces, none, more, Booleans, Wholes, Numbers, Words, Characters, ListOf, UnionOf}
-use Rattle.simple_values.specs.Reading.{leaf}
+use Rattle.simple_types.specs.Reading.{leaf}
 use Rattle.asn_types.specs.declared.marks.Instruction.{Instruction}
 use Rattle.asn_types.specs.declared.types.Component.{Component}
 use Rattle.asn_types.specs.declared.types.Form.{Form}
@@ -22,7 +22,7 @@ use Rattle.module_print.specs.Instructions.{number_identifier}
 use Rattle.module_print.specs.Values.{alternative}
 use Rattle.module_text.specs.declared.values.PlainValueLabel.{PlainValueLabel}
 use Rattle.module_text.specs.declared.types.PlainLabel.{PlainLabel}
-use Rattle.module_faults.specs.Defaults as defaults
+use Rattle.module_text.specs.Defaults as defaults
 use Rattle.module_laws.proofs.Firsts.{bytes-self, bytes_same, got-within, got-at, got-mapped}
 use Rattle.module_unique.proofs.Telling.{type_marks_told, name_at, numbered_told, form_told, form_value, part_told, value_told, type_told, types_told}
 use Rattle.module_unique.proofs.Shapes.{EachShaped, Shaped, ShapedBy}

@@ -1,10 +1,10 @@
 -- The faults of a tree, but for their places, are those of the tree with each thing at place 0.
 use Rattle.std.proofs.Common.{◌≡◌, ℕ, zero, suc, ◌+◌, ◌-◌, Bool, true, false, not, ◌&&◌, ◌||◌, Option, Some, None, List, [], ◌∷◌, ◌++◌, map, refl, sym, ap, ap₂, ◌∙◌, option_map}
 use Rattle.std.specs.Prelude.{ℤ, drop, position, bytes_eq, nat_lt, is_some, if◌then◌else◌}
-use Rattle.label_tree.specs.Rose.{Rose, node, Roses, none, more, label_of, list_of}
-use Rattle.xa_base.specs.Limits.{is_empty}
+use Rattle.base_trees.specs.Rose.{Rose, node, Roses, none, more, label_of, list_of}
+use Rattle.base_texts.specs.Limits.{is_empty}
 use Rattle.simple_types.specs.Space.{Space}
-use Rattle.name_map.specs.ReservedWords.{reserved_words}
+use Rattle.asn_names.specs.ReservedWords.{reserved_words}
 use Rattle.module_text.specs.declared.bounds.PlainNumber.{PlainNumber}
 use Rattle.module_text.specs.declared.bounds.PlainEnds.{PlainEnds}
 use Rattle.module_text.specs.declared.bounds.PlainEnds.TheVariants as ends
@@ -27,19 +27,19 @@ use Rattle.module_text.specs.declared.types.PlainLabel.{PlainLabel}
 use Rattle.module_text.specs.declared.modules.PlainAssignment.{PlainAssignment}
 use Rattle.module_text.specs.Texts.{parts_of}
 use Rattle.module_text.specs.Ranks.{rank_of_part_mark, rank_of_type_mark}
-use Rattle.module_faults.specs.declared.spots.Spot.{Spot}
-use Rattle.module_faults.specs.declared.spots.Spot.TheVariants.{Elsewhere, Order}
-use Rattle.module_faults.specs.declared.reasons.ModuleWhy.{ModuleWhy}
-use Rattle.module_faults.specs.declared.reasons.ModuleWhy.TheVariants.{Spelling, Duplicate, Unresolved, LongChain}
-use Rattle.module_faults.specs.declared.reasons.Fault.{Fault}
-use Rattle.module_faults.specs.Listed.{unless}
-use Rattle.module_faults.specs.Told as told
-use Rattle.module_faults.specs.Resolving as resolving
-use Rattle.module_faults.specs.Simple as simple
-use Rattle.module_faults.specs.Defaults as defaults
-use Rattle.module_faults.specs.Orders as orders
-use Rattle.module_faults.specs.Marks as may
-use Rattle.module_faults.specs.Faults as rule
+use Rattle.module_text.specs.declared.spots.Spot.{Spot}
+use Rattle.module_text.specs.declared.spots.Spot.TheVariants.{Elsewhere, Order}
+use Rattle.module_text.specs.declared.reasons.ModuleWhy.{ModuleWhy}
+use Rattle.module_text.specs.declared.reasons.ModuleWhy.TheVariants.{Spelling, Duplicate, Unresolved, LongChain}
+use Rattle.module_text.specs.declared.reasons.Fault.{Fault}
+use Rattle.module_text.specs.Listed.{unless}
+use Rattle.module_text.specs.Told as told
+use Rattle.module_text.specs.Resolving as resolving
+use Rattle.module_text.specs.Simple as simple
+use Rattle.module_text.specs.Defaults as defaults
+use Rattle.module_text.specs.Orders as orders
+use Rattle.module_text.specs.Marks as may
+use Rattle.module_text.specs.Faults as rule
 use Rattle.module_unique.proofs.Clearing.{clear_number, clear_ends, clear_range, clear_part_marks, clear_type_marks, clear_value, clear_fixed, clear_absence, clear_name, clear_item, clear_part, clear_form, clear_type, clear_types, clear_assignment}
 use Rattle.module_unique.proofs.ClearSimple.{any_type, any_part, words_same, simple_same, number_same, resolve_same, position_same}
 use Rattle.module_unique.proofs.ClearRoles.{clear_label, parts_same, role_same, ends_same}

@@ -1,7 +1,7 @@
 -- Places count for nothing in what USE-NIL, EMBED-VALUES and USE-ORDER ask.
 use Rattle.std.proofs.Common.{◌≡◌, ℕ, suc, ◌+◌, ◌-◌, Bool, true, false, not, ◌&&◌, Option, Some, None, List, [], ◌∷◌, map, length, refl, sym, ap, ap₂, ◌∙◌, option_map}
 use Rattle.std.specs.Prelude.{slice_get, if◌then◌else◌}
-use Rattle.label_tree.specs.Rose.{Rose, node, Roses, none, more, label_of, list_of}
+use Rattle.base_trees.specs.Rose.{Rose, node, Roses, none, more, label_of, list_of}
 use Rattle.asn_types.specs.declared.roles.Role.{Role}
 use Rattle.asn_types.specs.Refs.{is_element}
 use Rattle.module_text.specs.declared.values.Absence.{Absence}
@@ -13,9 +13,9 @@ use Rattle.module_text.specs.declared.types.PlainForm.TheVariants as form
 use Rattle.module_text.specs.declared.types.PlainLabel.{PlainLabel}
 use Rattle.module_text.specs.declared.modules.PlainAssignment.{PlainAssignment}
 use Rattle.module_text.specs.Texts.{parts_of}
-use Rattle.module_faults.specs.Told as told
-use Rattle.module_faults.specs.Resolving as resolving
-use Rattle.module_faults.specs.Orders as orders
+use Rattle.module_text.specs.Told as told
+use Rattle.module_text.specs.Resolving as resolving
+use Rattle.module_text.specs.Orders as orders
 use Rattle.module_laws.proofs.Firsts.{got-mapped}
 use Rattle.module_unique.proofs.Clearing.{clear_type_marks, clear_absence, clear_name, clear_part, clear_form, clear_type, clear_types, clear_assignment}
 use Rattle.module_unique.proofs.ClearSimple.{any_type, resolve_same}

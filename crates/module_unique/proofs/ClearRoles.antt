@@ -1,7 +1,7 @@
 -- Places count for nothing in the roles of parts, in chains of references, and in orders.
 use Rattle.std.proofs.Common.{◌≡◌, ℕ, zero, suc, ◌+◌, Bool, true, false, ◌&&◌, Option, Some, None, List, [], ◌∷◌, map, length, refl, ap, ap₂, ◌∙◌, option_map}
 use Rattle.std.specs.Prelude.{◌==◌, if◌then◌else◌}
-use Rattle.label_tree.specs.Rose.{Rose, node, Roses, none, more}
+use Rattle.base_trees.specs.Rose.{Rose, node, Roses, none, more}
 use Rattle.asn_types.specs.declared.roles.Role.{Role}
 use Rattle.asn_types.specs.declared.roles.Role.TheVariants.{Attribute, Element, Group, Content, Embed, Order, Item, Alternative}
 use Rattle.asn_types.specs.Refs.{is_element}
@@ -11,8 +11,8 @@ use Rattle.module_text.specs.declared.types.PlainForm.TheVariants as form
 use Rattle.module_text.specs.declared.types.PlainLabel.{PlainLabel}
 use Rattle.module_text.specs.declared.modules.PlainAssignment.{PlainAssignment}
 use Rattle.module_text.specs.Texts.{parts_of}
-use Rattle.module_faults.specs.Told as told
-use Rattle.module_faults.specs.Resolving as resolving
+use Rattle.module_text.specs.Told as told
+use Rattle.module_text.specs.Resolving as resolving
 use Rattle.module_unique.proofs.Clearing.{clear_type_marks, clear_part, clear_form, clear_type, clear_types, clear_assignment}
 use Rattle.module_unique.proofs.ClearSimple.{any_type, any_part, body_of_same}
 

@@ -2,7 +2,7 @@
 use Rattle.std.proofs.Common.{◌≡◌, ℕ, zero, suc, Bool, true, false, not, ◌&&◌, Option, Some, None, List, [], ◌∷◌, map, refl, sym, ap, ap₂, ◌∙◌, option_map, position}
 use Rattle.std.specs.Prelude.{bytes_eq, slice_get, option_and_then, if◌then◌else◌}
 use Rattle.std.specs.List.{list_any, filter_map, cons_option}
-use Rattle.label_tree.specs.Rose.{Rose, node, Roses, none, more}
+use Rattle.base_trees.specs.Rose.{Rose, node, Roses, none, more}
 use Rattle.simple_types.specs.Space.{Booleans}
 use Rattle.module_text.specs.declared.bounds.PlainEnds.{PlainEnds}
 use Rattle.module_text.specs.declared.bounds.PlainEnds.TheVariants as ends
@@ -17,13 +17,13 @@ use Rattle.module_text.specs.declared.types.PlainForm.{PlainForm}
 use Rattle.module_text.specs.declared.types.PlainForm.TheVariants as form
 use Rattle.module_text.specs.declared.types.PlainLabel.{PlainLabel}
 use Rattle.module_text.specs.declared.modules.PlainAssignment.{PlainAssignment}
-use Rattle.module_faults.specs.declared.spots.Spot.{Spot}
-use Rattle.module_faults.specs.declared.spots.Spot.TheVariants.{Elsewhere}
-use Rattle.module_faults.specs.declared.spots.Alone.{Alone}
-use Rattle.module_faults.specs.declared.spots.Alone.TheVariants as alone
-use Rattle.module_faults.specs.Told as told
-use Rattle.module_faults.specs.Resolving as resolving
-use Rattle.module_faults.specs.Simple as simple
+use Rattle.module_text.specs.declared.spots.Spot.{Spot}
+use Rattle.module_text.specs.declared.spots.Spot.TheVariants.{Elsewhere}
+use Rattle.module_text.specs.declared.spots.Alone.{Alone}
+use Rattle.module_text.specs.declared.spots.Alone.TheVariants as alone
+use Rattle.module_text.specs.Told as told
+use Rattle.module_text.specs.Resolving as resolving
+use Rattle.module_text.specs.Simple as simple
 use Rattle.module_laws.proofs.Firsts.{place-here, place-further, got-mapped}
 use Rattle.module_unique.proofs.Clearing.{clear_ends, clear_range, clear_part_marks, clear_type_marks, clear_name, clear_item, clear_part, clear_form, clear_type, clear_types, clear_assignment}
 

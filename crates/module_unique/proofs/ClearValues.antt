@@ -2,7 +2,7 @@
 use Rattle.std.proofs.Common.{◌≡◌, ℕ, Bool, false, ◌&&◌, Option, Some, None, List, [], ◌∷◌, map, refl, ap, ap₂, ◌∙◌, option_map}
 use Rattle.std.specs.Prelude.{bytes_eq, slice_get, option_and_then, if◌then◌else◌}
 use Rattle.std.specs.List.{join_with_byte}
-use Rattle.label_tree.specs.Rose.{Rose, node, Roses, none, more, list_of}
+use Rattle.base_trees.specs.Rose.{Rose, node, Roses, none, more, list_of}
 use Rattle.simple_types.specs.Space.{Space}
 use Rattle.simple_types.specs.declared.labels.ValueLabel.{ValueLabel}
 use Rattle.simple_types.specs.declared.labels.ValueLabel.TheVariants as label
@@ -15,7 +15,7 @@ use Rattle.module_text.specs.declared.types.PlainPart.{PlainPart}
 use Rattle.module_text.specs.declared.types.PlainForm.{PlainForm}
 use Rattle.module_text.specs.declared.types.PlainForm.TheVariants as form
 use Rattle.module_text.specs.declared.types.PlainLabel.{PlainLabel}
-use Rattle.module_faults.specs.Defaults as defaults
+use Rattle.module_text.specs.Defaults as defaults
 use Rattle.module_laws.proofs.Firsts.{got-mapped}
 use Rattle.module_unique.proofs.Clearing.{clear_value, clear_values, clear_name, clear_item, clear_part, clear_form, clear_type}
 use Rattle.module_unique.proofs.ClearSimple.{words_same, position_same}

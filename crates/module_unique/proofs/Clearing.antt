@@ -2,7 +2,7 @@
 use Rattle.std.proofs.Common.{◌≡◌, ℕ, Option, Some, None, List, [], ◌∷◌, map, refl, ap, ap₂}
 use Rattle.std.specs.Prelude.{suc}
 use Rattle.std.specs.Option.{option_map}
-use Rattle.label_tree.specs.Rose.{Rose, node, Roses, none, more}
+use Rattle.base_trees.specs.Rose.{Rose, node, Roses, none, more}
 use Rattle.module_text.specs.declared.bounds.PlainNumber.{PlainNumber}
 use Rattle.module_text.specs.declared.bounds.PlainEnds.{PlainEnds}
 use Rattle.module_text.specs.declared.bounds.PlainEnds.TheVariants as ends

@@ -7,15 +7,15 @@ use Rattle.std.proofs.lemmas.Bool.{ltb-true, ltb-false, lt-ltb, and_from, trueâ‰
 use Rattle.std.proofs.lemmas.Bool.Decides.{nat_tests}
 use Rattle.std.proofs.lemmas.Fmt.{decimal_is_IsNumeral_wide}
 use Rattle.std.proofs.lemmas.Slice.Eq.{bytes_eq-Decides}
-use Rattle.xa_base.specs.Digits.{is_digit, is_numeral}
-use Rattle.simple_values.specs.Lexical.{is_128_bits}
-use Rattle.simple_values.proofs.Decimals.{numeral_from, digit_other, short, decimal_number}
+use Rattle.base_texts.specs.Digits.{is_digit, is_numeral}
+use Rattle.simple_types.specs.Lexical.{is_128_bits}
+use Rattle.simple_types.proofs.Decimals.{numeral_from, digit_other, short, decimal_number}
 use Rattle.module_print.specs.Notation.{hexadecimal_digit, hexadecimal}
 use Rattle.module_print.specs.Instructions.{number_identifier}
 use Rattle.module_text.specs.Names.{is_capital, is_small, is_letter_or_digit, goes_on, is_identifier, is_number, is_hexadecimal_digit, are_octets}
-use Rattle.module_faults.specs.Told.{if_128_bits, whole_of, size_of}
-use Rattle.module_faults.specs.Defaults.{digit_of, with_octet, octets_of}
-use Rattle.module_faults.proofs.PrintedBounds.{and-first, and-second}
+use Rattle.module_text.specs.Told.{if_128_bits, whole_of, size_of}
+use Rattle.module_text.specs.Defaults.{digit_of, with_octet, octets_of}
+use Rattle.module_text.proofs.PrintedBounds.{and-first, and-second}
 use Rattle.module_unique.proofs.Telling.{number_told}
 
 -- ---- numbers of 128 bits

@@ -4,9 +4,9 @@ use Rattle.std.specs.Prelude.{IsUtf8, IfOk, MatchResult}
 use Rattle.asn_types.specs.declared.modules.Assignment.{Assignment}
 use Rattle.module_print.specs.Printed.{printed}
 use Rattle.module_text.specs.Grammar.{IsTextOf}
-use Rattle.module_faults.specs.declared.reasons.ModuleError.{ModuleError}
-use Rattle.module_faults.specs.declared.reasons.ModuleError.TheVariants as error
-use Rattle.module_faults.specs.ReadBack.{Answers}
+use Rattle.module_text.specs.declared.reasons.ModuleError.{ModuleError}
+use Rattle.module_text.specs.declared.reasons.ModuleError.TheVariants as error
+use Rattle.module_text.specs.ReadBack.{Answers}
 use Rattle.module_read.specs.Tells.{Tells, OneAnswer}
 use Rattle.module_unique.specs.Faultless.{IsFaultless, PrintableHasNoFault}
 use Rattle.module_unique.specs.Utf8Texts.{HasTexts}

@@ -2,9 +2,9 @@
 use Rattle.std.proofs.Common.{◌≡◌, ℕ, zero, suc, ◌≤◌, ◌+◌, Bool, true, false, ◌||◌, Option, Some, None, List, [], ◌∷◌, length, refl, sym, ap, ap₂, subst, ◌∙◌, arith, Ok}
 use Rattle.std.specs.Prelude.{All, slice_get, option_and_then, bytes_eq, codes}
 use Rattle.std.specs.List.{Contains, list_any}
-use Rattle.label_tree.specs.Rose.{Rose, node, Roses, none, more, label_of, length_all, height, Allowed, AllowedAll}
+use Rattle.base_trees.specs.Rose.{Rose, node, Roses, none, more, label_of, length_all, height, Allowed, AllowedAll}
 use Rattle.simple_types.specs.declared.labels.ValueLabel.{ValueLabel}
-use Rattle.simple_values.specs.Reading.{reads, spelled, Holds}
+use Rattle.simple_types.specs.Reading.{reads, spelled, Holds}
 use Rattle.asn_types.specs.declared.types.Component.{Component}
 use Rattle.asn_types.specs.declared.types.TypeLabel.{TypeLabel}
 use Rattle.asn_types.specs.declared.modules.Assignment.{Assignment}
@@ -15,13 +15,13 @@ use Rattle.asn_types.specs.Refs.{target, body_at, next, follow, resolve}
 use Rattle.asn_types.specs.Simples.{MapsTo}
 use Rattle.asn_types.specs.Spaces.{space_at}
 use Rattle.asn_types.proofs.SimpleLaws.{maps-seen}
-use Rattle.name_map.specs.ReservedWords.{reserved_words}
-use Rattle.name_map.proofs.Apart.{has-Contains}
+use Rattle.asn_names.specs.ReservedWords.{reserved_words}
+use Rattle.asn_names.proofs.Apart.{has-Contains}
 use Rattle.module_text.specs.Names.{is_type_word}
 use Rattle.module_text.specs.Plain.{limit}
-use Rattle.module_faults.specs.declared.spots.Spot.{Spot}
-use Rattle.module_faults.specs.declared.spots.Spot.TheVariants.{Elsewhere}
-use Rattle.module_faults.specs.Printable.{part_spot, IsPrintableType, ArePrintable, AllPrintable, IsPrintableAssignment, IsPrintable}
+use Rattle.module_text.specs.declared.spots.Spot.{Spot}
+use Rattle.module_text.specs.declared.spots.Spot.TheVariants.{Elsewhere}
+use Rattle.module_text.specs.Printable.{part_spot, IsPrintableType, ArePrintable, AllPrintable, IsPrintableAssignment, IsPrintable}
 use Rattle.module_laws.proofs.Firsts.{same_bytes, mapped, all-at}
 use Rattle.module_unique.specs.Alike.{HasOctets, AreOfOctets, AllAreOfOctets, IsOfOctets}
 use Rattle.module_unique.proofs.Telling.{reading_told, value_told}

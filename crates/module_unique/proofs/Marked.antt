@@ -4,18 +4,18 @@ use Rattle.std.specs.Prelude.{All, bytes_eq, nat_le, if◌then◌else◌}
 use Rattle.std.specs.List.{list_all}
 use Rattle.std.proofs.lemmas.Bool.{le-leb, and_from}
 use Rattle.std.proofs.lemmas.Slice.Eq.{bytes_eq-Decides}
-use Rattle.xa_base.specs.declared.white_space.WhiteSpace.TheVariants.{Preserve, Replace, Collapse}
-use Rattle.name_map.specs.declared.restoration.NameForm.TheVariants as name_form
-use Rattle.name_map.specs.Restoring.{capitalized, uncapitalized}
+use Rattle.base_texts.specs.declared.white_space.WhiteSpace.TheVariants.{Preserve, Replace, Collapse}
+use Rattle.asn_names.specs.declared.restoration.NameForm.TheVariants as name_form
+use Rattle.asn_names.specs.Restoring.{capitalized, uncapitalized}
 use Rattle.asn_types.specs.declared.marks.Instruction.{Instruction}
 use Rattle.asn_types.specs.declared.marks.Instruction.TheVariants as mark
 use Rattle.asn_types.specs.declared.types.Form.{Form}
 use Rattle.module_print.specs.Instructions.{rank}
 use Rattle.module_text.specs.Ranks.{rank_of_part_mark, rank_of_type_mark, part_marks_from, type_marks_from}
-use Rattle.module_faults.specs.Told.{told_name}
-use Rattle.module_faults.specs.Printable.{comes_before, are_in_order, is_of_part, MayBe}
-use Rattle.module_faults.specs.Meaning.{part_mark_meant, part_marks_meant}
-use Rattle.module_faults.proofs.PrintedBounds.{and-first, and-second}
+use Rattle.module_text.specs.Told.{told_name}
+use Rattle.module_text.specs.Printable.{comes_before, are_in_order, is_of_part, MayBe}
+use Rattle.module_text.specs.Meaning.{part_mark_meant, part_marks_meant}
+use Rattle.module_text.proofs.PrintedBounds.{and-first, and-second}
 use Rattle.module_unique.proofs.Telling.{as_form, name_told, part_kind, part_marks_told, type_kind, type_marks_told}
 use Rattle.module_unique.proofs.Printing.{rank_follows}
 

@@ -4,7 +4,7 @@ use Rattle.module_print.specs.Printed.{printed}
 use Rattle.module_text.specs.declared.modules.PlainAssignment.{PlainAssignment}
 use Rattle.module_text.specs.Places.{placed}
 use Rattle.module_grammar.specs.TextsRead.{AllTextsRead}
-use Rattle.module_faults.specs.Faults.{faults}
+use Rattle.module_text.specs.Faults.{faults}
 use Rattle.module_laws.specs.Laws.{NoFaultIsPrintable}
 use Rattle.module_unique.specs.Faultless.{PrintableHasNoFault}
 use Rattle.module_unique.proofs.Telling.{module_told}

@@ -6,7 +6,7 @@ use Rattle.std.specs.Str.{all_scalars}
 use Rattle.std.specs.List.{AllByRecursion}
 use Rattle.std.proofs.lemmas.Bool.{and_parts, ltb-true}
 use Rattle.std.proofs.lemmas.List.Elements.{All-nil, All-cons}
-use Rattle.label_tree.specs.Rose.{Rose, node, Roses, none, more}
+use Rattle.base_trees.specs.Rose.{Rose, node, Roses, none, more}
 use Rattle.simple_types.specs.declared.standards.Standard.{Standard}
 use Rattle.simple_types.specs.declared.standards.Standard.TheVariants.{Free, Default, Fixed}
 use Rattle.asn_types.specs.declared.types.TypeLabel.{TypeLabel}

@@ -3,7 +3,7 @@ use Rattle.std.proofs.Common.{◌≡◌, ℕ, ◌<◌, ◌+◌, ◌*◌, Bool, t
 use Rattle.std.specs.Prelude.{All, unwrap_or}
 use Rattle.std.proofs.lemmas.Bool.Decides.{nat_tests}
 use Rattle.std.proofs.lemmas.List.Elements.{All-nil, All-cons}
-use Rattle.label_tree.specs.Rose.{Rose, node, Roses, none, more, list_of}
+use Rattle.base_trees.specs.Rose.{Rose, node, Roses, none, more, list_of}
 use Rattle.simple_types.specs.declared.simples.Class.{Class}
 use Rattle.simple_types.specs.declared.standards.Standard.TheVariants.{Free, Default}
 use Rattle.simple_types.specs.Space.{Space}
@@ -24,16 +24,16 @@ use Rattle.module_text.specs.declared.types.PlainLabel.{PlainLabel}
 use Rattle.module_text.specs.declared.modules.PlainAssignment.{PlainAssignment}
 use Rattle.module_text.specs.Texts.{parts_of}
 use Rattle.module_grammar.specs.TextsRead.{AllTextsRead}
-use Rattle.module_faults.specs.declared.spots.Spot.{Spot}
-use Rattle.module_faults.specs.declared.spots.Spot.TheVariants.{Elsewhere}
-use Rattle.module_faults.specs.Told.{Bounds, Sizes, range_of, sizes_of}
-use Rattle.module_faults.specs.Simple.{is_order_item}
-use Rattle.module_faults.specs.Defaults.{digit_of, with_octet, octets_of, default_told}
-use Rattle.module_faults.specs.Faults.{space_at, part_spot}
-use Rattle.module_faults.specs.Meaning.{words_meant, int_meant, utf8_meant, list_meant, default_meant, standard_meant, component_meant, components_meant, item_meant, form_meant, type_meant, types_meant, assignment_meant, module_meant}
-use Rattle.module_faults.specs.Printable.{IsPrintable}
-use Rattle.module_faults.specs.ReadBack.{IsReadBack}
-use Rattle.module_faults.proofs.PrintedBounds.{and-first, and-second}
+use Rattle.module_text.specs.declared.spots.Spot.{Spot}
+use Rattle.module_text.specs.declared.spots.Spot.TheVariants.{Elsewhere}
+use Rattle.module_text.specs.Told.{Bounds, Sizes, range_of, sizes_of}
+use Rattle.module_text.specs.Simple.{is_order_item}
+use Rattle.module_text.specs.Defaults.{digit_of, with_octet, octets_of, default_told}
+use Rattle.module_text.specs.Faults.{space_at, part_spot}
+use Rattle.module_text.specs.Meaning.{words_meant, int_meant, utf8_meant, list_meant, default_meant, standard_meant, component_meant, components_meant, item_meant, form_meant, type_meant, types_meant, assignment_meant, module_meant}
+use Rattle.module_text.specs.Printable.{IsPrintable}
+use Rattle.module_text.specs.ReadBack.{IsReadBack}
+use Rattle.module_text.proofs.PrintedBounds.{and-first, and-second}
 use Rattle.module_unique.specs.Alike.{HasOctets, AreOfOctets, AllAreOfOctets, IsOfOctets}
 use Rattle.module_unique.proofs.Unique.{prints_differ}
 

@@ -2,10 +2,10 @@
 use Rattle.std.proofs.Common.{◌≡◌, ◌≢◌, ℕ, zero, suc, ◌<◌, ◌≤◌, ◌+◌, ◌^◌, Bool, true, false, Option, Some, None, List, [], ◌∷◌, map, length, refl, sym, ap, subst, ◌∙◌, arith, option_map, ◌⊎◌, inl, inr}
 use Rattle.std.specs.Prelude.{ℤ, pos, All, unwrap_or, if◌then◌else◌}
 use Rattle.std.specs.Ordering.{int_eq}
-use Rattle.label_tree.specs.Rose.{Rose, node, Roses, none, more, length_all, height, depth_all}
+use Rattle.base_trees.specs.Rose.{Rose, node, Roses, none, more, length_all, height, depth_all}
 use Rattle.simple_types.specs.declared.standards.Standard.{Standard}
 use Rattle.simple_types.specs.declared.standards.Standard.TheVariants.{Free, Default, Fixed}
-use Rattle.simple_values.specs.Lexical.{is_128_bits}
+use Rattle.simple_types.specs.Lexical.{is_128_bits}
 use Rattle.asn_types.specs.declared.types.Component.{Component}
 use Rattle.asn_types.specs.declared.types.Form.{Form}
 use Rattle.asn_types.specs.declared.types.Form.TheVariants as form
@@ -22,9 +22,9 @@ use Rattle.module_text.specs.declared.values.Absence.TheVariants as absence
 use Rattle.module_text.specs.Names.{is_reference, is_identifier, is_type_word}
 use Rattle.module_text.specs.Texts as laid
 use Rattle.module_text.specs.Plain as plain
-use Rattle.module_faults.specs.declared.spots.Spot.{Spot}
-use Rattle.module_faults.specs.declared.spots.Spot.TheVariants.{Elsewhere}
-use Rattle.module_faults.specs.Printable.{HasPartMarks, HasNames, IsIdentifier, IsPresent, part_spot}
+use Rattle.module_text.specs.declared.spots.Spot.{Spot}
+use Rattle.module_text.specs.declared.spots.Spot.TheVariants.{Elsewhere}
+use Rattle.module_text.specs.Printable.{HasPartMarks, HasNames, IsIdentifier, IsPresent, part_spot}
 use Rattle.module_laws.proofs.Firsts.{got-at, all-at}
 use Rattle.module_unique.specs.Alike.{HasOctets}
 use Rattle.module_unique.proofs.Telling.{number_told, both_told, range_told, size_told, fixed_told, default_told, standard_told, name_at, numbered_told, component_told, components_told, only_told, form_told, type_told, types_told, assignment_told, module_told}

@@ -5,13 +5,13 @@ use Rattle.std.specs.List.{list_all, flat_map, join_with_byte}
 use Rattle.std.specs.Str.{is_utf8}
 use Rattle.std.proofs.lemmas.Bool.{true≢false}
 use Rattle.std.proofs.lemmas.Str.{IsUtf8-nil, IsUtf8-from_is_utf8}
-use Rattle.label_tree.specs.Rose.{Rose, node, Roses, none, more, label_of, list_of}
-use Rattle.xa_base.specs.Characters.{is_xml_char}
+use Rattle.base_trees.specs.Rose.{Rose, node, Roses, none, more, label_of, list_of}
+use Rattle.base_texts.specs.Characters.{is_xml_char}
 use Rattle.simple_types.specs.Space.{Space}
 use Rattle.simple_types.specs.declared.labels.ValueLabel.{ValueLabel}
-use Rattle.simple_values.specs.Reading.{reads}
-use Rattle.name_map.specs.ReservedWords.{reserved_words}
-use Rattle.name_map.specs.Restoring.{form_of}
+use Rattle.simple_types.specs.Reading.{reads}
+use Rattle.asn_names.specs.ReservedWords.{reserved_words}
+use Rattle.asn_names.specs.Restoring.{form_of}
 use Rattle.module_print.specs.Notation.{quoted}
 use Rattle.module_print.specs.Printed.{labelled, opening, closing}
 use Rattle.module_text.specs.declared.marks.NameAs.{NameAs}
@@ -38,17 +38,17 @@ use Rattle.module_text.specs.Ranks.{rank_of_part_mark, rank_of_type_mark}
 use Rattle.module_text.specs.Plain.{IsTypeMark, IsValue, AreValues, IsFixed, IsAbsence, IsBare, IsComponent, IsForm, IsType, AreTypes, IsAssignment, IsPlain}
 use Rattle.module_text.specs.Texts.{as_text, part_mark_text, type_mark_text, part_marks_text, type_marks_text, value_text, value_texts, all_of, fixed_text, absence_text, parts_of, level_of_parts, form_text, part_text, type_text, part_texts, assignment_text, text_of}
 use Rattle.module_text.proofs.Ascii.{identifier_utf8, reference_utf8}
-use Rattle.module_faults.specs.declared.reasons.ModuleWhy.TheVariants.{Duplicate, LongChain, Spelling}
-use Rattle.module_faults.specs.declared.reasons.Fault.{Fault}
-use Rattle.module_faults.specs.declared.spots.Spot.{Spot}
-use Rattle.module_faults.specs.declared.spots.Spot.TheVariants.{Elsewhere}
-use Rattle.module_faults.specs.Listed.{unless}
-use Rattle.module_faults.specs.Told.{is_form, is_told_so, is_xml_text, has_list}
-use Rattle.module_faults.specs.Resolving.{resolve, chains_end}
-use Rattle.module_faults.specs.Defaults.{both, alone, if_utf8, is_list_form, alternative_named, spelling_told, spellings_told, is_told, own_value, canonical_value}
-use Rattle.module_faults.specs.Marks.{part_mark_may, part_mark_stands, type_mark_may, stands_once, item_number, next_item}
-use Rattle.module_faults.specs.Faults.{part_mark_faults, type_mark_faults, form_faults, type_faults, part_faults, fixed_faults, is_fixed, is_default, value_at, absence_faults, space_at, part_spot, is_listed, is_bare, reference_faults, is_named_so, nameless_parts, has_text, assignment_faults, faults_from, faults}
-use Rattle.module_faults.proofs.PrintedBounds.{unless-none as so, front-none as front, behind-none as behind, and-first, and-second}
+use Rattle.module_text.specs.declared.reasons.ModuleWhy.TheVariants.{Duplicate, LongChain, Spelling}
+use Rattle.module_text.specs.declared.reasons.Fault.{Fault}
+use Rattle.module_text.specs.declared.spots.Spot.{Spot}
+use Rattle.module_text.specs.declared.spots.Spot.TheVariants.{Elsewhere}
+use Rattle.module_text.specs.Listed.{unless}
+use Rattle.module_text.specs.Told.{is_form, is_told_so, is_xml_text, has_list}
+use Rattle.module_text.specs.Resolving.{resolve, chains_end}
+use Rattle.module_text.specs.Defaults.{both, alone, if_utf8, is_list_form, alternative_named, spelling_told, spellings_told, is_told, own_value, canonical_value}
+use Rattle.module_text.specs.Marks.{part_mark_may, part_mark_stands, type_mark_may, stands_once, item_number, next_item}
+use Rattle.module_text.specs.Faults.{part_mark_faults, type_mark_faults, form_faults, type_faults, part_faults, fixed_faults, is_fixed, is_default, value_at, absence_faults, space_at, part_spot, is_listed, is_bare, reference_faults, is_named_so, nameless_parts, has_text, assignment_faults, faults_from, faults}
+use Rattle.module_text.proofs.PrintedBounds.{unless-none as so, front-none as front, behind-none as behind, and-first, and-second}
 use Rattle.module_unique.proofs.TextsUtf8.{constant, joined, three, four, AreUtf8, all_utf8, parts_utf8, quoted_utf8, bracketed_utf8, number_utf8, fixed_utf8, items_utf8, form_utf8}
 
 -- ---- names beside an identifier

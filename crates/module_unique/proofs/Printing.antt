@@ -5,16 +5,16 @@ use Rattle.std.specs.List.{flat_map, list_all}
 use Rattle.std.specs.Ordering.{int_eq}
 use Rattle.std.specs.Fmt.{signed_decimal}
 use Rattle.std.proofs.lemmas.Bool.{ltb-true}
-use Rattle.label_tree.specs.Rose.{Rose, node, Roses, none, more, label_of, kids_of, roses_of}
-use Rattle.xa_base.specs.declared.white_space.WhiteSpace.TheVariants.{Preserve, Replace, Collapse}
+use Rattle.base_trees.specs.Rose.{Rose, node, Roses, none, more, label_of, kids_of, roses_of}
+use Rattle.base_texts.specs.declared.white_space.WhiteSpace.TheVariants.{Preserve, Replace, Collapse}
 use Rattle.simple_types.specs.declared.labels.ValueLabel.{ValueLabel}
 use Rattle.simple_types.specs.declared.labels.ValueLabel.TheVariants as label
 use Rattle.simple_types.specs.declared.standards.Standard.{Standard}
 use Rattle.simple_types.specs.declared.standards.Standard.TheVariants.{Free, Default, Fixed}
-use Rattle.simple_values.specs.Reading.{reads, Reading, choice_at}
-use Rattle.name_map.specs.declared.restoration.NameForm.{NameForm}
-use Rattle.name_map.specs.declared.restoration.NameForm.TheVariants as name_form
-use Rattle.name_map.specs.Restoring.{form_of}
+use Rattle.simple_types.specs.Reading.{reads, Reading, choice_at}
+use Rattle.asn_names.specs.declared.restoration.NameForm.{NameForm}
+use Rattle.asn_names.specs.declared.restoration.NameForm.TheVariants as name_form
+use Rattle.asn_names.specs.Restoring.{form_of}
 use Rattle.asn_types.specs.declared.marks.Instruction.{Instruction}
 use Rattle.asn_types.specs.declared.marks.Instruction.TheVariants as mark
 use Rattle.asn_types.specs.declared.types.Component.{Component}
@@ -34,11 +34,11 @@ use Rattle.module_text.specs.declared.bounds.PlainEnds.TheVariants as ends
 use Rattle.module_text.specs.declared.values.Absence.TheVariants as absence
 use Rattle.module_text.specs.declared.types.PlainName.{PlainName}
 use Rattle.module_text.specs.Texts as laid
-use Rattle.module_faults.specs.declared.spots.Spot.{Spot}
-use Rattle.module_faults.specs.declared.spots.Spot.TheVariants.{Elsewhere}
-use Rattle.module_faults.specs.Printable.{comes_before, are_in_order, is_of_part, HasPartMarks, HasTypeMarks, MayBe, part_spot, ArePrintable, AllPrintable, IsPrintableAssignment, IsPrintable}
-use Rattle.module_faults.proofs.PrintedBounds.{and-first, and-second}
-use Rattle.module_faults.proofs.Ranking.{AreFrom, AreBelow, listed as ranked_so}
+use Rattle.module_text.specs.declared.spots.Spot.{Spot}
+use Rattle.module_text.specs.declared.spots.Spot.TheVariants.{Elsewhere}
+use Rattle.module_text.specs.Printable.{comes_before, are_in_order, is_of_part, HasPartMarks, HasTypeMarks, MayBe, part_spot, ArePrintable, AllPrintable, IsPrintableAssignment, IsPrintable}
+use Rattle.module_text.proofs.PrintedBounds.{and-first, and-second}
+use Rattle.module_text.proofs.Ranking.{AreFrom, AreBelow, listed as ranked_so}
 use Rattle.module_unique.proofs.Telling.{both_told, range_told, size_told, as_form, part_kind, part_marks_told, type_kind, type_marks_told, fixed_told, absence_told, standard_told, default_told, reading_told, value_told, part_told, truth_told, whole_told, item_told, text_told, chosen_told, name_at, numbered_told, component_told, components_told, only_told, form_told, form_value, number_told, type_told, types_told, assignment_told, module_told}
 
 -- ---- encoding instructions

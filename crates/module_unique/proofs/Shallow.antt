@@ -1,7 +1,7 @@
 -- Nothing that is told of a printable module is too deep.
 use Rattle.std.proofs.Common.{◌≡◌, ℕ, zero, suc, ◌≤◌, ◌+◌, Bool, true, false, List, [], ◌∷◌, ◌++◌, map, length, refl, sym, ap, ap₂, ◌∙◌, arith}
 use Rattle.std.specs.Prelude.{All, if◌then◌else◌}
-use Rattle.label_tree.specs.Rose.{Rose, node, Roses, none, more, length_all, height, depth_all}
+use Rattle.base_trees.specs.Rose.{Rose, node, Roses, none, more, length_all, height, depth_all}
 use Rattle.simple_types.specs.declared.standards.Standard.{Standard}
 use Rattle.simple_types.specs.declared.standards.Standard.TheVariants.{Free, Default, Fixed}
 use Rattle.asn_types.specs.declared.types.Component.{Component}
@@ -24,9 +24,9 @@ use Rattle.module_text.specs.declared.modules.PlainAssignment.{PlainAssignment}
 use Rattle.module_text.specs.Texts as laid
 use Rattle.module_text.specs.Plain.{limit}
 use Rattle.module_text.specs.Depth.{deep_values, deep_in_values, deep_default, deep_types, deep_in_parts, too_deep}
-use Rattle.module_faults.specs.declared.spots.Spot.{Spot}
-use Rattle.module_faults.specs.declared.spots.Spot.TheVariants.{Elsewhere}
-use Rattle.module_faults.specs.Printable.{part_spot}
+use Rattle.module_text.specs.declared.spots.Spot.{Spot}
+use Rattle.module_text.specs.declared.spots.Spot.TheVariants.{Elsewhere}
+use Rattle.module_text.specs.Printable.{part_spot}
 use Rattle.module_unique.proofs.Telling.{value_told, default_told, standard_told, absence_told, components_told, only_told, form_told, type_told, types_told, assignment_told, module_told}
 use Rattle.module_unique.proofs.Clearing.{clear_value, clear_values, clear_absence, clear_part, clear_form, clear_type, clear_types, clear_assignment}
 use Rattle.module_unique.proofs.Goods.{Good, AllGood, GoodBody, Sits, resolved, default_is}

@@ -6,22 +6,22 @@ use Rattle.std.specs.Ordering.{int_eq}
 use Rattle.std.proofs.lemmas.Bool.Decides.{Decides-int_eq}
 use Rattle.std.proofs.lemmas.List.Quantifiers.{position-Some}
 use Rattle.std.proofs.lemmas.Option.{slice_get-get_or}
-use Rattle.label_tree.specs.Rose.{Rose, node, label_of, roses_of}
-use Rattle.label_tree.specs.Rose as rose
-use Rattle.xa_base.specs.Characters.{is_xml_char}
-use Rattle.xa_base.specs.WhiteSpace.{words_of, treated}
-use Rattle.xa_base.specs.declared.white_space.WhiteSpace.TheVariants.{Collapse}
+use Rattle.base_trees.specs.Rose.{Rose, node, label_of, roses_of}
+use Rattle.base_trees.specs.Rose as rose
+use Rattle.base_texts.specs.Characters.{is_xml_char}
+use Rattle.base_texts.specs.WhiteSpace.{words_of, treated}
+use Rattle.base_texts.specs.declared.white_space.WhiteSpace.TheVariants.{Collapse}
 use Rattle.simple_types.specs.declared.simples.Class.{Class}
 use Rattle.simple_types.specs.declared.labels.ValueLabel.{ValueLabel}
 use Rattle.simple_types.specs.declared.labels.ValueLabel.TheVariants as label
 use Rattle.simple_types.specs.Space.{Space, Spaces, none, more, Booleans, Wholes, Numbers, Words, Characters, ListOf, UnionOf, count_members}
-use Rattle.simple_values.specs.Lexical.{boolean_of, whole_number, is_128_bits, is_at_most, in_class}
-use Rattle.simple_values.specs.Chains.{choice_of}
-use Rattle.simple_values.specs.Reading.{Bad, Taking, leaf, reads, taken_by, spelled_by, goes_on, settled, item_at, number_from, read_each, has_characters}
-use Rattle.simple_values.proofs.Again.{is_boolean, is_whole, is_item, is_read, is_list}
-use Rattle.simple_values.proofs.Readings.{turn_refused, turn_same, turn_further, reads-ListOf, reads-UnionOf, settled_from}
-use Rattle.simple_values.proofs.OwnSpellings.{which}
-use Rattle.module_faults.proofs.PrintedBounds.{and-first}
+use Rattle.simple_types.specs.Lexical.{boolean_of, whole_number, is_128_bits, is_at_most, in_class}
+use Rattle.simple_types.specs.Chains.{choice_of}
+use Rattle.simple_types.specs.Reading.{Bad, Taking, leaf, reads, taken_by, spelled_by, goes_on, settled, item_at, number_from, read_each, has_characters}
+use Rattle.simple_types.proofs.Again.{is_boolean, is_whole, is_item, is_read, is_list}
+use Rattle.simple_types.proofs.Readings.{turn_refused, turn_same, turn_further, reads-ListOf, reads-UnionOf, settled_from}
+use Rattle.simple_types.proofs.OwnSpellings.{which}
+use Rattle.module_text.proofs.PrintedBounds.{and-first}
 
 abbrev pub EachShaped : (Rose ValueLabel → Type 0) → List (Rose ValueLabel) → Type 0
 EachShaped P [] = Unit {0}

@@ -8,7 +8,7 @@ use Rattle.std.proofs.lemmas.Bool.Decides.{nat_tests}
 use Rattle.std.proofs.lemmas.Str.{IsUtf8-nil, IsUtf8-append, IsUtf8-from_ascii}
 use Rattle.simple_types.specs.declared.simples.Class.{Class}
 use Rattle.simple_types.specs.declared.simples.Class.TheVariants.{Any, Language, NmToken, Name, NcName}
-use Rattle.xa_base.specs.Digits.{is_numeral}
+use Rattle.base_texts.specs.Digits.{is_numeral}
 use Rattle.module_print.specs.Notation.{doubled, quoted, commented, class_range, listed, enumerated, indent, new_line, block}
 use Rattle.module_print.specs.Instructions.{bracketed}
 use Rattle.module_print.specs.Values.{items}
@@ -25,7 +25,7 @@ use Rattle.module_text.specs.Names.{is_number, is_hexadecimal_digit, are_octets}
 use Rattle.module_text.specs.Plain.{AreEnds, IsRange, IsSize, IsFixed, IsNumbered, IsName, IsForm}
 use Rattle.module_text.specs.Texts.{ends_text, range_text, number_range_text, size_text, all_of, fixed_text, item_text, form_text}
 use Rattle.module_text.proofs.Ascii.{identifier_utf8, reference_utf8}
-use Rattle.module_faults.proofs.PrintedBounds.{and-first, and-second}
+use Rattle.module_text.proofs.PrintedBounds.{and-first, and-second}
 use Rattle.module_unique.proofs.XmlSpelling.{no_ascii, more_ascii, numeral_plain, utf8_before, utf8_behind}
 
 -- ---- ASCII

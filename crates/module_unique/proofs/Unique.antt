@@ -2,14 +2,14 @@
 use Rattle.std.proofs.Common.{◌≡◌, List, map, refl, sym, ap, ◌∙◌}
 use Rattle.asn_types.specs.declared.modules.Assignment.{Assignment}
 use Rattle.module_print.specs.Printed.{printed}
-use Rattle.plain_text.specs.Verdicts.{Read}
+use Rattle.module_grammar.specs.Verdicts.{Read}
 use Rattle.module_text.specs.declared.modules.PlainAssignment.{PlainAssignment}
 use Rattle.module_text.specs.Depth.{too_deep}
 use Rattle.module_text.specs.Grammar.{IsTextOf}
 use Rattle.module_text.specs.Places.{placed}
 use Rattle.module_text.specs.Plain.{limit}
 use Rattle.module_text.proofs.Placing.{text_of-placed}
-use Rattle.module_faults.specs.Printable.{IsPrintable}
+use Rattle.module_text.specs.Printable.{IsPrintable}
 use Rattle.module_grammar.specs.ModulesRead.{module_verdict}
 use Rattle.module_grammar.specs.TextsRead.{AllTextsRead}
 use Rattle.module_grammar.proofs.PlacedAgain.{placed_here}

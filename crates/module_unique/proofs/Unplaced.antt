@@ -3,12 +3,12 @@ use Rattle.std.proofs.Common.{◌≡◌, ℕ, zero, suc, Bool, true, false, Opti
 use Rattle.std.specs.Prelude.{ℤ, pos, Ok, Err, if◌then◌else◌}
 use Rattle.std.specs.Ordering.{int_eq}
 use Rattle.std.specs.Option.{option_map}
-use Rattle.label_tree.specs.Rose.{Rose, node, Roses, none, more, label_of, kids_of, roses_of}
+use Rattle.base_trees.specs.Rose.{Rose, node, Roses, none, more, label_of, kids_of, roses_of}
 use Rattle.simple_types.specs.declared.labels.ValueLabel.{ValueLabel}
 use Rattle.simple_types.specs.declared.labels.ValueLabel.TheVariants as label
 use Rattle.simple_types.specs.declared.standards.Standard.{Standard}
 use Rattle.simple_types.specs.declared.standards.Standard.TheVariants.{Free, Default, Fixed}
-use Rattle.simple_values.specs.Reading.{reads, Reading, choice_at}
+use Rattle.simple_types.specs.Reading.{reads, Reading, choice_at}
 use Rattle.asn_types.specs.declared.marks.Instruction.{Instruction}
 use Rattle.asn_types.specs.declared.types.Component.{Component}
 use Rattle.asn_types.specs.declared.types.Form.{Form}

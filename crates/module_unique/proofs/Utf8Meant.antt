@@ -5,7 +5,7 @@ use Rattle.std.specs.List.{list_all}
 use Rattle.std.specs.Str.{is_utf8}
 use Rattle.std.proofs.lemmas.List.Elements.{All-nil, All-cons}
 use Rattle.std.proofs.lemmas.Str.{IsUtf8-from_is_utf8}
-use Rattle.label_tree.specs.Rose.{Rose, node, Roses, none, more, length_all}
+use Rattle.base_trees.specs.Rose.{Rose, node, Roses, none, more, length_all}
 use Rattle.simple_types.specs.declared.simples.Class.{Class}
 use Rattle.asn_types.specs.declared.types.Component.{Component}
 use Rattle.asn_types.specs.declared.modules.Assignment.{Assignment}
@@ -27,18 +27,18 @@ use Rattle.module_text.specs.declared.types.PlainLabel.{PlainLabel}
 use Rattle.module_text.specs.declared.modules.PlainAssignment.{PlainAssignment}
 use Rattle.module_text.specs.Plain.{IsPlain}
 use Rattle.module_text.specs.Texts.{parts_of, text_of}
-use Rattle.module_faults.specs.declared.spots.Spot.{Spot}
-use Rattle.module_faults.specs.declared.spots.Spot.TheVariants.{Elsewhere}
-use Rattle.module_faults.specs.Told.{Bounds, Sizes, range_of, sizes_of, words_of}
-use Rattle.module_faults.specs.Simple.{is_order_item}
-use Rattle.module_faults.specs.Resolving.{resolve}
-use Rattle.module_faults.specs.Defaults.{octets_of}
-use Rattle.module_faults.specs.Marks.{next_item}
-use Rattle.module_faults.specs.Faults.{part_spot, faults}
-use Rattle.module_faults.specs.Meaning.{part_mark_meant, part_marks_meant, type_mark_meant, type_marks_meant, words_meant, int_meant, utf8_meant, list_meant, component_meant, components_meant, item_meant, form_meant, type_meant, types_meant, assignment_meant, module_meant}
-use Rattle.module_make.specs.Ready.{IsPartMarkReady, ArePartMarksReady, IsTypeMarkReady, AreTypeMarksReady, HasWords, IsText, spelling_of, standard_told, IsStandardReady, IsPartReady, IsTypeReady, ArePartsReady, IsAssignmentReady, IsReady}
-use Rattle.module_make.proofs.Readiness.{ready}
-use Rattle.module_faults.proofs.PrintedBounds.{and-first, and-second}
+use Rattle.module_text.specs.declared.spots.Spot.{Spot}
+use Rattle.module_text.specs.declared.spots.Spot.TheVariants.{Elsewhere}
+use Rattle.module_text.specs.Told.{Bounds, Sizes, range_of, sizes_of, words_of}
+use Rattle.module_text.specs.Simple.{is_order_item}
+use Rattle.module_text.specs.Resolving.{resolve}
+use Rattle.module_text.specs.Defaults.{octets_of}
+use Rattle.module_text.specs.Marks.{next_item}
+use Rattle.module_text.specs.Faults.{part_spot, faults}
+use Rattle.module_text.specs.Meaning.{part_mark_meant, part_marks_meant, type_mark_meant, type_marks_meant, words_meant, int_meant, utf8_meant, list_meant, component_meant, components_meant, item_meant, form_meant, type_meant, types_meant, assignment_meant, module_meant}
+use Rattle.module_read.specs.Ready.{IsPartMarkReady, ArePartMarksReady, IsTypeMarkReady, AreTypeMarksReady, HasWords, IsText, spelling_of, standard_told, IsStandardReady, IsPartReady, IsTypeReady, ArePartsReady, IsAssignmentReady, IsReady}
+use Rattle.module_read.proofs.Readiness.{ready}
+use Rattle.module_text.proofs.PrintedBounds.{and-first, and-second}
 use Rattle.module_unique.specs.Utf8Texts.{MarkIsUtf8, WordsAreUtf8, StandardIsUtf8, PartIsUtf8, TypeIsUtf8, TypesAreUtf8, HasTexts}
 
 -- ---- encoding instructions

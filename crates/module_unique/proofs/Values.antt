@@ -3,14 +3,14 @@ use Rattle.std.proofs.Common.{◌≡◌, ℕ, zero, suc, ◌≤◌, Bool, true, 
 use Rattle.std.specs.Prelude.{ℤ, bytes_eq, slice_get, unwrap_or, filter, option_and_then, if◌then◌else◌}
 use Rattle.std.specs.List.{IsDistinct, join_with_byte}
 use Rattle.std.specs.Fmt.{signed_decimal}
-use Rattle.label_tree.specs.Rose.{Rose, node, Roses, list_of, roses_of, label_of, kids_of, length_all, height, depth_all}
-use Rattle.label_tree.specs.Rose as rose
-use Rattle.label_tree.proofs.Roses.{list_of-roses_of, length-list_of}
+use Rattle.base_trees.specs.Rose.{Rose, node, Roses, list_of, roses_of, label_of, kids_of, length_all, height, depth_all}
+use Rattle.base_trees.specs.Rose as rose
+use Rattle.base_trees.proofs.Roses.{list_of-roses_of, length-list_of}
 use Rattle.simple_types.specs.declared.labels.ValueLabel.{ValueLabel}
 use Rattle.simple_types.specs.declared.labels.ValueLabel.TheVariants as label
 use Rattle.simple_types.specs.Space.{Space, Spaces, none, more, Booleans, Wholes, Numbers, Words, Characters, ListOf, UnionOf}
-use Rattle.simple_values.specs.Lexical.{is_128_bits, boolean_text}
-use Rattle.simple_values.specs.Reading.{leaf, spelled, spelled_by, spelled_if}
+use Rattle.simple_types.specs.Lexical.{is_128_bits, boolean_text}
+use Rattle.simple_types.specs.Reading.{leaf, spelled, spelled_by, spelled_if}
 use Rattle.asn_types.specs.declared.marks.Instruction.{Instruction}
 use Rattle.asn_types.specs.declared.types.Component.{Component}
 use Rattle.asn_types.specs.declared.types.Form.{Form}
@@ -29,9 +29,9 @@ use Rattle.module_text.specs.declared.types.PlainPart.{PlainPart}
 use Rattle.module_text.specs.declared.types.PlainLabel.{PlainLabel}
 use Rattle.module_text.specs.Names.{is_identifier}
 use Rattle.module_text.specs.Plain.{IsValue, AreValues}
-use Rattle.module_faults.specs.Told.{words_of}
-use Rattle.module_faults.specs.Defaults as defaults
-use Rattle.module_faults.specs.Printable.{HasNames, IsIdentifier, is_text, texts_due}
+use Rattle.module_text.specs.Told.{words_of}
+use Rattle.module_text.specs.Defaults as defaults
+use Rattle.module_text.specs.Printable.{HasNames, IsIdentifier, is_text, texts_due}
 use Rattle.module_laws.proofs.Firsts.{bytes-self, got-within, got-at, got-mapped, index-is, all-at, only-at}
 use Rattle.module_unique.proofs.Telling.{type_marks_told, name_at, numbered_told, components_told, form_told, form_value, part_told, value_told, type_told, types_told}
 use Rattle.module_unique.proofs.Digits.{number_is, number_named, numbers_same}

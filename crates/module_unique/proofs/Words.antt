@@ -2,7 +2,7 @@
 use Rattle.std.proofs.Common.{◌≡◌, ℕ, zero, suc, ◌+◌, Bool, true, false, not, Some, None, List, [], ◌∷◌, map, length, refl, sym, ap, ap₂, subst, ◌∙◌, arith, option_map, position}
 use Rattle.std.specs.Prelude.{All, bytes_eq, slice_get, unwrap_or, filter, if◌then◌else◌}
 use Rattle.std.specs.List.{filter_map, AllByRecursion, IsDistinct}
-use Rattle.xa_base.specs.declared.white_space.WhiteSpace.TheVariants.{Preserve, Replace, Collapse}
+use Rattle.base_texts.specs.declared.white_space.WhiteSpace.TheVariants.{Preserve, Replace, Collapse}
 use Rattle.asn_types.specs.declared.marks.Instruction.{Instruction}
 use Rattle.asn_types.specs.declared.marks.Instruction.TheVariants as mark
 use Rattle.asn_types.specs.declared.types.Form.{Form}
@@ -15,13 +15,13 @@ use Rattle.module_text.specs.declared.types.PlainName.{PlainName}
 use Rattle.module_text.specs.declared.types.PlainForm.{PlainForm}
 use Rattle.module_text.specs.declared.types.PlainForm.TheVariants as plain
 use Rattle.module_text.specs.Plain.{IsTypeMark}
-use Rattle.module_faults.specs.declared.spots.Spot.{Spot}
-use Rattle.module_faults.specs.Told.{Said, said, told_name, words_said, words_of}
-use Rattle.module_faults.specs.Simple.{is_order_item}
-use Rattle.module_faults.specs.Marks.{item_number}
-use Rattle.module_faults.specs.Meaning.{type_mark_meant, type_marks_meant}
-use Rattle.module_faults.specs.Printable.{is_of_part, is_text, text_marks, texts_due, MayBe, IsIdentifier}
-use Rattle.module_faults.proofs.PrintedBounds.{and-first, and-second}
+use Rattle.module_text.specs.declared.spots.Spot.{Spot}
+use Rattle.module_text.specs.Told.{Said, said, told_name, words_said, words_of}
+use Rattle.module_text.specs.Simple.{is_order_item}
+use Rattle.module_text.specs.Marks.{item_number}
+use Rattle.module_text.specs.Meaning.{type_mark_meant, type_marks_meant}
+use Rattle.module_text.specs.Printable.{is_of_part, is_text, text_marks, texts_due, MayBe, IsIdentifier}
+use Rattle.module_text.proofs.PrintedBounds.{and-first, and-second}
 use Rattle.module_laws.proofs.Firsts.{bytes-self, bytes-turned, same_bytes, all-at, only-at}
 use Rattle.module_unique.proofs.Telling.{name_told, type_kind, type_marks_told, name_at}
 use Rattle.module_unique.proofs.Marked.{name_back, of_types}

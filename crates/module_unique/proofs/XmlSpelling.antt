@@ -7,17 +7,17 @@ use Rattle.std.specs.Fmt.{decimal, signed_decimal}
 use Rattle.std.proofs.lemmas.Bool.{true≢false, ltb-true}
 use Rattle.std.proofs.lemmas.Bool.Decides.{nat_tests}
 use Rattle.std.proofs.lemmas.Str.{IsUtf8-from_ascii, IsUtf8-take, IsUtf8-drop, IsCharBoundary-before_ascii, IsCharBoundary-after_ascii, chars-nil, chars-append, chars-IsAscii}
-use Rattle.label_tree.specs.Rose.{Rose}
-use Rattle.label_tree.proofs.Roses.{list_of-roses_of}
-use Rattle.xa_base.specs.Characters.{is_xml_char}
-use Rattle.xa_base.specs.Digits.{is_digit, is_numeral}
+use Rattle.base_trees.specs.Rose.{Rose}
+use Rattle.base_trees.proofs.Roses.{list_of-roses_of}
+use Rattle.base_texts.specs.Characters.{is_xml_char}
+use Rattle.base_texts.specs.Digits.{is_digit, is_numeral}
 use Rattle.simple_types.specs.Sound.{Sound, AreSound, AreWords}
 use Rattle.simple_types.specs.declared.labels.ValueLabel.{ValueLabel}
 use Rattle.simple_types.specs.Space.{Space, Spaces, none, more, Booleans, Wholes, Numbers, Words, Characters, ListOf, UnionOf}
-use Rattle.simple_values.specs.Lexical.{is_128_bits, boolean_text}
-use Rattle.simple_values.specs.Reading.{spelled, spelled_by, spelled_if}
-use Rattle.simple_values.proofs.Decimals.{short}
-use Rattle.module_faults.proofs.PrintedBounds.{and-first, and-second}
+use Rattle.simple_types.specs.Lexical.{is_128_bits, boolean_text}
+use Rattle.simple_types.specs.Reading.{spelled, spelled_by, spelled_if}
+use Rattle.simple_types.proofs.Decimals.{short}
+use Rattle.module_text.proofs.PrintedBounds.{and-first, and-second}
 use Rattle.module_laws.proofs.Firsts.{index-is}
 use Rattle.module_unique.proofs.Digits.{numeral}
 use Rattle.module_unique.proofs.Shapes.{EachShaped, Shaped, ShapedBy}

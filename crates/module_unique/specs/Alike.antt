@@ -1,6 +1,6 @@
 -- Printable modules that print alike are one.
 use Rattle.std.specs.Prelude.{◌≡◌, ◌<◌, List, All}
-use Rattle.label_tree.specs.Rose.{Rose, node, Roses, none, more}
+use Rattle.base_trees.specs.Rose.{Rose, node, Roses, none, more}
 use Rattle.simple_types.specs.declared.standards.Standard.{Standard}
 use Rattle.simple_types.specs.declared.standards.Standard.TheVariants.{Free, Default, Fixed}
 use Rattle.asn_types.specs.declared.types.Component.{Component}
@@ -8,7 +8,7 @@ use Rattle.asn_types.specs.declared.types.TypeLabel.{TypeLabel}
 use Rattle.asn_types.specs.declared.modules.Assignment.{Assignment}
 use Rattle.asn_types.specs.Parts.{parts_of}
 use Rattle.module_print.specs.Printed.{printed}
-use Rattle.module_faults.specs.Printable.{IsPrintable}
+use Rattle.module_text.specs.Printable.{IsPrintable}
 
 -- A fixed value has octets, as each text has; two hexadecimal digits tell one.
 abbrev pub HasOctets : Standard → Type 0

@@ -4,9 +4,9 @@ use Rattle.asn_types.specs.declared.modules.Assignment.{Assignment}
 use Rattle.module_print.specs.Printed.{printed}
 use Rattle.module_text.specs.declared.modules.PlainAssignment.{PlainAssignment}
 use Rattle.module_text.specs.Grammar.{IsTextOf}
-use Rattle.module_faults.specs.Faults.{faults}
-use Rattle.module_faults.specs.Meaning.{module_meant}
-use Rattle.module_faults.specs.Printable.{IsPrintable}
+use Rattle.module_text.specs.Faults.{faults}
+use Rattle.module_text.specs.Meaning.{module_meant}
+use Rattle.module_text.specs.Printable.{IsPrintable}
 use Rattle.module_unique.specs.Utf8Texts.{HasTexts}
 
 -- What the print tells has no fault. It means the module, where its bytes are as many as a number of 32 bits counts.

@@ -1,9 +1,9 @@
 -- Which bytes are read to a module: exactly the prints of printable modules whose texts are UTF-8.
 use Rattle.std.specs.Prelude.{◌≡◌, ℕ, ◌<◌, ◌^◌, ◌↔◌, Result, List, length, IfOk, MatchResult}
 use Rattle.asn_types.specs.declared.modules.Assignment.{Assignment}
-use Rattle.module_faults.specs.declared.reasons.ModuleError.{ModuleError}
-use Rattle.module_faults.specs.declared.reasons.ModuleError.TheVariants.{Memory}
-use Rattle.module_faults.specs.ReadBack.{IsReadBack, Answers}
+use Rattle.module_text.specs.declared.reasons.ModuleError.{ModuleError}
+use Rattle.module_text.specs.declared.reasons.ModuleError.TheVariants.{Memory}
+use Rattle.module_text.specs.ReadBack.{IsReadBack, Answers}
 use Rattle.module_read.specs.Tells.{Tells}
 use Rattle.module_unique.specs.Utf8Texts.{HasTexts}
 

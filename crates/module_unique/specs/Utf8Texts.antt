@@ -1,7 +1,7 @@
 -- Modules whose texts are UTF-8: names, namespaces and words in encoding instructions, words, default and fixed values. The
 -- references and identifiers of a printable module are ASCII.
 use Rattle.std.specs.Prelude.{List, All, IsUtf8}
-use Rattle.label_tree.specs.Rose.{Rose, node, Roses, none, more}
+use Rattle.base_trees.specs.Rose.{Rose, node, Roses, none, more}
 use Rattle.simple_types.specs.declared.standards.Standard.{Standard}
 use Rattle.simple_types.specs.declared.standards.Standard.TheVariants.{Free, Default, Fixed}
 use Rattle.asn_types.specs.declared.marks.Instruction.{Instruction}

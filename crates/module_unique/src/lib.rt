@@ -1,6 +1,6 @@
-//! No two printable modules print alike, and the print of each is read back.
+//! Proves that no two printable modules print alike, and that each print is read back.
 //!
-//! Read first: the laws, `specs/Alike` and `specs/Faultless`, then `proofs/Telling` (what the print of a module tells).
+//! Read first: the laws, `specs/Alike` and `specs/Faultless`, then `proofs/Telling` (what the print of a module determines).
 #![tactic(auto)]
 
 mod laws;

@@ -2,7 +2,7 @@
 use Rattle.std.proofs.Common.{◌≡◌, ℕ, ◌+◌, ◌*◌, ◌<◌, ◌≤◌, Bool, true, false, not, ltb, List, length, refl, sym, ap, ◌∙◌, subst, arith, Option, None, Result, Ok, Err, inl, inr, ◌⊎◌}
 use Rattle.std.specs.Prelude.{IfOk, IfErr}
 use Rattle.std.proofs.lemmas.Bool.{lt-ltb, le-ltb, lt-leb, le-leb}
-use Rattle.label_tree.specs.Rose.{Rose, label_of, kids_of, node, none}
+use Rattle.base_trees.specs.Rose.{Rose, label_of, kids_of, node, none}
 use Rattle.simple_types.specs.declared.labels.ValueLabel.{ValueLabel}
 use Rattle.simple_types.specs.declared.labels.ValueLabel.TheVariants as value
 use Rattle.asn_types.specs.declared.modules.Assignment.{Assignment}
@@ -12,7 +12,7 @@ use Rattle.asn_types.specs.Modules.{AreWellFormed}
 use Rattle.asn_types.specs.Refs.{resolve, IsOf}
 use Rattle.asn_values.specs.Values.{Own}
 use Rattle.asn_types.proofs.Chaining.{well-formed, resolved-of-module}
-use Rattle.codecs.specs.declared.spots.Spot.{Spot}
+use Rattle.base_codecs.specs.declared.spots.Spot.{Spot}
 use Rattle.per_fields.specs.declared.stops.Stop.{Stop}
 use Rattle.per_fields.specs.declared.stops.Why.TheVariants as why
 use Rattle.per_fields.specs.Reading.{◌>>=◌, stop_at, stop_if, octets_at}

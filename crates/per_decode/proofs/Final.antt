@@ -5,16 +5,16 @@ use Rattle.std.specs.Option.{option_map}
 use Rattle.std.proofs.lemmas.List.{length-take}
 use Rattle.std.proofs.Math.Seq.{take-add}
 use Rattle.std.proofs.lemmas.Bool.{le-leb, lt-leb}
-use Rattle.bit_cursor.specs.Bits.{octet_bits}
-use Rattle.bit_cursor.proofs.BitLemmas.{length-octet_bits, octet_bits-append}
-use Rattle.label_tree.specs.Rose.{Rose, node_count}
+use Rattle.base_codecs.specs.Bits.{octet_bits}
+use Rattle.base_codecs.proofs.BitLemmas.{length-octet_bits, octet_bits-append}
+use Rattle.base_trees.specs.Rose.{Rose, node_count}
 use Rattle.simple_types.specs.declared.labels.ValueLabel.{ValueLabel}
 use Rattle.asn_types.specs.declared.modules.Assignment.{Assignment}
 use Rattle.asn_types.specs.Refs.{body_at}
 use Rattle.asn_values.specs.Values.{FitsAt, In}
 use Rattle.asn_types.proofs.Inside.{body-well_formed}
-use Rattle.codecs.specs.declared.spots.Spot.{Spot}
-use Rattle.codecs.proofs.Codecs.{bind_ok, ok_is}
+use Rattle.base_codecs.specs.declared.spots.Spot.{Spot}
+use Rattle.base_codecs.proofs.Codecs.{bind_ok, ok_is}
 use Rattle.per_fields.specs.declared.stops.Stop.{Stop}
 use Rattle.per_fields.specs.declared.stops.Why.{Why}
 use Rattle.per_fields.specs.declared.stops.Why.TheVariants as why
@@ -27,8 +27,8 @@ use Rattle.per_fields.specs.Laws.{BeginsBy, reading_by}
 use Rattle.per_fields.proofs.Levels.{body-tall}
 use Rattle.per_fields.proofs.Recursion.{body-bounded, node_codec}
 use Rattle.per_fields.proofs.Law.{takes-last, not_both, one_value, whole_octets}
-use Rattle.per_stops.specs.Stopping.{StopsFirstBy}
-use Rattle.per_stops.proofs.Law.{stops_as_read}
+use Rattle.per_fields.specs.Stopping.{StopsFirstBy}
+use Rattle.per_fields.proofs.StopLaw.{stops_as_read}
 use Rattle.per_decode.specs.declared.errors.DecodeError.{DecodeError}
 use Rattle.per_decode.specs.declared.errors.DecodeError.TheVariants as error
 use Rattle.per_fields.specs.Stops.{is_short}

@@ -3,12 +3,12 @@ use Rattle.std.proofs.Common.{◌≡◌, ℕ, suc, ◌+◌, ◌<◌, ◌≤◌, 
 use Rattle.std.specs.Prelude.{slice_get, replicate, ℤ, ◌&&◌, IfOk}
 use Rattle.std.proofs.lemmas.Bool.{lt-ltb, le-leb}
 use Rattle.std.proofs.lemmas.List.Sums.{sum_by-cons}
-use Rattle.label_tree.specs.Rose.{Rose, node, Roses, none, more, list_of, roses_of, label_of, kids_of, length_all, node_count, count_all, Allowed, AllowedAll}
+use Rattle.base_trees.specs.Rose.{Rose, node, Roses, none, more, list_of, roses_of, label_of, kids_of, length_all, node_count, count_all, Allowed, AllowedAll}
 use Rattle.simple_types.specs.declared.labels.ValueLabel.{ValueLabel}
 use Rattle.simple_types.specs.declared.labels.ValueLabel.TheVariants as value
 use Rattle.simple_types.specs.declared.standards.Standard.TheVariants.{Free}
 use Rattle.simple_types.specs.Labels.{MayHave, count_set, flag_count}
-use Rattle.simple_values.specs.Lexical.{is_128_bits, is_from, is_to, is_at_most}
+use Rattle.simple_types.specs.Lexical.{is_128_bits, is_from, is_to, is_at_most}
 use Rattle.asn_types.specs.declared.modules.Assignment.{Assignment}
 use Rattle.asn_types.specs.declared.types.Component.{Component}
 use Rattle.asn_types.specs.declared.types.Form.{Form}

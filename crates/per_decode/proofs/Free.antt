@@ -1,6 +1,6 @@
 -- Parts without a default or fixed value: those of a CHOICE and of a SEQUENCE OF in a module.
 use Rattle.std.proofs.Common.{◌≡◌, ℕ, List, refl, ap, Bool, not, Result, Ok, Err}
-use Rattle.label_tree.specs.Rose.{Rose}
+use Rattle.base_trees.specs.Rose.{Rose}
 use Rattle.simple_types.specs.declared.labels.ValueLabel.{ValueLabel}
 use Rattle.simple_types.specs.declared.standards.Standard.TheVariants.{Free}
 use Rattle.asn_types.specs.declared.modules.Assignment.{Assignment}
@@ -8,7 +8,7 @@ use Rattle.asn_types.specs.declared.types.Component.{Component}
 use Rattle.asn_types.specs.declared.types.TypeLabel.{TypeLabel}
 use Rattle.asn_values.specs.Values.{Kept}
 use Rattle.asn_values.proofs.Standards.{free-kept}
-use Rattle.codecs.specs.declared.spots.Spot.{Spot}
+use Rattle.base_codecs.specs.declared.spots.Spot.{Spot}
 use Rattle.per_fields.specs.declared.stops.Stop.{Stop}
 use Rattle.per_fields.specs.Reading.{◌>>=◌, stop_at, stop_if}
 use Rattle.per_fields.specs.Nodes.{unkept_why, kept_at, node_read}

@@ -1,9 +1,9 @@
 -- What a fault inside a field says of reading it.
 use Rattle.std.proofs.Common.{◌≡◌, ℕ, ◌+◌, ◌*◌, ◌<◌, ◌≤◌, List, length, sym, ap, ◌∙◌, subst, Result, Err, inl, inr}
 use Rattle.std.specs.Prelude.{◌⊎◌}
-use Rattle.bit_cursor.specs.declared.fetch.CursorError.{CursorError}
-use Rattle.bit_cursor.specs.declared.fetch.CursorError.TheVariants as cursor
-use Rattle.codecs.specs.declared.spots.Spot.{Spot}
+use Rattle.base_codecs.specs.declared.fetch.CursorError.{CursorError}
+use Rattle.base_codecs.specs.declared.fetch.CursorError.TheVariants as cursor
+use Rattle.base_codecs.specs.declared.spots.Spot.{Spot}
 use Rattle.per_fields.specs.declared.stops.Stop.{Stop}
 use Rattle.per_fields.specs.declared.stops.Why.TheVariants as why
 use Rattle.per_fields.specs.Reading.{stop_at}

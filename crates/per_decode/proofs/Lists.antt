@@ -2,14 +2,14 @@
 use Rattle.std.proofs.Common.{◌≡◌, ℕ, ◌+◌, ◌-◌, ◌*◌, ◌<◌, ◌≤◌, Bool, true, false, List, [], ◌++◌, length, refl, sym, ap, ◌∙◌, subst, arith, Option, Some, None, Result, Ok, Err}
 use Rattle.std.specs.Prelude.{replicate}
 use Rattle.std.proofs.lemmas.Bool.{lt-ltb, le-ltb}
-use Rattle.label_tree.specs.Rose.{Rose, node, roses_of}
+use Rattle.base_trees.specs.Rose.{Rose, node, roses_of}
 use Rattle.simple_types.specs.declared.labels.ValueLabel.{ValueLabel}
 use Rattle.simple_types.specs.declared.labels.ValueLabel.TheVariants as value
 use Rattle.simple_types.specs.declared.standards.Standard.TheVariants.{Free}
 use Rattle.asn_types.specs.declared.modules.Assignment.{Assignment}
 use Rattle.asn_types.specs.declared.types.TypeLabel.{TypeLabel}
 use Rattle.asn_values.specs.Values.{ComponentPlace, below}
-use Rattle.codecs.specs.declared.spots.Spot.{Spot}
+use Rattle.base_codecs.specs.declared.spots.Spot.{Spot}
 use Rattle.per_fields.specs.declared.stops.Stop.{Stop}
 use Rattle.per_fields.specs.Reading.{◌>>=◌}
 use Rattle.per_fields.specs.Fields.{number_at, sized_at, counted_at, list_at}

@@ -1,11 +1,11 @@
 -- The value that was read behind others.
 use Rattle.std.proofs.Common.{◌≡◌, ℕ, ◌+◌, ◌*◌, ◌≤◌, arith, false, List, [], ◌∷◌, ◌++◌, refl, sym, ap, ◌∙◌, subst, Result, Ok, Err}
 use Rattle.std.specs.Prelude.{IfOk, IfErr}
-use Rattle.label_tree.specs.Rose.{Rose, node, none, roses_of}
-use Rattle.flat_tree.specs.Zips.{Zip, opened, added, closed, closed_in, relabeled, relabeled_in}
+use Rattle.base_trees.specs.Rose.{Rose, node, none, roses_of}
+use Rattle.base_flat_trees.specs.Zips.{Zip, opened, added, closed, closed_in, relabeled, relabeled_in}
 use Rattle.simple_types.specs.declared.labels.ValueLabel.{ValueLabel}
 use Rattle.simple_types.specs.declared.labels.ValueLabel.TheVariants as value
-use Rattle.codecs.specs.declared.spots.Spot.{Spot}
+use Rattle.base_codecs.specs.declared.spots.Spot.{Spot}
 use Rattle.per_fields.specs.declared.stops.Stop.{Stop}
 use Rattle.per_decode.specs.declared.faults.Fault.{Fault}
 use Rattle.per_decode.specs.declared.faults.Fault.TheVariants as fault

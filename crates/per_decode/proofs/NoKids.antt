@@ -1,7 +1,7 @@
 -- Nodes without kids, for which it makes no difference how many elements stand in one another down to them.
 use Rattle.std.proofs.Common.{◌≡◌, ℕ, suc, ◌<◌, ◌≤◌, Bool, true, false, cond, ltb, List, [], refl, sym, ap, ◌∙◌, subst, arith, Option, Some, None, inl, inr, ◌⊎◌}
 use Rattle.std.specs.Prelude.{slice_get, IfSome}
-use Rattle.label_tree.specs.Rose.{Rose, node, Roses, none, more, label_of, kids_of, length_all}
+use Rattle.base_trees.specs.Rose.{Rose, node, Roses, none, more, label_of, kids_of, length_all}
 use Rattle.simple_types.specs.declared.labels.ValueLabel.{ValueLabel}
 use Rattle.simple_types.specs.declared.labels.ValueLabel.TheVariants as value
 use Rattle.asn_types.specs.declared.modules.Assignment.{Assignment}
@@ -16,7 +16,7 @@ use Rattle.asn_types.specs.Refs.{resolve, IsOf}
 use Rattle.asn_types.specs.Roles.{role_of}
 use Rattle.asn_values.specs.Values.{ComponentPlace, none_if, places_in, places, below, FitsAt, FitEach}
 use Rattle.asn_values.specs.Private.Placing.{FitPlaces}
-use Rattle.codecs.specs.declared.spots.Spot.{Spot}
+use Rattle.base_codecs.specs.declared.spots.Spot.{Spot}
 use Rattle.per_fields.specs.Levels.{levels_needed}
 use Rattle.per_fields.specs.Reading.{◌>>=◌, moved}
 use Rattle.per_fields.specs.Nodes.{content_at, enter_by, owned_at, kept_at, node_read}

@@ -5,11 +5,11 @@ use Rattle.std.proofs.lemmas.List.{length-take-le, drop_at, drop-drop}
 use Rattle.std.proofs.Math.Seq.{take-add}
 use Rattle.std.specs.Prelude.{OnOk, OnErr}
 use Rattle.std.specs.Io.KnownBytes.{IsAtEnd}
-use Rattle.bit_cursor.specs.Bits.{bits, octet_bits}
-use Rattle.bit_cursor.specs.Cursors.{IsInStep, LosesFirst, ahead}
-use Rattle.bit_cursor.proofs.BitLemmas.{length-octet_bits, octet_bits-append}
-use Rattle.codecs.specs.declared.spots.Spot.{Spot}
-use Rattle.codecs.proofs.Lists.{weighs_nothing}
+use Rattle.base_codecs.specs.Bits.{bits, octet_bits}
+use Rattle.base_codecs.specs.Cursors.{IsInStep, LosesFirst, ahead}
+use Rattle.base_codecs.proofs.BitLemmas.{length-octet_bits, octet_bits-append}
+use Rattle.base_codecs.specs.declared.spots.Spot.{Spot}
+use Rattle.base_codecs.proofs.Lists.{weighs_nothing}
 use Rattle.per_fields.specs.declared.stops.Why.TheVariants.{Short}
 use Rattle.per_fields.specs.Codec.{AllOf, Stands}
 use Rattle.per_fields.specs.Encoding.{octet_writer}

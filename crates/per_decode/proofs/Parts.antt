@@ -2,7 +2,7 @@
 use Rattle.std.proofs.Common.{Bool, false, get_or, ◌-◌, ◌≡◌, ℕ, zero, suc, ◌+◌, ◌<◌, ◌≤◌, ◌^◌, List, [], ◌∷◌, length, drop, refl, sym, ap, ◌∙◌, subst, arith, Option, Some}
 use Rattle.std.specs.Prelude.{slice_get, replicate, IfSome, ℤ}
 use Rattle.std.proofs.lemmas.List.{drop_more}
-use Rattle.label_tree.specs.Rose.{Rose, node, label_of, kids_of}
+use Rattle.base_trees.specs.Rose.{Rose, node, label_of, kids_of}
 use Rattle.simple_types.specs.declared.standards.Standard.TheVariants.{Free}
 use Rattle.simple_types.specs.Sound.{IsCounted, AreBounds, AreSizes}
 use Rattle.asn_types.specs.declared.modules.Assignment.{Assignment}

@@ -5,12 +5,12 @@ use Rattle.std.proofs.lemmas.Nat.{pow_pos}
 use Rattle.std.proofs.lemmas.List.{length-append, length-take, length-drop, take_at, drop_at, drop-drop}
 use Rattle.std.specs.Prelude.{OnOk, OnErr, IfOk, IsErr, ◌↔◌, true}
 use Rattle.std.specs.List.{Contains}
-use Rattle.bit_cursor.proofs.Padding.{has_one, no_one}
+use Rattle.base_codecs.proofs.Padding.{has_one, no_one}
 use Rattle.std.specs.Io.KnownBytes.{IsAtEnd}
-use Rattle.bit_cursor.specs.Bits.{bits, number, octet_bits, gap}
-use Rattle.bit_cursor.specs.Cursors.{IsInStep, LosesFirst, ahead}
-use Rattle.bit_cursor.proofs.BitLemmas.{length-octet_bits, length-bits, number-bits}
-use Rattle.codecs.specs.declared.spots.Spot.{Spot}
+use Rattle.base_codecs.specs.Bits.{bits, number, octet_bits, gap}
+use Rattle.base_codecs.specs.Cursors.{IsInStep, LosesFirst, ahead}
+use Rattle.base_codecs.proofs.BitLemmas.{length-octet_bits, length-bits, number-bits}
+use Rattle.base_codecs.specs.declared.spots.Spot.{Spot}
 use Rattle.per_fields.specs.declared.stops.Why.TheVariants.{Short, Padding}
 use Rattle.per_fields.specs.Reading.{bits_at, align_at, stop_at, moved}
 use Rattle.per_decode.specs.Private.Standing.{IsAt}

@@ -1,10 +1,10 @@
 -- Fragments one by one, as a loop reads them.
 use Rattle.std.proofs.Common.{◌≡◌, ℕ, zero, suc, ◌+◌, ◌*◌, ◌<◌, ◌≤◌, Bool, List, ◌++◌, length, refl, sym, ap, ◌∙◌, subst, arith, append_assoc, Option, Result, Ok, Err}
-use Rattle.codecs.specs.declared.spots.Spot.{Spot}
+use Rattle.base_codecs.specs.declared.spots.Spot.{Spot}
 use Rattle.per_fields.specs.declared.stops.Stop.{Stop}
 use Rattle.per_fields.specs.Reading.{◌>>=◌, Reader, bits_at}
 use Rattle.per_fields.specs.Fields.{skip_at, Piece, Last, Units, unit, length_from, length_here, count_here, count_at, fragments_at}
-use Rattle.codecs.proofs.Codecs.{bind_ok, stop_ok, ok_is}
+use Rattle.base_codecs.proofs.Codecs.{bind_ok, stop_ok, ok_is}
 use Rattle.per_decode.specs.declared.faults.Fault.{Fault}
 use Rattle.per_decode.specs.declared.faults.Fault.TheVariants as fault
 use Rattle.std.specs.Prelude.{IfOk, IfErr}

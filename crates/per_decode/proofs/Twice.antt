@@ -3,9 +3,9 @@ use Rattle.std.proofs.Common.{◌≡◌, ℕ, ◌+◌, ◌-◌, ◌*◌, ◌<◌
 use Rattle.std.proofs.lemmas.Bool.{cases_lt, le-ltb, lt-ltb}
 use Rattle.std.proofs.lemmas.Nat.{mul-add-lt, pow-add}
 use Rattle.std.proofs.Math.Nat.{mul_comm}
-use Rattle.bit_cursor.specs.Bits.{bits}
-use Rattle.bit_cursor.proofs.BitLemmas.{bits-split, length-bits}
-use Rattle.codecs.specs.declared.spots.Spot.{Spot}
+use Rattle.base_codecs.specs.Bits.{bits}
+use Rattle.base_codecs.proofs.BitLemmas.{bits-split, length-bits}
+use Rattle.base_codecs.specs.declared.spots.Spot.{Spot}
 use Rattle.per_fields.specs.declared.stops.Stop.{Stop}
 use Rattle.per_fields.specs.declared.stops.Why.TheVariants.{Short}
 use Rattle.per_fields.specs.Reading.{◌>>=◌, bits_at, stop_at}

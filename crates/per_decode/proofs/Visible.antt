@@ -9,13 +9,13 @@ use Rattle.std.proofs.lemmas.Bool.Decides.{nat_tests}
 use Rattle.std.proofs.lemmas.List.Elements.{All-nil, All-cons}
 use Rattle.std.proofs.lemmas.Str.{chars-IsAscii, IsUtf8-from_ascii}
 use Rattle.simple_types.specs.declared.simples.Class.TheVariants.{Any}
-use Rattle.simple_values.specs.Lexical.{in_class, is_at_most}
-use Rattle.simple_values.specs.Reading.{has_characters}
-use Rattle.xa_base.proofs.WordLaws.{words_of-nil, words_of-join}
-use Rattle.xa_base.specs.Characters.{is_xml_char}
-use Rattle.xa_base.specs.WhiteSpace.{is_white_space, spaced, treated, IsWord}
-use Rattle.xa_base.specs.declared.white_space.WhiteSpace.{WhiteSpace}
-use Rattle.xa_base.specs.declared.white_space.WhiteSpace.TheVariants.{Preserve, Replace, Collapse}
+use Rattle.simple_types.specs.Lexical.{in_class, is_at_most}
+use Rattle.simple_types.specs.Reading.{has_characters}
+use Rattle.base_texts.proofs.WordLaws.{words_of-nil, words_of-join}
+use Rattle.base_texts.specs.Characters.{is_xml_char}
+use Rattle.base_texts.specs.WhiteSpace.{is_white_space, spaced, treated, IsWord}
+use Rattle.base_texts.specs.declared.white_space.WhiteSpace.{WhiteSpace}
+use Rattle.base_texts.specs.declared.white_space.WhiteSpace.TheVariants.{Preserve, Replace, Collapse}
 use Rattle.per_decode.specs.Private.Visible.{is_visible}
 
 low : (b : ℕ) → is_visible b ≡ true → 33 ≤ b

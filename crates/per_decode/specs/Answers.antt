@@ -1,7 +1,7 @@
 -- What decoding answers of the octets that a source has left (X.691), and how many of them it takes.
 use Rattle.std.specs.Prelude.{◌≡◌, ℕ, ◌+◌, ◌*◌, ◌/◌, ◌<◌, ◌≤◌, ◌⊎◌, ◌&&◌, Bool, true, nat_le, Option, Some, List, length, take, drop, Result, Ok, Err, if◌then◌else◌}
-use Rattle.label_tree.specs.Rose.{Rose}
-use Rattle.bit_cursor.specs.Bits.{octet_bits}
+use Rattle.base_trees.specs.Rose.{Rose}
+use Rattle.base_codecs.specs.Bits.{octet_bits}
 use Rattle.simple_types.specs.declared.labels.ValueLabel.{ValueLabel}
 use Rattle.asn_types.specs.declared.modules.Assignment.{Assignment}
 use Rattle.asn_values.specs.Values.{In}
@@ -10,7 +10,7 @@ use Rattle.per_fields.specs.declared.stops.Why.TheVariants.{Short}
 use Rattle.per_fields.specs.Stops.{is_short}
 use Rattle.per_fields.specs.Encoding.{complete_by}
 use Rattle.per_fields.specs.Laws.{BeginsBy}
-use Rattle.per_stops.specs.Stopping.{StopsFirstBy}
+use Rattle.per_fields.specs.Stopping.{StopsFirstBy}
 use Rattle.per_decode.specs.declared.decoded.Decoded.{Decoded}
 use Rattle.per_decode.specs.declared.errors.DecodeError.{DecodeError}
 use Rattle.per_decode.specs.declared.errors.DecodeError.TheVariants.{Bad, Failed, TooLong, Memory}

@@ -1,8 +1,8 @@
 //! A value from a source of octets.
 ghost use Rattle.std.specs.Prelude.{◌≡◌, ℕ, ◌+◌, ◌*◌, ◌%◌, ◌^◌, ◌<◌, ◌≤◌, List, Some, IfOk, OnOk, IsErrOf, IsTrue, length};
-ghost use Rattle.bit_cursor.specs.Cursors.{IsInStep};
-ghost use Rattle.xa_base.specs.Faults.{Counts, HasRisen};
-ghost use Rattle.label_tree.specs.Rose.{node_count};
+ghost use Rattle.base_codecs.specs.Cursors.{IsInStep};
+ghost use Rattle.base_texts.specs.Faults.{Counts, HasRisen};
+ghost use Rattle.base_trees.specs.Rose.{node_count};
 ghost use Rattle.asn_types.specs.Refs.{IsOf};
 ghost use Rattle.asn_values.specs.Values.{FitsAt, In};
 ghost use Rattle.per_fields.specs.Nodes.{last_at};
@@ -17,14 +17,14 @@ use crate::faults::Fault;
 use crate::nodes::node;
 use crate::run::{Origin, Run};
 use asn_types::{Module, TypeLabel, resolve};
-use bit_cursor::BitSource;
-use flat_tree::{Builder, Flat, Whole};
-use label_tree::Tree;
+use base_codecs::BitSource;
+use base_flat_trees::{Builder, Flat, Whole};
+use base_texts::Source;
+use base_trees::Tree;
 use per_fields::{Aligned, Stop, Variant, Why};
 use simple_types::ValueLabel;
 use std::alloc::Global;
 use std::marker::{Brand, PhantomData};
-use xa_base::Source;
 
 // What pads the last octet, or stands for no bits.
 #[tactic(auto, unfolding(per_fields::specs::Nodes::last_at))]

@@ -2,10 +2,10 @@
 ghost use Rattle.per_decode.specs.declared.faults.Fault.TheVariants as faults;
 ghost use Rattle.std.specs.Prelude.{◌≡◌, ◌⊎◌};
 
-use bit_cursor::CursorError;
+use base_codecs::CursorError;
+use base_texts::Memory;
 use per_fields::{Stop, Why};
 use std::alloc::AllocError;
-use xa_base::Memory;
 
 /// Why reading ends before the value. It is one octet, since every step of reading answers so: what else there is to tell
 /// stands where reading is (`Run::stop`).

@@ -1,12 +1,12 @@
 //! The fields of nodes without kids.
 ghost use Rattle.std.specs.Prelude.{◌≡◌, ℕ, [], ◌<◌, ◌≤◌, ◌-◌, ◌^◌, ℤ, Bool, true, false, IfOk, IfErr, OnOk, IsErrOf, IsTrue};
-ghost use Rattle.label_tree.specs.Rose.{node, none};
-ghost use Rattle.flat_tree.specs.Zips.{added};
-ghost use Rattle.bit_cursor.specs.Cursors.{IsInStep};
-ghost use Rattle.xa_base.specs.Faults.{HasRisen};
+ghost use Rattle.base_trees.specs.Rose.{node, none};
+ghost use Rattle.base_flat_trees.specs.Zips.{added};
+ghost use Rattle.base_codecs.specs.Cursors.{IsInStep};
+ghost use Rattle.base_texts.specs.Faults.{HasRisen};
 ghost use Rattle.simple_types.specs.Sound.{AreBounds};
 ghost use Rattle.simple_types.specs.declared.labels.ValueLabel.TheVariants as value;
-ghost use Rattle.simple_values.specs.Lexical.{is_128_bits, is_from, is_to};
+ghost use Rattle.simple_types.specs.Lexical.{is_128_bits, is_from, is_to};
 ghost use Rattle.per_fields.specs.Laws.{Present};
 ghost use Rattle.per_fields.specs.Reading.{each_at};
 ghost use Rattle.per_fields.specs.Nodes.{flag_at, bool_at, int_at, enum_at};
@@ -17,11 +17,11 @@ ghost use Rattle.per_decode.specs.Private.Newest.{newest};
 use crate::faults::Fault;
 use crate::run::{Origin, Run};
 use asn_types::Component;
-use flat_tree::Builder;
+use base_flat_trees::Builder;
+use base_texts::Source;
 use per_fields::Variant;
 use simple_types::{Flags, Integer, ValueLabel};
 use std::alloc::Global;
-use xa_base::Source;
 
 // Puts a node without kids behind others.
 #[inline(always)]

@@ -6,10 +6,10 @@ ghost use Rattle.per_decode.specs.Private.Kept.{octets_more, octets_behind};
 
 use crate::faults::Fault;
 use crate::run::{Origin, Run};
+use base_texts::{ROOM, Source};
 use per_fields::{Variant, Why};
-use simple_values::is_at_most;
+use simple_types::is_at_most;
 use std::alloc::Global;
-use xa_base::{ROOM, Source};
 
 /// The octets or items of one unit of a fragment.
 pub(crate) const UNIT: u32 = 16_384;
@@ -44,8 +44,8 @@ fn is_out(least: u32, most: Option<u32>, total: usize, piece: Piece) -> bool
 
 impl<'a, S: Source, K: Origin, V: Variant> Run<'a, S, K, V> {
     ghost use Rattle.std.specs.Prelude.{true, ◌++◌, ◌%◌, IfOk, OnOk, Err, IsErrOf, IsTrue, length};
-    ghost use Rattle.bit_cursor.specs.Cursors.{IsInStep};
-    ghost use Rattle.xa_base.specs.Faults.{HasRisen};
+    ghost use Rattle.base_codecs.specs.Cursors.{IsInStep};
+    ghost use Rattle.base_texts.specs.Faults.{HasRisen};
     ghost use Rattle.per_decode.specs.Private.Standing.{GoesOn};
     ghost use Rattle.per_decode.specs.Private.Giving.{Gives, spot};
     ghost use Rattle.per_fields.specs.Reading.{octets_at};

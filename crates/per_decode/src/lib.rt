@@ -1,4 +1,4 @@
-//! Values from canonical PER, aligned or not (X.691), read from a source of octets, each octet when it is needed.
+//! Decodes values from canonical PER, aligned or unaligned (X.691), and takes no octet before it is needed.
 //!
 //! Read first: `specs/Answers`, then `decode_by` in `src/decoding.rt`.
 #![tactic(auto)]

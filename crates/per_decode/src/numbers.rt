@@ -1,12 +1,12 @@
 //! Numbers of 0 up to a greatest one (X.691, clause 11.5).
 ghost use Rattle.std.specs.Prelude.{◌≡◌, ◌<◌, ◌≤◌, ◌+◌, ◌-◌, ◌*◌, ◌^◌, length};
-ghost use Rattle.bit_cursor.specs.Bits.{bits};
+ghost use Rattle.base_codecs.specs.Bits.{bits};
 ghost use Rattle.per_fields.specs.Widths.{width_of, more_of};
 
 use crate::faults::Fault;
 use crate::run::{Origin, Run};
+use base_texts::Source;
 use per_fields::{Variant, Why};
-use xa_base::Source;
 
 /// The least number of bits that hold a number; none for 0.
 pub(crate) fn width_of(x: u128) -> u32
@@ -26,8 +26,8 @@ pub(crate) fn more_of(x: u128) -> u32
 
 impl<'a, S: Source, K: Origin, V: Variant> Run<'a, S, K, V> {
     ghost use Rattle.std.specs.Prelude.{true, IfOk, OnOk, Err, IsErrOf, IsTrue, length};
-    ghost use Rattle.bit_cursor.specs.Cursors.{IsInStep};
-    ghost use Rattle.xa_base.specs.Faults.{HasRisen};
+    ghost use Rattle.base_codecs.specs.Cursors.{IsInStep};
+    ghost use Rattle.base_texts.specs.Faults.{HasRisen};
     ghost use Rattle.per_fields.specs.Reading.{bits_at};
     ghost use Rattle.per_fields.specs.Fields.{within_at, aligned_at, large_octets_at, large_at, number_at};
     ghost use Rattle.per_decode.specs.Private.Standing.{GoesOn};

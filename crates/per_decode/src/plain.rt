@@ -2,7 +2,7 @@
 //! apart.
 ghost use Rattle.std.specs.Prelude.{◌≡◌, ◌↔◌, IsTrue};
 ghost use Rattle.std.specs.List.{list_all};
-ghost use Rattle.label_tree.specs.Rose.{label_of};
+ghost use Rattle.base_trees.specs.Rose.{label_of};
 ghost use Rattle.asn_types.specs.Modules.{AreWellFormed};
 ghost use Rattle.asn_values.specs.Values.{IsTextOf, OwnAt};
 ghost use Rattle.simple_types.specs.declared.labels.ValueLabel.TheVariants as value;
@@ -10,10 +10,9 @@ ghost use Rattle.per_decode.specs.Private.Visible.{is_visible};
 ghost use Rattle.per_decode.specs.Private.Bodies.{IsText, text_leaf};
 
 use asn_types::{Form, Module, TypeLabel};
-use label_tree::Tree;
-use simple_types::Class;
-use simple_values::{has_characters, is_at_most};
-use xa_base::{Text, is_treated};
+use base_texts::{Text, is_treated};
+use base_trees::Tree;
+use simple_types::{Class, has_characters, is_at_most};
 
 #[inline(always)]
 fn are_visible(bytes: &[u8]) -> bool

@@ -3,11 +3,11 @@ ghost use Rattle.std.specs.Prelude.{◌≡◌, ℕ, ◌<◌, ◌≤◌, ◌+◌,
 ghost use Rattle.per_decode.specs.Private.Standing.{IsAt};
 
 use crate::faults::{Fault, ended_inside, stopped};
-use bit_cursor::BitSource;
+use base_codecs::BitSource;
+use base_texts::Source;
 use per_fields::{Stop, Variant, Why};
 use std::alloc::Global;
 use std::marker::{Brand, PhantomData};
-use xa_base::Source;
 
 /// What a call began with: the octets that were left and whether the source tells them, how many of them may be taken,
 /// and the count of faults.
@@ -53,8 +53,8 @@ pub(crate) struct Run<'a, S: Source, K: Origin, V: Variant> {
 
 impl<'a, S: Source, K: Origin, V: Variant> Run<'a, S, K, V> {
     ghost use Rattle.std.specs.Prelude.{true, ◌%◌, IfOk, OnOk, Err, IsErrOf, length};
-    ghost use Rattle.bit_cursor.specs.Cursors.{IsInStep};
-    ghost use Rattle.xa_base.specs.Faults.{HasRisen};
+    ghost use Rattle.base_codecs.specs.Cursors.{IsInStep};
+    ghost use Rattle.base_texts.specs.Faults.{HasRisen};
     ghost use Rattle.per_fields.specs.Reading.{bits_at, align_at, octets_at};
     ghost use Rattle.per_fields.specs.Fields.{skip_at};
     ghost use Rattle.per_decode.specs.Private.Standing.{GoesOn};

@@ -1,9 +1,9 @@
 //! Nodes of text.
 ghost use Rattle.std.specs.Prelude.{◌≡◌, ℕ, true, ◌<◌, ◌≤◌, ◌-◌, ◌*◌, List, None, IsUtf8, take, ◌⊎◌, ◌%◌, IfErr, OnOk, IsErrOf, IsTrue};
-ghost use Rattle.flat_tree.specs.Zips.{added};
-ghost use Rattle.label_tree.specs.Rose.{label_of};
-ghost use Rattle.bit_cursor.specs.Cursors.{IsInStep};
-ghost use Rattle.xa_base.specs.Faults.{HasRisen};
+ghost use Rattle.base_flat_trees.specs.Zips.{added};
+ghost use Rattle.base_trees.specs.Rose.{label_of};
+ghost use Rattle.base_codecs.specs.Cursors.{IsInStep};
+ghost use Rattle.base_texts.specs.Faults.{HasRisen};
 ghost use Rattle.asn_types.specs.Refs.{IsOf};
 ghost use Rattle.asn_types.specs.Refs as refs;
 ghost use Rattle.asn_values.specs.Values.{Own};
@@ -21,12 +21,12 @@ use crate::lengths::{MOST_UNITS, Piece};
 use crate::plain::{is_plain, keeps_rules};
 use crate::run::{Origin, Run};
 use asn_types::{Module, TypeLabel, resolve};
-use flat_tree::Builder;
-use label_tree::Tree;
+use base_flat_trees::Builder;
+use base_texts::{ROOM, Source, Text, TextError};
+use base_trees::Tree;
 use per_fields::{Stop, Variant, Why};
 use simple_types::ValueLabel;
 use std::alloc::Global;
-use xa_base::{ROOM, Source, Text, TextError};
 
 /// The text of a node that begins at a bit, and its rules, where its type is found.
 #[inline(always)]

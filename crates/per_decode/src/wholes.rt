@@ -1,14 +1,14 @@
 //! Whole numbers (X.691, clauses 13.2 and 11.4 to 11.8).
 ghost use Rattle.std.specs.Prelude.{◌≡◌, ◌<◌, ◌≤◌, ◌+◌, ◌-◌, ◌*◌, ◌^◌, true, false, Some, None, MatchOption};
-ghost use Rattle.simple_values.specs.Lexical.{is_128_bits, is_from};
+ghost use Rattle.simple_types.specs.Lexical.{is_128_bits, is_from};
 ghost use Rattle.simple_types.specs.Sound.{AreBounds};
 ghost use Rattle.per_fields.specs.Widths.{distance, raised, magnitude, more_signed, signed_of};
 
 use crate::faults::Fault;
 use crate::numbers::width_of;
 use crate::run::{Origin, Run};
+use base_texts::Source;
 use per_fields::{Variant, Why};
-use xa_base::Source;
 
 // How far a number is above a lower one.
 fn distance(lo: i128, hi: i128) -> u128
@@ -49,12 +49,12 @@ fn more_signed(z: i128) -> u32
 
 impl<'a, S: Source, K: Origin, V: Variant> Run<'a, S, K, V> {
     ghost use Rattle.std.specs.Prelude.{IfOk, OnOk, Err, IsErrOf, IsTrue};
-    ghost use Rattle.bit_cursor.specs.Cursors.{IsInStep};
-    ghost use Rattle.xa_base.specs.Faults.{HasRisen};
+    ghost use Rattle.base_codecs.specs.Cursors.{IsInStep};
+    ghost use Rattle.base_texts.specs.Faults.{HasRisen};
     ghost use Rattle.per_decode.specs.Private.Standing.{GoesOn};
     ghost use Rattle.per_decode.specs.Private.Giving.{Gives, spot};
     ghost use Rattle.per_fields.specs.Fields.{from_octets_at, from_at, signed_octets_at, signed_at, ranged_at, whole_at};
-    ghost use Rattle.simple_values.specs.Lexical.{is_from, is_to};
+    ghost use Rattle.simple_types.specs.Lexical.{is_from, is_to};
 
     // The octets of a number from a least one, one and so many more.
     #[tactic(auto, unfolding(per_fields::specs::Fields::from_octets_at))]

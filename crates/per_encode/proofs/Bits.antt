@@ -1,8 +1,8 @@
 -- The bits of numbers.
 use Rattle.std.proofs.Common.{◌≡◌, ℕ, suc, ◌+◌, ◌-◌, ◌*◌, ◌/◌, ◌%◌, ◌<◌, ◌^◌, Bool, true, false, cond, List, [], ◌∷◌, ◌++◌, length, refl, sym, ap, ◌∙◌, arith, append_assoc, eqb, get_or, drop}
 use Rattle.std.specs.Int.{from_bool}
-use Rattle.bit_cursor.specs.Bits.{bits, bit, padding, octet, octet_bits, gap}
-use Rattle.bit_cursor.proofs.BitLemmas.{bits-high, length-octet_bits}
+use Rattle.base_codecs.specs.Bits.{bits, bit, padding, octet, octet_bits, gap}
+use Rattle.base_codecs.proofs.BitLemmas.{bits-high, length-octet_bits}
 use Rattle.std.proofs.lemmas.Bool.{ne_eqb}
 use Rattle.std.proofs.lemmas.List.{drop_more, append-nil, length-append, length-replicate}
 use Rattle.per_fields.specs.Encoding.{flag_bits, completed}

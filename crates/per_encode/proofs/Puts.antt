@@ -2,7 +2,7 @@
 use Rattle.std.proofs.Common.{◌≡◌, ℕ, ◌+◌, ◌-◌, ◌*◌, ◌<◌, ◌≤◌, Bool, true, false, List, [], ◌∷◌, ◌++◌, length, refl, sym, ap, ◌∙◌, subst, arith, append_assoc, take, drop, Result, Ok, Err, map}
 use Rattle.std.specs.Prelude.{OnOk, ℤ}
 use Rattle.std.proofs.lemmas.List.{length-append, length-drop, drop-drop, append-nil, take_rest}
-use Rattle.bit_cursor.specs.Bits.{bits, padding}
+use Rattle.base_codecs.specs.Bits.{bits, padding}
 use Rattle.per_fields.specs.Fields.{gap_bits, head_bits, Writer, Last, Units, length_bits, counted_bits, in_turn, then_bits, units_of, large_bits, from_bits, signed_bits}
 use Rattle.per_fields.specs.Widths.{width_of, more_of, distance, more_signed, complement}
 use Rattle.per_fields.proofs.Fragments.{map-length, map-take, map-drop}

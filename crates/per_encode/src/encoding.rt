@@ -1,16 +1,16 @@
 //! The complete encoding of a value.
 ghost use Rattle.std.specs.Prelude.{◌≡◌, IfOk};
-ghost use Rattle.bit_cursor.specs.Bits.{octet_bits};
+ghost use Rattle.base_codecs.specs.Bits.{octet_bits};
 ghost use Rattle.asn_values.specs.Values.{In};
 ghost use Rattle.per_fields.specs.Encoding.{completed, complete, complete_by};
 
 use crate::nodes::put_node;
 use asn_types::Module;
-use bit_cursor::BitSink;
+use base_codecs::BitSink;
+use base_texts::Memory;
 use per_fields::{Aligned, Variant};
 use simple_types::Value;
 use std::alloc::Global;
-use xa_base::Memory;
 
 // Whole octets: one zero octet where there are no bits (clause 11.1.3).
 fn whole_octets(sink: BitSink) -> Result<Vec<u8>, Memory>

@@ -3,8 +3,8 @@ ghost use Rattle.std.specs.Prelude.{◌≡◌, ◌++◌, OnOk, length};
 ghost use Rattle.per_fields.specs.Encoding.{flag_bits};
 
 use asn_types::Component;
-use bit_cursor::BitSink;
-use xa_base::Memory;
+use base_codecs::BitSink;
+use base_texts::Memory;
 
 /// A bit for each OPTIONAL component (X.691, clause 19.2), up to 64 of them with one call of the sink.
 pub(crate) fn put_flags(

@@ -2,9 +2,9 @@
 ghost use Rattle.std.specs.Prelude.{◌≡◌, ◌<◌, ◌≤◌, ◌++◌, OnOk, length};
 ghost use Rattle.per_fields.specs.Fields.{Last, Units, gap_bits, head_bits, length_bits};
 
-use bit_cursor::BitSink;
+use base_codecs::BitSink;
+use base_texts::Memory;
 use per_fields::Variant;
-use xa_base::Memory;
 
 /// The octets or items of one unit of a fragment.
 pub(crate) const UNIT: usize = 16_384;

@@ -1,4 +1,4 @@
-//! Values to canonical PER, aligned or not (X.691).
+//! Encodes values in canonical PER, aligned or unaligned (X.691).
 //!
 //! Read first: `specs/Encoding` of `per_fields`, then `encode_by` in `src/encoding.rt`.
 #![tactic(auto)]

@@ -1,8 +1,8 @@
 //! The nodes of a value.
 ghost use Rattle.std.specs.Prelude.{◌≡◌, ◌≤◌, ◌++◌, OnOk, map, length, take, drop, true};
-ghost use Rattle.label_tree.specs.Rose.{kids_of, label_of};
+ghost use Rattle.base_trees.specs.Rose.{kids_of, label_of};
 ghost use Rattle.asn_types.specs.declared.types.Form.TheVariants.{Sequence, Choice};
-ghost use Rattle.simple_values.specs.Lexical.{is_at_most};
+ghost use Rattle.simple_types.specs.Lexical.{is_at_most};
 ghost use Rattle.per_fields.specs.Codec.{AllOf};
 ghost use Rattle.per_fields.specs.Fields.{in_turn, counted_bits, list_bits};
 ghost use Rattle.per_fields.specs.Encoding.{per};
@@ -14,12 +14,12 @@ use crate::numbers::{put_index, put_number};
 use crate::texts::put_text;
 use crate::whole_numbers::put_whole;
 use asn_types::{Components, Form, Module, TypeLabel, resolve};
-use bit_cursor::BitSink;
-use flat_tree::{Kids, Node};
-use label_tree::Tree;
+use base_codecs::BitSink;
+use base_flat_trees::{Kids, Node};
+use base_texts::Memory;
+use base_trees::Tree;
 use per_fields::Variant;
 use simple_types::ValueLabel;
-use xa_base::Memory;
 
 // The components of a SEQUENCE that are present.
 #[cycle(encoding)]

@@ -1,12 +1,12 @@
 //! Numbers of a range (X.691, clause 11.5), in all its widths.
 ghost use Rattle.std.specs.Prelude.{◌≡◌, ◌<◌, ◌≤◌, ◌+◌, ◌-◌, ◌*◌, ◌^◌, ◌++◌, OnOk, length};
-ghost use Rattle.bit_cursor.specs.Bits.{bits, padding};
+ghost use Rattle.base_codecs.specs.Bits.{bits, padding};
 ghost use Rattle.per_fields.specs.Widths.{width_of, more_of};
 ghost use Rattle.per_fields.specs.Fields.{large_bits, number_bits};
 
-use bit_cursor::BitSink;
+use base_codecs::BitSink;
+use base_texts::Memory;
 use per_fields::Variant;
-use xa_base::Memory;
 
 // A number of more bits than one call of the sink takes.
 #[inline(never)]

@@ -4,9 +4,9 @@ ghost use Rattle.per_fields.specs.Fields.{counted_bits};
 ghost use Rattle.per_fields.specs.Encoding.{octet_writer};
 
 use crate::lengths::{UNIT, put_last_length, put_units};
-use bit_cursor::BitSink;
+use base_codecs::BitSink;
+use base_texts::Memory;
 use per_fields::Variant;
-use xa_base::Memory;
 
 // The octets of a text behind their lengths, in fragments (X.691, clause 11.9).
 #[inline(never)]

@@ -1,14 +1,14 @@
 //! Values of INTEGER (X.691, clause 13).
 ghost use Rattle.std.specs.Prelude.{◌≡◌, ◌<◌, ◌≤◌, ◌+◌, ◌-◌, ◌*◌, ◌^◌, ◌++◌, OnOk, length, int_le, true};
-ghost use Rattle.simple_values.specs.Lexical.{is_from, is_to};
+ghost use Rattle.simple_types.specs.Lexical.{is_from, is_to};
 ghost use Rattle.per_fields.specs.Widths.{distance, magnitude, complement, more_signed};
 ghost use Rattle.per_fields.specs.Fields.{from_bits, signed_bits, whole_bits};
 
 use crate::lengths::{put_gap, put_length};
 use crate::numbers::{octets_behind, put_number, put_wide, width};
-use bit_cursor::BitSink;
+use base_codecs::BitSink;
+use base_texts::Memory;
 use per_fields::Variant;
-use xa_base::Memory;
 
 // How far a number is above a lower one.
 fn distance(from: i128, to: i128) -> u128

@@ -1,7 +1,7 @@
 -- The parts of a module's types are there when they are read.
 use Rattle.std.proofs.Common.{◌≡◌, ℕ, zero, suc, ◌+◌, ◌<◌, Bool, true, false, Option, Some, None, List, [], ◌∷◌, length, refl, arith}
 use Rattle.std.specs.Prelude.{slice_get, MatchBool, if◌then◌else◌}
-use Rattle.label_tree.specs.Rose.{Rose, label_of, kids_of}
+use Rattle.base_trees.specs.Rose.{Rose, label_of, kids_of}
 use Rattle.asn_types.specs.declared.types.Component.{Component}
 use Rattle.asn_types.specs.declared.types.TypeLabel.{TypeLabel}
 use Rattle.asn_types.specs.Parts.{parts_of}

@@ -2,14 +2,14 @@
 use Rattle.std.proofs.Common.{◌≡◌, ℕ, Bool, true, not, ◌&&◌, List, sym, ap, Option, Some, None}
 use Rattle.std.proofs.lemmas.Bool.{and_parts, and_from}
 use Rattle.std.proofs.lemmas.Slice.Eq.{bytes_eq-Decides}
-use Rattle.label_tree.specs.Rose.{Rose}
+use Rattle.base_trees.specs.Rose.{Rose}
 use Rattle.simple_types.specs.declared.labels.ValueLabel.{ValueLabel}
 use Rattle.simple_types.specs.declared.standards.Standard.{Standard}
 use Rattle.simple_types.specs.declared.standards.Standard.TheVariants.{Free, Default, Fixed}
 use Rattle.asn_types.specs.declared.modules.Assignment.{Assignment}
 use Rattle.asn_types.specs.Spaces.{spelling}
 use Rattle.asn_values.specs.Values.{ComponentPlace, Kept}
-use Rattle.codecs.proofs.Steps.{Iff, lacking, no_fact}
+use Rattle.base_codecs.proofs.Steps.{Iff, lacking, no_fact}
 use Rattle.per_fields.specs.Owning.{is_standard_by, is_standard, keeps}
 use Rattle.per_fields.proofs.Owns.{keeps_kept, kept_keeps}
 

@@ -1,7 +1,7 @@
 -- The fields of both variants, where nothing is aligned.
 use Rattle.std.proofs.Common.{◌≡◌, ℕ, zero, suc, ◌-◌, ◌<◌, ◌≤◌, Bool, true, false, cond, List, [], length, refl, ap, ◌∙◌, arith, Some, None}
 use Rattle.std.proofs.lemmas.Bool.{lt-ltb, le-ltb, ne_eqb}
-use Rattle.bit_cursor.specs.Bits.{bits}
+use Rattle.base_codecs.specs.Bits.{bits}
 use Rattle.per_fields.specs.Widths.{width_of, width_within}
 use Rattle.per_fields.specs.Fields.{Writer, then_bits, in_turn, units_of, number_bits, from_bits, signed_bits, counted_bits, list_bits}
 use Rattle.per_fields.proofs.FragmentSteps.{counted-last, counted-more}

@@ -1,6 +1,6 @@
 -- The fields where nothing is aligned (X.691, UNALIGNED variant), clause by clause: no bits stand before one.
 use Rattle.std.specs.Prelude.{◌≡◌, ℕ, ◌+◌, ◌-◌, ◌*◌, ◌<◌, ◌≤◌, false, ℤ, Some, None, List, ◌++◌, length, take, drop}
-use Rattle.bit_cursor.specs.Bits.{bits}
+use Rattle.base_codecs.specs.Bits.{bits}
 use Rattle.per_fields.specs.Widths.{width_of, more_of, distance, more_signed, complement}
 use Rattle.per_fields.specs.Fields.{Writer, then_bits, in_turn, unit, units_of, length_bits, number_bits, from_bits, signed_bits, counted_bits, list_bits}
 

@@ -1,6 +1,6 @@
 -- Canonical unaligned PER (X.691): what the definitions of both variants say where nothing is aligned.
 use Rattle.std.specs.Prelude.{ℕ, Bool, false, Option, List}
-use Rattle.label_tree.specs.Rose.{Rose}
+use Rattle.base_trees.specs.Rose.{Rose}
 use Rattle.simple_types.specs.declared.labels.ValueLabel.{ValueLabel}
 use Rattle.asn_types.specs.declared.modules.Assignment.{Assignment}
 use Rattle.asn_types.specs.declared.types.TypeLabel.{TypeLabel}
@@ -8,8 +8,8 @@ use Rattle.per_fields.specs.declared.stops.Stop.{Stop}
 use Rattle.per_fields.specs.Fields.{Writer}
 use Rattle.per_fields.specs.Encoding.{per, complete_by}
 use Rattle.per_fields.specs.Laws.{BeginsBy, WholeOctetsBy}
-use Rattle.per_stops.specs.Stopping.{StopsFirstBy}
-use Rattle.per_stops.specs.Laws.{StopsAsReadBy, OneOfTwoBy}
+use Rattle.per_fields.specs.Stopping.{StopsFirstBy}
+use Rattle.per_fields.specs.StopLaws.{StopsAsReadBy, OneOfTwoBy}
 use Rattle.per_decode.specs.Answers.{Answer, AnswersBy}
 
 -- the bits of a value of a type

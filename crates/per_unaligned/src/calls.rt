@@ -1,17 +1,17 @@
 //! Encoding and decoding.
 ghost use Rattle.std.specs.Prelude.{◌≡◌, ℕ, ◌^◌, ◌<◌, ◌≤◌, List, Some, IfOk, IsErrOf, length};
-ghost use Rattle.bit_cursor.specs.Bits.{octet_bits};
-ghost use Rattle.xa_base.specs.Faults.{Counts};
+ghost use Rattle.base_codecs.specs.Bits.{octet_bits};
+ghost use Rattle.base_texts.specs.Faults.{Counts};
 ghost use Rattle.asn_values.specs.Values.{In};
 ghost use Rattle.per_unaligned.specs.Unaligned.{complete_unaligned, AnswersUnaligned};
 
 use asn_types::Module;
+use base_texts::{Memory, Source};
 use per_decode::{DecodeError, Decoded, decode_by};
 use per_encode::encode_by;
 use per_fields::Unaligned;
 use simple_types::Value;
 use std::alloc::Global;
-use xa_base::{Memory, Source};
 
 /// The complete encoding of a value of the type of the assignment with this number (X.691, clause 11.1): whole octets, and one
 /// zero octet where the value has no bits.

@@ -1,4 +1,4 @@
-//! Values to canonical unaligned PER and back (X.691): each field begins right behind the one before it.
+//! Names the definitions and calls of unaligned PER (X.691), and proves its fields clause by clause.
 //!
 //! Read first: `specs/Unaligned` and `specs/Fields`, then `src/calls.rt` and `src/laws.rt`.
 #![tactic(auto)]

@@ -4,9 +4,9 @@ use Rattle.std.specs.Prelude.{slice_get}
 use Rattle.std.proofs.lemmas.List.{length-take, length-drop, take-append-drop, take_all, take-take, drop-drop, append-nil}
 use Rattle.std.proofs.Math.Seq.{take-add, take-append_seam, drop-append_seam}
 use Rattle.std.proofs.lemmas.Bool.{ne_eqb}
-use Rattle.label_tree.specs.Rose.{Rose}
-use Rattle.bit_cursor.specs.Bits.{octet_bits, padding, bits}
-use Rattle.bit_cursor.proofs.BitLemmas.{length-octet_bits, octet_bits-append, length-bits}
+use Rattle.base_trees.specs.Rose.{Rose}
+use Rattle.base_codecs.specs.Bits.{octet_bits, padding, bits}
+use Rattle.base_codecs.proofs.BitLemmas.{length-octet_bits, octet_bits-append, length-bits}
 use Rattle.simple_types.specs.declared.labels.ValueLabel.{ValueLabel}
 use Rattle.asn_types.specs.declared.modules.Assignment.{Assignment}
 use Rattle.asn_types.specs.Bounds.{IsBounded}

@@ -1,8 +1,8 @@
 -- Where the records of octets end.
 use Rattle.std.proofs.Common.{◌≡◌, ℕ, ◌+◌, ◌-◌, ◌*◌, ◌<◌, ◌≤◌, min, Bool, true, List, [], length, take, drop, sym, ap, ◌∙◌, subst, arith}
 use Rattle.std.proofs.lemmas.List.{length-take, length-drop, take-take, drop-take}
-use Rattle.label_tree.specs.Rose.{Rose}
-use Rattle.bit_cursor.specs.Bits.{octet_bits}
+use Rattle.base_trees.specs.Rose.{Rose}
+use Rattle.base_codecs.specs.Bits.{octet_bits}
 use Rattle.simple_types.specs.declared.labels.ValueLabel.{ValueLabel}
 use Rattle.asn_types.specs.declared.modules.Assignment.{Assignment}
 use Rattle.asn_types.specs.Bounds.{IsBounded}
@@ -12,8 +12,8 @@ use Rattle.per_fields.specs.declared.stops.Stop.{Stop}
 use Rattle.per_fields.specs.Encoding.{complete}
 use Rattle.per_fields.specs.Laws.{Begins}
 use Rattle.per_fields.proofs.Law.{not_both}
-use Rattle.per_stops.specs.Stopping.{StopsFirst}
-use Rattle.per_stops.proofs.Law.{stops_as_read}
+use Rattle.per_fields.specs.Stopping.{StopsFirst}
+use Rattle.per_fields.proofs.StopLaw.{stops_as_read}
 use Rattle.record_stream.specs.Cuts.{IsRecord, BeginWith, IsCut}
 use Rattle.record_stream.specs.Next.{most_of}
 use Rattle.record_stream.proofs.Cutting.{complete-some, front_octets, begins_within, begins_beyond, begin_front, cut_ends}

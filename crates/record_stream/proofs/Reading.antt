@@ -3,7 +3,7 @@ use Rattle.std.proofs.Common.{◌≡◌, ℕ, ◌+◌, ◌-◌, ◌^◌, ◌<◌
 use Rattle.std.specs.Prelude.{slice_set}
 use Rattle.std.specs.Io.KnownBytes.{Consumes}
 use Rattle.std.proofs.lemmas.Bool.{le-leb, leb-true}
-use Rattle.xa_base.specs.Faults.{Counts, HasRisen, one_more}
+use Rattle.base_texts.specs.Faults.{Counts, HasRisen, one_more}
 use Rattle.record_stream.specs.Heads.{left_with, faults_behind}
 
 gives : (octet : ℕ) (left : Option (List ℕ)) → Consumes (left_with (Some octet) left) (left_with None left) (octet ∷ [])

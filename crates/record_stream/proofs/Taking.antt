@@ -3,16 +3,16 @@ use Rattle.std.proofs.Common.{◌≡◌, ℕ, ◌+◌, ◌-◌, ◌*◌, ◌<◌
 use Rattle.std.specs.Prelude.{◌&&◌, nat_le}
 use Rattle.std.proofs.lemmas.List.{length-take, length-drop}
 use Rattle.std.specs.Io.KnownBytes.{Keeps}
-use Rattle.label_tree.specs.Rose.{Rose}
-use Rattle.bit_cursor.specs.Bits.{octet_bits}
-use Rattle.bit_cursor.proofs.BitLemmas.{length-octet_bits}
+use Rattle.base_trees.specs.Rose.{Rose}
+use Rattle.base_codecs.specs.Bits.{octet_bits}
+use Rattle.base_codecs.proofs.BitLemmas.{length-octet_bits}
 use Rattle.simple_types.specs.declared.labels.ValueLabel.{ValueLabel}
 use Rattle.asn_types.specs.declared.modules.Assignment.{Assignment}
 use Rattle.asn_values.specs.Values.{In}
 use Rattle.per_fields.specs.declared.stops.Stop.{Stop}
 use Rattle.per_fields.specs.Encoding.{complete}
 use Rattle.per_fields.specs.Laws.{Begins}
-use Rattle.per_stops.specs.Stopping.{StopsFirst}
+use Rattle.per_fields.specs.Stopping.{StopsFirst}
 use Rattle.per_decode.specs.declared.decoded.Decoded.{Decoded}
 use Rattle.per_decode.specs.declared.errors.DecodeError.{DecodeError}
 use Rattle.per_decode.specs.declared.errors.DecodeError.TheVariants as decode

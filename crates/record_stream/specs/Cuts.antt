@@ -1,7 +1,7 @@
 -- The values of which octets are the complete encodings (X.691), one behind the other.
 use Rattle.std.specs.Prelude.{◌≡◌, ℕ, ◌*◌, ◌<◌, ◌≤◌, Bool, List, [], ◌∷◌, ◌++◌, length, take}
-use Rattle.label_tree.specs.Rose.{Rose}
-use Rattle.bit_cursor.specs.Bits.{octet_bits}
+use Rattle.base_trees.specs.Rose.{Rose}
+use Rattle.base_codecs.specs.Bits.{octet_bits}
 use Rattle.simple_types.specs.declared.labels.ValueLabel.{ValueLabel}
 use Rattle.asn_types.specs.declared.modules.Assignment.{Assignment}
 use Rattle.asn_types.specs.Bounds.{IsBounded}

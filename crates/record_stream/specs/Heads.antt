@@ -2,7 +2,7 @@
 use Rattle.std.specs.Prelude.{◌≡◌, ℕ, List, Option, Some, None, nat_le, if◌then◌else◌}
 use Rattle.std.specs.Option.{option_to_list}
 use Rattle.std.specs.Io.KnownBytes.{prepend_known}
-use Rattle.xa_base.specs.Faults.{one_more}
+use Rattle.base_texts.specs.Faults.{one_more}
 
 -- what is left, where the source tells what it has left
 abbrev pub left_with : Option ℕ → Option (List ℕ) → Option (List ℕ)

@@ -1,7 +1,7 @@
 -- What a stream of records answers of the octets that it has left (X.691), and how many of them it takes.
 use Rattle.std.specs.Prelude.{◌≡◌, ℕ, ◌*◌, ◌<◌, ◌≤◌, ◌⊎◌, ◌&&◌, Bool, true, min, nat_le, Option, Some, None, List, [], length, take, Result, Ok, Err, if◌then◌else◌}
-use Rattle.label_tree.specs.Rose.{Rose}
-use Rattle.bit_cursor.specs.Bits.{octet_bits}
+use Rattle.base_trees.specs.Rose.{Rose}
+use Rattle.base_codecs.specs.Bits.{octet_bits}
 use Rattle.simple_types.specs.declared.labels.ValueLabel.{ValueLabel}
 use Rattle.asn_types.specs.declared.modules.Assignment.{Assignment}
 use Rattle.asn_values.specs.Values.{In}
@@ -9,7 +9,7 @@ use Rattle.per_fields.specs.declared.stops.Stop.{Stop}
 use Rattle.per_fields.specs.declared.stops.Why.TheVariants.{Short}
 use Rattle.per_fields.specs.Encoding.{complete}
 use Rattle.per_fields.specs.Laws.{Begins}
-use Rattle.per_stops.specs.Stopping.{StopsFirst}
+use Rattle.per_fields.specs.Stopping.{StopsFirst}
 use Rattle.per_fields.specs.Stops.{is_short}
 use Rattle.per_decode.specs.Answers.{Takes}
 use Rattle.per_decode.specs.declared.errors.DecodeError.{DecodeError}

@@ -1,15 +1,15 @@
 //! A source behind an octet that was taken of it ahead.
 ghost use Rattle.std.specs.Prelude.{◌≡◌, ℕ, ◌≤◌, ◌<◌, ◌^◌, List, Option, None, Some, IfOk, IsErrOf, length};
-ghost use Rattle.xa_base.specs.Faults.{Counts};
+ghost use Rattle.base_texts.specs.Faults.{Counts};
 ghost use Rattle.asn_values.specs.Values.{In};
 ghost use Rattle.per_decode.specs.Answers.{Answers};
 ghost use Rattle.record_stream.specs.Heads.{left_with, IsUntouched};
 
 use asn_types::Module;
+use base_texts::{Failed, Source};
 use per_decode::{DecodeError, Decoded, decode};
 use std::alloc::Global;
 use std::marker::{Brand, PhantomData};
-use xa_base::{Failed, Source};
 
 /// What decoding begins with: the reference to the source, what this has left behind the octet, the octet, and its count of
 /// faults.

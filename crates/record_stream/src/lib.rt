@@ -1,4 +1,4 @@
-//! Encodings that follow one another in canonical aligned PER (X.691), read one record at a time.
+//! Reads encodings that follow one another in canonical aligned PER (X.691), one record at a time.
 //!
 //! Read first: `specs/Next`, then `Records::next` in `src/records.rt`; of the values of octets `specs/Cuts`, with its law in
 //! `src/laws.rt`.

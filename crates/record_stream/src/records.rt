@@ -1,7 +1,7 @@
 //! Records, one behind the other.
 ghost use Rattle.std.specs.Prelude.{◌≡◌, ℕ, ◌+◌, ◌*◌, ◌≤◌, ◌<◌, List, [], length, None, Some, IfOk, IfSome, IsSome, MatchOption, OnOk, OnErr, IsErr, IsErrOf};
 ghost use Rattle.std.specs.Io.KnownBytes.{Keeps, IsAtEnd};
-ghost use Rattle.xa_base.specs.Faults.{Counts, one_more};
+ghost use Rattle.base_texts.specs.Faults.{Counts, one_more};
 ghost use Rattle.asn_values.specs.Values.{In};
 ghost use Rattle.per_fields.specs.Encoding.{complete};
 ghost use Rattle.record_stream.specs.Heads.{left_with};
@@ -10,11 +10,11 @@ ghost use Rattle.record_stream.specs.Next.{AnswersNext, told_of};
 use crate::ahead::decode_behind;
 use crate::errors::RecordError;
 use asn_types::Module;
+use base_texts::{Failed, Source};
 use per_decode::DecodeError;
 use simple_types::Value;
 use std::alloc::Global;
 use std::marker::Brand;
-use xa_base::{Failed, Source};
 
 /// The greatest length of a record, in octets.
 const RECORD_LIMIT: u64 = 16_777_216;

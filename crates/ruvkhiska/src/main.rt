@@ -1,28 +1,27 @@
-//! The program for people: the commands of the fixed program with options, files by name, and complaints that name lines.
+//! Is the program for people, `bin/ruvkhiska`: commands with options, files by name, and explained faults.
 //!
-//! Read first: `specs/Results` of `stamped_results`, then `main` below.
+//! Read first: `specs/Results` of `people_results`, then `main` below.
 #![tactic(auto)]
 
 ghost use Rattle.std.specs.Prelude.{◌≡◌};
-ghost use Rattle.command_line.specs.Status.{status};
+ghost use Rattle.transcode_words.specs.Status.{status};
 
-use command_line::{Outcome, write_line};
-use complaints::{NOTE, READ, ROOT, SEVERAL_ROOTS, STAMP, complaint, global_names, path_at};
-use module_plain::plain_module;
-use outside_files::Writing;
-use per_fields::Why;
-use program_parts::{
+use base_files::Writing;
+use base_texts::{Failed, Memory, Name, Text, write_all};
+use module_print::plain_module;
+use people_complaints::{
+    NOTE, READ, ROOT, SEVERAL_ROOTS, STAMP, complaint, global_names, path_at, tell_whole,
+};
+use people_options::{
     Asked, Input, Kept, Parsed, Progress, Syntax, Task, manual_page, parse_words, save,
 };
-use stamped_results::{
-    Fault, behind_stamp, due_of, module_of, stamp_line, stamp_of_files, stamped,
-};
+use people_results::{Fault, behind_stamp, due_of, module_of, stamp_line, stamp_of_files, stamped};
+use per_fields::Why;
 use std::alloc::Global;
 use std::env;
 use std::io::{self, IsTerminal};
 use std::process::ExitCode;
-use text_places::tell_whole;
-use xa_base::{Failed, Memory, Name, Text, write_all};
+use transcode_words::{Outcome, write_line};
 
 // The words, of which the first is the program's name.
 fn read_words(rt: &HostRuntime) -> Result<Vec<String>, Outcome> {

@@ -6,8 +6,8 @@ use Rattle.std_alloc.proofs.BoxSteps.Form.{Bx}
 use Rattle.std_heap.specs.contracts.Global as Heap
 use Rattle.std_heap.specs.contracts.GlobalAllocator.TheImpl.{ghosts, dict}
 use Rattle.std_heap.proofs.Global.TheLaws as heap
-use Rattle.messages.specs.contracts.converting.Message as Held
-use Rattle.messages.proofs.converting.Message.TheLaws as held
+use Rattle.transcode_messages.specs.contracts.converting.Message as Held
+use Rattle.transcode_messages.proofs.converting.Message.TheLaws as held
 use Rattle.ruvkhiska_c.specs.contracts.parts.Parts as Parts
 use Rattle.ruvkhiska_c.specs.contracts.given.Given as Given
 

@@ -1,15 +1,15 @@
 -- Refusals, each with its status and its line.
 use Rattle.std.proofs.Common.{◌≡◌, ◌≢◌, ◌⊎◌, ℕ, ℤ, pos, w32, to_z, of_z, List, length, refl, sym, subst, ◌∙◌, inl, inr, Option, Some, None, Result, Ok, Err}
 use Rattle.std.specs.Prelude.{IfSome, IsSomeAnd, IfErr, MatchResult, IsUtf8}
-use Rattle.xa_base.specs.declared.texts.Name.{Name}
-use Rattle.schema_parts.specs.Components.{Set}
-use Rattle.command_line.specs.declared.outcome.Outcome.{Outcome}
-use Rattle.command_line.specs.declared.outcome.Outcome.TheVariants.{Done, Usage, SchemaSyntax, SchemaFault, LinkFault, UnknownRoot, DocSyntax, Invalid, PerFault, RecordFault, DerFault, ModuleFault, Trailing, TooLong, TooManyNodes, LoadFault, ReadFault, WriteFault, OutOfMemory}
-use Rattle.command_line.specs.Answers.{Answers, IsRefusal, NoMemory}
-use Rattle.command_line.specs.Status.{status}
+use Rattle.base_texts.specs.declared.texts.Name.{Name}
+use Rattle.schema_components.specs.Components.{Set}
+use Rattle.transcode_words.specs.declared.outcome.Outcome.{Outcome}
+use Rattle.transcode_words.specs.declared.outcome.Outcome.TheVariants.{Done, Usage, SchemaSyntax, SchemaFault, LinkFault, UnknownRoot, DocSyntax, Invalid, PerFault, RecordFault, DerFault, ModuleFault, Trailing, TooLong, TooManyNodes, LoadFault, ReadFault, WriteFault, OutOfMemory}
+use Rattle.transcode_words.specs.Answers.{Answers, IsRefusal, NoMemory}
+use Rattle.transcode_words.specs.Status.{status}
 use Rattle.transcode_core.specs.Due.{Opened}
-use Rattle.messages.specs.declared.converting.Message.{Message}
-use Rattle.messages.specs.Messages.{names_of, IsLine}
+use Rattle.transcode_messages.specs.declared.converting.Message.{Message}
+use Rattle.transcode_messages.specs.Messages.{names_of, IsLine}
 use Rattle.ruvkhiska_c.specs.Statuses.{Refuses, PreparedOf}
 
 -- as a number of C

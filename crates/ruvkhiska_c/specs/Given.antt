@@ -8,7 +8,7 @@ use Rattle.std.specs.declared.option.Option.{Option}
 use Rattle.std.specs.declared.option.Option.TheVariants.{None, Some}
 use Rattle.std.specs.declared.alloc.Global.{Global}
 use Rattle.std.specs.contracts.impls.GlobalAllocator.TheImpl.{ghosts}
-use Rattle.messages.specs.contracts.converting.Message.{the_row}
+use Rattle.transcode_messages.specs.contracts.converting.Message.{the_row}
 
 abbrev pub given_owns : Global → Ptr → Option the_row.Denot → Fml
 given_owns alloc p None = ftrue

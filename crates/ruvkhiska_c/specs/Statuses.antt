@@ -1,16 +1,16 @@
 -- What a call answers with its status and its complaint.
 use Rattle.std.specs.Prelude.{◌≡◌, ◌⊎◌, ℕ, ℤ, pos, ◌==◌, IsUtf8, List, [], take, Option, Some, None, Result, Ok, Err, if◌then◌else◌}
-use Rattle.xa_base.specs.declared.texts.Name.{Name}
-use Rattle.schema_parts.specs.SetParts.{SetParts}
-use Rattle.command_line.specs.declared.outcome.Outcome.{Outcome}
-use Rattle.command_line.specs.declared.outcome.Outcome.TheVariants.{Usage}
-use Rattle.command_line.specs.declared.tasks.Syntax.{Syntax}
-use Rattle.command_line.specs.declared.tasks.Syntax.TheVariants.{Aligned, Unaligned, Der}
-use Rattle.command_line.specs.Answers.{IsRefusal, NoMemory}
-use Rattle.command_line.specs.Order.{Found, Then}
-use Rattle.command_line.specs.Status.{status}
+use Rattle.base_texts.specs.declared.texts.Name.{Name}
+use Rattle.schema_components.specs.SetParts.{SetParts}
+use Rattle.transcode_words.specs.declared.outcome.Outcome.{Outcome}
+use Rattle.transcode_words.specs.declared.outcome.Outcome.TheVariants.{Usage}
+use Rattle.transcode_words.specs.declared.tasks.Syntax.{Syntax}
+use Rattle.transcode_words.specs.declared.tasks.Syntax.TheVariants.{Aligned, Unaligned, Der}
+use Rattle.transcode_words.specs.Answers.{IsRefusal, NoMemory}
+use Rattle.transcode_words.specs.Order.{Found, Then}
+use Rattle.transcode_words.specs.Status.{status}
 use Rattle.transcode_core.specs.Due.{Opened, Encoded, Documented}
-use Rattle.messages.specs.Messages.{names_of, IsLine}
+use Rattle.transcode_messages.specs.Messages.{names_of, IsLine}
 
 -- A refusal that is due, or want of memory: the status is that of the program, and the complaint its line, or nothing.
 abbrev pub Refuses : {A : Type 0} → (Result A Outcome → Type 0) → ℤ → List ℕ → Type 0

@@ -1,14 +1,14 @@
 //! What is made of files and of messages, in boxes.
 ghost use Rattle.std.specs.Prelude.{◌≡◌, Some, IfOk, IfSome, MatchOption, IsUtf8};
-ghost use Rattle.command_line.specs.Answers.{Answers, NoMemory};
-ghost use Rattle.command_line.specs.Seen.{root_seen};
+ghost use Rattle.transcode_words.specs.Answers.{Answers, NoMemory};
+ghost use Rattle.transcode_words.specs.Seen.{root_seen};
 ghost use Rattle.transcode_core.specs.Preparing.{prepared_seen};
 ghost use Rattle.transcode_core.specs.ReadBack.{DocumentedBack};
 ghost use Rattle.ruvkhiska_c.specs.Statuses.{PreparedOf, syntax_numbered, EncodedBy, DocumentedBy};
 
-use messages::{Message, Outcome, Prepared, Root, SchemaFiles, Syntax, decode, encode};
 use std::alloc::Global;
 use std::str::from_utf8;
+use transcode_messages::{Message, Outcome, Prepared, Root, SchemaFiles, Syntax, decode, encode};
 
 // The syntax of that number.
 fn syntax_of(number: u32) -> Option<Syntax>

@@ -1,10 +1,10 @@
 //! What is told of a refusal.
 ghost use Rattle.std.specs.Prelude.{◌≡◌, ◌≢◌, ◌⊎◌, pos, take};
-ghost use Rattle.command_line.specs.Answers.{IsRefusal, NoMemory};
-ghost use Rattle.command_line.specs.Status.{status};
-ghost use Rattle.messages.specs.Messages.{IsLine};
+ghost use Rattle.transcode_words.specs.Answers.{IsRefusal, NoMemory};
+ghost use Rattle.transcode_words.specs.Status.{status};
+ghost use Rattle.transcode_messages.specs.Messages.{IsLine};
 
-use messages::{LINE_ROOM, Outcome, line_of};
+use transcode_messages::{LINE_ROOM, Outcome, line_of};
 
 /// In C `struct { size_t count; uint8_t text[128]; }`: the line of a refusal.
 #[repr(C)]

@@ -1,13 +1,13 @@
 //! An answer that C keeps: a box of it, as its pointer, or nothing.
 ghost use Rattle.std.specs.Prelude.{◌≡◌, IsSome, Option, None, Some};
-ghost use Rattle.messages.specs.declared.converting.Message.{Message as Held};
+ghost use Rattle.transcode_messages.specs.declared.converting.Message.{Message as Held};
 ghost use Rattle.ruvkhiska_c.specs.Given.{given_owns, given_coded};
 
 use crate::parts::Parts;
-use messages::Message;
 use std::alloc::Global;
 use std::marker::Model;
 use std::ptr::null_mut;
+use transcode_messages::Message;
 
 /// In C one pointer.
 #[repr(C)]

@@ -4,10 +4,10 @@ ghost use Rattle.transcode_core.specs.declared.prepared.Prepared.{Prepared as He
 ghost use Rattle.ruvkhiska_c.specs.Kept.{kept_owns, kept_coded};
 
 use crate::parts::Parts;
-use messages::Prepared;
 use std::alloc::Global;
 use std::marker::Model;
 use std::ptr::null_mut;
+use transcode_messages::Prepared;
 
 /// In C one pointer.
 #[repr(C)]

@@ -1,15 +1,15 @@
-//! The library's face for C. include/ruvkhiska.h says what each call does, and what C has to keep.
+//! Is the library for C. include/ruvkhiska.h states what each call does and what the caller must keep.
 //!
 //! Read first: `specs/Statuses`, then the calls below; `src/slots.rt` has what C holds between them.
 #![tactic(auto)]
 
 ghost use Rattle.std.specs.Prelude.{◌≡◌, ◌≢◌, ◌↔◌, ◌⊎◌, ◌<◌, ◌++◌, [], ◌∷◌, pos, take, length, IsUtf8, IfSome, IfErr, IsSomeAnd, MatchResult, None, Some, Ok};
-ghost use Rattle.command_line.specs.Answers.{Answers, NoMemory, IsRefusal};
-ghost use Rattle.command_line.specs.Status.{status};
+ghost use Rattle.transcode_words.specs.Answers.{Answers, NoMemory, IsRefusal};
+ghost use Rattle.transcode_words.specs.Status.{status};
 ghost use Rattle.transcode_core.specs.Preparing.{prepared_seen};
 ghost use Rattle.transcode_core.specs.Due.{Checked};
 ghost use Rattle.transcode_core.specs.ReadBack.{DocumentedBack};
-ghost use Rattle.messages.specs.Messages.{IsLine};
+ghost use Rattle.transcode_messages.specs.Messages.{IsLine};
 ghost use Rattle.ruvkhiska_c.specs.Statuses.{Refuses, files_in, PreparedOf, syntax_numbered, EncodedBy, DocumentedBy};
 
 mod boxes;
@@ -25,11 +25,11 @@ use crate::complaint::{Complaint, tell};
 use crate::slots::{
     Bytes, Converter, Files, close, closed, drop_files, free, give, hold, no_files, nothing, open,
 };
-use messages::{AddError, Message, Outcome, Prepared, SchemaFiles, check};
+use base_texts::Memory;
 use std::alloc::Global;
 use std::mem::replace;
 use std::str::from_utf8;
-use xa_base::Memory;
+use transcode_messages::{AddError, Message, Outcome, Prepared, SchemaFiles, check};
 
 const DONE: i32 = 0;
 

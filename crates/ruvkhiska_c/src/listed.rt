@@ -1,13 +1,13 @@
 //! The files that C adds one by one: a box of them, as its pointer, or nothing.
 ghost use Rattle.std.specs.Prelude.{◌≡◌, IsSome, Option, None, Some};
-ghost use Rattle.messages.specs.declared.schema_files.SchemaFiles.{SchemaFiles as Held};
+ghost use Rattle.transcode_messages.specs.declared.schema_files.SchemaFiles.{SchemaFiles as Held};
 ghost use Rattle.ruvkhiska_c.specs.Listed.{listed_owns, listed_coded};
 
 use crate::parts::Parts;
-use messages::SchemaFiles;
 use std::alloc::Global;
 use std::marker::Model;
 use std::ptr::null_mut;
+use transcode_messages::SchemaFiles;
 
 /// In C one pointer.
 #[repr(C)]

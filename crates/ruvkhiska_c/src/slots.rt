@@ -4,9 +4,9 @@ ghost use Rattle.std.specs.Prelude.{◌≡◌, ◌↔◌, IsTrue, IsSome, None, 
 use crate::given::Given;
 use crate::kept::Kept;
 use crate::listed::Listed;
-use messages::{Message, Prepared, SchemaFiles};
 use std::alloc::Global;
 use std::ptr::null;
+use transcode_messages::{Message, Prepared, SchemaFiles};
 
 /// In C `struct { bool is_open; void *at; }`, zeros at first, and never copied while it is open: what was prepared.
 #[repr(C)]

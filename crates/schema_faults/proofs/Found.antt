@@ -1,9 +1,9 @@
 -- What is shown is what is found, the first in the order written.
 use Rattle.std.proofs.Common.{◌≡◌, ℕ, refl, Option, Some, None}
-use Rattle.label_tree.specs.Rose.{Rose}
-use Rattle.doc_text.specs.Tokens.{tokens, Ascend}
-use Rattle.item_tree.specs.declared.label.ItemLabel.{ItemLabel}
-use Rattle.schema_rules.specs.declared.why.SchemaWhy.{SchemaWhy}
+use Rattle.base_trees.specs.Rose.{Rose}
+use Rattle.xml_read.specs.Tokens.{tokens, Ascend}
+use Rattle.xml_items.specs.declared.label.ItemLabel.{ItemLabel}
+use Rattle.schema_syntax.specs.declared.why.SchemaWhy.{SchemaWhy}
 use Rattle.schema_faults.specs.Faults.{first_fault, reasons, fault_if}
 use Rattle.schema_faults.specs.Shown.{Shown, IsSchema}
 use Rattle.schema_faults.specs.declared.faults.DocumentFault.{DocumentFault}

@@ -2,7 +2,7 @@
 use Rattle.std.proofs.Common.{◌≡◌, inl, inr, ℕ, ◌+◌, ◌≤◌, List, [], ◌∷◌, Option, Some, None, refl, sym, ◌∙◌, subst, arith}
 use Rattle.schema_faults.specs.Faults.{LookedAt, first_fault}
 use Rattle.schema_faults.specs.Shown.{Stands, NoneBelow, NoneAtAll}
-use Rattle.schema_rules.specs.declared.why.SchemaWhy.{SchemaWhy}
+use Rattle.schema_syntax.specs.declared.why.SchemaWhy.{SchemaWhy}
 use Rattle.schema_faults.specs.declared.faults.DocumentFault.{DocumentFault}
 
 -- the places rise, from this one on

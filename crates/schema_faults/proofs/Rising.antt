@@ -1,20 +1,20 @@
 -- The places of the nodes that are looked at ascend, since those of all nodes do.
 use Rattle.std.proofs.Common.{ℕ, Bool, true, false, ◌+◌, ◌≤◌, List, [], ◌∷◌, ◌++◌, Option, None, sym, subst, arith, append_assoc}
 use Rattle.std.proofs.lemmas.List.{append-nil}
-use Rattle.label_tree.specs.Rose.{Rose, node, Roses, label_of, list_of}
-use Rattle.label_tree.specs.Rose as rose
-use Rattle.item_tree.specs.Labels.{item_place}
-use Rattle.doc_text.specs.Tokens.{Token, Opens, Closes, Words, tokens, tokens_all, Ascend}
-use Rattle.item_tree.specs.declared.label.ItemLabel.{ItemLabel}
-use Rattle.item_tree.specs.declared.label.ItemLabel.TheVariants.{Element, Text}
-use Rattle.schema_rules.specs.Elements.{placement}
+use Rattle.base_trees.specs.Rose.{Rose, node, Roses, label_of, list_of}
+use Rattle.base_trees.specs.Rose as rose
+use Rattle.xml_items.specs.Labels.{item_place}
+use Rattle.xml_read.specs.Tokens.{Token, Opens, Closes, Words, tokens, tokens_all, Ascend}
+use Rattle.xml_items.specs.declared.label.ItemLabel.{ItemLabel}
+use Rattle.xml_items.specs.declared.label.ItemLabel.TheVariants.{Element, Text}
+use Rattle.schema_syntax.specs.Elements.{placement}
 use Rattle.schema_faults.specs.Limits.{level_inside}
 use Rattle.schema_faults.specs.Faults.{LookedAt, own_reason, unless_composition, placed_at, position_behind, is_schema, outside, reasons_of, reasons_at, reasons_among, reasons}
-use Rattle.schema_rules.specs.declared.roles.ElementRole.{ElementRole}
-use Rattle.schema_rules.specs.declared.roles.ElementRole.TheVariants.{Schema, Composition}
-use Rattle.schema_rules.specs.declared.roles.Position.{Position}
-use Rattle.schema_rules.specs.declared.elements.Placement.{Placement}
-use Rattle.schema_rules.specs.declared.elements.Placement.TheVariants.{Skipped, Refused, Placed}
+use Rattle.schema_syntax.specs.declared.roles.ElementRole.{ElementRole}
+use Rattle.schema_syntax.specs.declared.roles.ElementRole.TheVariants.{Schema, Composition}
+use Rattle.schema_syntax.specs.declared.roles.Position.{Position}
+use Rattle.schema_syntax.specs.declared.elements.Placement.{Placement}
+use Rattle.schema_syntax.specs.declared.elements.Placement.TheVariants.{Skipped, Refused, Placed}
 use Rattle.schema_faults.proofs.Least.{Rising}
 
 module _ (bound : ℕ) where

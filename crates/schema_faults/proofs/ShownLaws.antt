@@ -1,11 +1,11 @@
 -- What is found is what is shown.
 use Rattle.std.proofs.Common.{◌≡◌, ◌⊎◌, inl, inr, ℕ, Option, Some, None, refl}
-use Rattle.label_tree.specs.Rose.{Rose}
-use Rattle.doc_text.specs.Tokens.{tokens, Ascend}
-use Rattle.item_tree.specs.declared.label.ItemLabel.{ItemLabel}
+use Rattle.base_trees.specs.Rose.{Rose}
+use Rattle.xml_read.specs.Tokens.{tokens, Ascend}
+use Rattle.xml_items.specs.declared.label.ItemLabel.{ItemLabel}
 use Rattle.schema_faults.specs.Faults.{reasons, first_fault}
 use Rattle.schema_faults.specs.Shown.{Shown, IsSchema}
-use Rattle.schema_rules.specs.declared.why.SchemaWhy.{SchemaWhy}
+use Rattle.schema_syntax.specs.declared.why.SchemaWhy.{SchemaWhy}
 use Rattle.schema_faults.specs.declared.faults.DocumentFault.{DocumentFault}
 use Rattle.schema_faults.proofs.Least.{first_shown, none_shown, one_fault}
 use Rattle.schema_faults.proofs.Rising.{reasons_rise}

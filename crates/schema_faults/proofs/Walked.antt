@@ -1,22 +1,22 @@
 -- The reasons against a node, by its label and its kids, and the first fault of several.
 use Rattle.std.proofs.Common.{◌≡◌, ℕ, ◌+◌, ◌<◌, true, false, List, [], ◌∷◌, ◌++◌, length, drop, get_or, Option, Some, None, refl, sym, ap, ◌∙◌}
 use Rattle.std.specs.Option.{option_or, is_some}
-use Rattle.xa_base.specs.declared.texts.Name.{Name}
-use Rattle.label_tree.specs.Rose.{Rose, node, Roses, roses_of, list_of, label_of, kids_of}
-use Rattle.label_tree.proofs.Roses.{roses_of-list_of}
-use Rattle.label_tree.proofs.Kids.{roses_of-drop}
-use Rattle.item_tree.specs.declared.label.ItemLabel.{ItemLabel}
-use Rattle.item_tree.specs.declared.label.ItemLabel.TheVariants.{Element, Text}
-use Rattle.schema_rules.specs.Elements.{placement}
+use Rattle.base_texts.specs.declared.texts.Name.{Name}
+use Rattle.base_trees.specs.Rose.{Rose, node, Roses, roses_of, list_of, label_of, kids_of}
+use Rattle.base_trees.proofs.Roses.{roses_of-list_of}
+use Rattle.base_trees.proofs.Kids.{roses_of-drop}
+use Rattle.xml_items.specs.declared.label.ItemLabel.{ItemLabel}
+use Rattle.xml_items.specs.declared.label.ItemLabel.TheVariants.{Element, Text}
+use Rattle.schema_syntax.specs.Elements.{placement}
 use Rattle.schema_faults.specs.Limits.{level_inside}
 use Rattle.schema_faults.specs.Reasons.{reason_against_text}
 use Rattle.schema_faults.specs.Faults.{LookedAt, first_fault, fault_if, own_reason, is_composition, unless_composition, placed_at, position_behind, reasons_of, reasons_at, reasons_among}
-use Rattle.schema_rules.specs.declared.roles.ElementRole.{ElementRole}
-use Rattle.schema_rules.specs.declared.roles.ElementRole.TheVariants.{Composition}
-use Rattle.schema_rules.specs.declared.roles.Part.{Part}
-use Rattle.schema_rules.specs.declared.elements.Placement.TheVariants.{Skipped, Refused, Placed}
-use Rattle.schema_rules.specs.declared.roles.Position.{Position}
-use Rattle.schema_rules.specs.declared.why.SchemaWhy.{SchemaWhy}
+use Rattle.schema_syntax.specs.declared.roles.ElementRole.{ElementRole}
+use Rattle.schema_syntax.specs.declared.roles.ElementRole.TheVariants.{Composition}
+use Rattle.schema_syntax.specs.declared.roles.Part.{Part}
+use Rattle.schema_syntax.specs.declared.elements.Placement.TheVariants.{Skipped, Refused, Placed}
+use Rattle.schema_syntax.specs.declared.roles.Position.{Position}
+use Rattle.schema_syntax.specs.declared.why.SchemaWhy.{SchemaWhy}
 use Rattle.schema_faults.specs.declared.faults.DocumentFault.{DocumentFault}
 
 first_or : (at : ℕ) (r : Option SchemaWhy) (a b c : Option DocumentFault) → a ≡ option_or b c

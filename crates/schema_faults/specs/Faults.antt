@@ -1,22 +1,22 @@
 -- The nodes of a schema document that are looked at, with the first reason against each.
 use Rattle.std.specs.Prelude.{ℕ, Bool, true, false, ◌&&◌, List, [], ◌∷◌, ◌++◌, bytes_eq, codes, Option, Some, None}
-use Rattle.xa_base.specs.declared.texts.Name.{Name}
-use Rattle.xa_base.specs.Namespaces.{xml_prefix, xml_space}
-use Rattle.label_tree.specs.Rose.{Rose, node, Roses, none, more, label_of, list_of}
-use Rattle.item_tree.specs.Labels.{item_place}
-use Rattle.item_tree.specs.declared.label.ItemLabel.{ItemLabel}
-use Rattle.item_tree.specs.declared.label.ItemLabel.TheVariants.{Element, Text}
-use Rattle.schema_rules.specs.Elements.{is_schema_name, placement}
-use Rattle.schema_rules.specs.Attributes.{own_attributes}
+use Rattle.base_texts.specs.declared.texts.Name.{Name}
+use Rattle.base_texts.specs.Namespaces.{xml_prefix, xml_space}
+use Rattle.base_trees.specs.Rose.{Rose, node, Roses, none, more, label_of, list_of}
+use Rattle.xml_items.specs.Labels.{item_place}
+use Rattle.xml_items.specs.declared.label.ItemLabel.{ItemLabel}
+use Rattle.xml_items.specs.declared.label.ItemLabel.TheVariants.{Element, Text}
+use Rattle.schema_syntax.specs.Elements.{is_schema_name, placement}
+use Rattle.schema_syntax.specs.Attributes.{own_attributes}
 use Rattle.schema_faults.specs.Limits.{level_inside}
 use Rattle.schema_faults.specs.Reasons.{reason_against, reason_against_text}
-use Rattle.schema_rules.specs.declared.elements.Placement.{Placement}
-use Rattle.schema_rules.specs.declared.elements.Placement.TheVariants.{Skipped, Refused, Placed}
-use Rattle.schema_rules.specs.declared.roles.ElementRole.{ElementRole}
-use Rattle.schema_rules.specs.declared.roles.ElementRole.TheVariants.{Schema, Composition}
-use Rattle.schema_rules.specs.declared.roles.Position.{Position}
-use Rattle.schema_rules.specs.declared.why.SchemaWhy.{SchemaWhy}
-use Rattle.schema_rules.specs.declared.why.SchemaWhy.TheVariants as why
+use Rattle.schema_syntax.specs.declared.elements.Placement.{Placement}
+use Rattle.schema_syntax.specs.declared.elements.Placement.TheVariants.{Skipped, Refused, Placed}
+use Rattle.schema_syntax.specs.declared.roles.ElementRole.{ElementRole}
+use Rattle.schema_syntax.specs.declared.roles.ElementRole.TheVariants.{Schema, Composition}
+use Rattle.schema_syntax.specs.declared.roles.Position.{Position}
+use Rattle.schema_syntax.specs.declared.why.SchemaWhy.{SchemaWhy}
+use Rattle.schema_syntax.specs.declared.why.SchemaWhy.TheVariants as why
 use Rattle.schema_faults.specs.declared.faults.DocumentFault.{DocumentFault}
 
 -- a node that is looked at: its place, and the first reason against it, if there is one

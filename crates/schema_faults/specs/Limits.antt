@@ -1,13 +1,13 @@
 -- What is more than this program takes.
 use Rattle.std.specs.Prelude.{◌+◌, ℕ, Bool, false, ◌||◌, nat_le, nat_lt, List, codes, Some, None, if◌then◌else◌}
-use Rattle.label_tree.specs.Rose.{Rose}
-use Rattle.item_tree.specs.declared.label.ItemLabel.{ItemLabel}
-use Rattle.xa_base.specs.Entries.{beside}
-use Rattle.schema_rules.specs.Digits.{is_large}
-use Rattle.schema_rules.specs.Children.{child_count}
-use Rattle.schema_rules.specs.declared.children.ChildSet.TheVariants.{TakenParticles, Attributes, Enumerations}
-use Rattle.schema_rules.specs.declared.roles.ElementRole.{ElementRole}
-use Rattle.schema_rules.specs.declared.roles.ElementRole.TheVariants.{Restriction, GlobalComplexType, InnerComplexType, Extension, Sequence, Choice, All}
+use Rattle.base_trees.specs.Rose.{Rose}
+use Rattle.xml_items.specs.declared.label.ItemLabel.{ItemLabel}
+use Rattle.base_texts.specs.Entries.{beside}
+use Rattle.schema_syntax.specs.Digits.{is_large}
+use Rattle.schema_syntax.specs.Children.{child_count}
+use Rattle.schema_syntax.specs.declared.children.ChildSet.TheVariants.{TakenParticles, Attributes, Enumerations}
+use Rattle.schema_syntax.specs.declared.roles.ElementRole.{ElementRole}
+use Rattle.schema_syntax.specs.declared.roles.ElementRole.TheVariants.{Restriction, GlobalComplexType, InnerComplexType, Extension, Sequence, Choice, All}
 
 -- a number of occurrences of 2^32 or more
 abbrev pub has_large : List ℕ → List (List ℕ × List ℕ) → Bool

@@ -2,23 +2,23 @@
 use Rattle.std.specs.Prelude.{◌==◌, ℕ, Bool, true, false, ◌||◌, ◌&&◌, not, nat_le, List, [], ◌∷◌, codes, Option, Some, None, unwrap_or, if◌then◌else◌}
 use Rattle.std.specs.List.{list_any}
 use Rattle.std.specs.Option.{option_or}
-use Rattle.xa_base.specs.Entries.{beside, first_true}
-use Rattle.xa_base.specs.WhiteSpace.{is_blank, words_of}
-use Rattle.label_tree.specs.Rose.{Rose, label_of}
-use Rattle.simple_values.specs.Lexical.{boolean_of}
-use Rattle.item_tree.specs.declared.label.ItemLabel.{ItemLabel}
-use Rattle.item_tree.specs.declared.label.ItemLabel.TheVariants.{Element, Text}
-use Rattle.schema_rules.specs.Attributes.{has, has_unknown, own_attributes}
-use Rattle.schema_rules.specs.Values.{has_bad_value, least_of, never_occurs}
-use Rattle.schema_rules.specs.References.{TypeName, Known, LeftOut, Elsewhere, type_name}
-use Rattle.schema_rules.specs.Children.{is_in}
+use Rattle.base_texts.specs.Entries.{beside, first_true}
+use Rattle.base_texts.specs.WhiteSpace.{is_blank, words_of}
+use Rattle.base_trees.specs.Rose.{Rose, label_of}
+use Rattle.simple_types.specs.Lexical.{boolean_of}
+use Rattle.xml_items.specs.declared.label.ItemLabel.{ItemLabel}
+use Rattle.xml_items.specs.declared.label.ItemLabel.TheVariants.{Element, Text}
+use Rattle.schema_syntax.specs.Attributes.{has, has_unknown, own_attributes}
+use Rattle.schema_syntax.specs.Values.{has_bad_value, least_of, never_occurs}
+use Rattle.schema_syntax.specs.References.{TypeName, Known, LeftOut, Elsewhere, type_name}
+use Rattle.schema_syntax.specs.Children.{is_in}
 use Rattle.schema_faults.specs.Requirements.{lacks_required, has_both_forms, is_untyped}
 use Rattle.schema_faults.specs.Limits.{is_over_limit}
-use Rattle.schema_rules.specs.declared.children.ChildSet.TheVariants.{Particles}
-use Rattle.schema_rules.specs.declared.roles.ElementRole.{ElementRole}
-use Rattle.schema_rules.specs.declared.roles.ElementRole.TheVariants.{GlobalElement, LocalElement, GlobalAttribute, LocalAttribute, Choice, All, AllElement}
-use Rattle.schema_rules.specs.declared.why.SchemaWhy.{SchemaWhy}
-use Rattle.schema_rules.specs.declared.why.SchemaWhy.TheVariants as why
+use Rattle.schema_syntax.specs.declared.children.ChildSet.TheVariants.{Particles}
+use Rattle.schema_syntax.specs.declared.roles.ElementRole.{ElementRole}
+use Rattle.schema_syntax.specs.declared.roles.ElementRole.TheVariants.{GlobalElement, LocalElement, GlobalAttribute, LocalAttribute, Choice, All, AllElement}
+use Rattle.schema_syntax.specs.declared.why.SchemaWhy.{SchemaWhy}
+use Rattle.schema_syntax.specs.declared.why.SchemaWhy.TheVariants as why
 
 abbrev pub is_element : ElementRole → Bool
 is_element GlobalElement = true

@@ -1,14 +1,14 @@
 -- What an element has to have, and what it may not have at once (XML Schema Part 1, sections 3.2.3, 3.3.3, 3.4.3 and 3.14.3).
 use Rattle.std.specs.Prelude.{ℕ, Bool, true, false, ◌||◌, ◌&&◌, not, List, bytes_eq, codes, Some, None}
-use Rattle.xa_base.specs.Limits.{is_empty}
-use Rattle.label_tree.specs.Rose.{Rose}
-use Rattle.item_tree.specs.declared.label.ItemLabel.{ItemLabel}
-use Rattle.xa_base.specs.Entries.{beside}
-use Rattle.schema_rules.specs.Attributes.{has}
-use Rattle.schema_rules.specs.Children.{has_child}
-use Rattle.schema_rules.specs.declared.children.ChildSet.TheVariants.{Types, SimpleTypes, Varieties, Derivations}
-use Rattle.schema_rules.specs.declared.roles.ElementRole.{ElementRole}
-use Rattle.schema_rules.specs.declared.roles.ElementRole.TheVariants.{Schema, Composition, GlobalElement, LocalElement, GlobalAttribute, LocalAttribute, GlobalSimpleType, InnerSimpleType, Restriction, List as ListRole, Union, Facet, GlobalComplexType, InnerComplexType, SimpleContent, Extension, Sequence, Choice, All, AllElement}
+use Rattle.base_texts.specs.Limits.{is_empty}
+use Rattle.base_trees.specs.Rose.{Rose}
+use Rattle.xml_items.specs.declared.label.ItemLabel.{ItemLabel}
+use Rattle.base_texts.specs.Entries.{beside}
+use Rattle.schema_syntax.specs.Attributes.{has}
+use Rattle.schema_syntax.specs.Children.{has_child}
+use Rattle.schema_syntax.specs.declared.children.ChildSet.TheVariants.{Types, SimpleTypes, Varieties, Derivations}
+use Rattle.schema_syntax.specs.declared.roles.ElementRole.{ElementRole}
+use Rattle.schema_syntax.specs.declared.roles.ElementRole.TheVariants.{Schema, Composition, GlobalElement, LocalElement, GlobalAttribute, LocalAttribute, GlobalSimpleType, InnerSimpleType, Restriction, List as ListRole, Union, Facet, GlobalComplexType, InnerComplexType, SimpleContent, Extension, Sequence, Choice, All, AllElement}
 
 -- a type in place, where one by its name may stand instead
 abbrev pub has_inner_type : ElementRole → List (Rose ItemLabel) → Bool

@@ -1,9 +1,9 @@
 -- What a schema document's first fault is: the least place against which a reason stands, and the first reason there.
 use Rattle.std.specs.Prelude.{◌≡◌, ◌⊎◌, ℕ, ◌≤◌, List, [], ◌∷◌, Some, None}
-use Rattle.label_tree.specs.Rose.{Rose}
-use Rattle.item_tree.specs.declared.label.ItemLabel.{ItemLabel}
+use Rattle.base_trees.specs.Rose.{Rose}
+use Rattle.xml_items.specs.declared.label.ItemLabel.{ItemLabel}
 use Rattle.schema_faults.specs.Faults.{LookedAt, reasons}
-use Rattle.schema_rules.specs.declared.why.SchemaWhy.{SchemaWhy}
+use Rattle.schema_syntax.specs.declared.why.SchemaWhy.{SchemaWhy}
 
 -- the reason is the first against the node at this place
 abbrev pub Stands : ℕ → SchemaWhy → List LookedAt → Type 0

@@ -1,20 +1,20 @@
 //! The first fault of a schema document.
 ghost use Rattle.std.specs.Prelude.{◌≡◌, Some, IfOk, IfSome};
-ghost use Rattle.label_tree.specs.Rose.{Rose, label_of, roses_of};
-ghost use Rattle.item_tree.specs.declared.label.ItemLabel.{ItemLabel};
-ghost use Rattle.schema_rules.specs.Scopes.{bindings_in};
+ghost use Rattle.base_trees.specs.Rose.{Rose, label_of, roses_of};
+ghost use Rattle.xml_items.specs.declared.label.ItemLabel.{ItemLabel};
+ghost use Rattle.schema_syntax.specs.Scopes.{bindings_in};
 ghost use Rattle.schema_faults.specs.Faults as faults;
 
 use crate::limits::level_inside;
 use crate::reasons::{reason_against, reason_against_text};
-use doc_text::ItemLabel;
-use label_tree::Tree;
-use schema_rules::{
+use base_texts::{Memory, Name, Text};
+use base_trees::Tree;
+use schema_syntax::{
     ElementRole, NamespaceScope, Placement, Position, SchemaWhy, is_schema_name, own_attributes,
     placement_in,
 };
 use std::alloc::Global;
-use xa_base::{Memory, Name, Text};
+use xml_read::ItemLabel;
 
 /// The first reason against an element or a text, with its place in bytes from 0.
 #[derive(Clone, Copy, Debug, PartialEq, Eq)]

@@ -1,9 +1,9 @@
 //! What holds of schema documents.
 ghost use Rattle.std.specs.Prelude.{◌≡◌, ◌⊎◌, ◌↔◌, ℕ, Some, None};
-ghost use Rattle.label_tree.specs.Rose.{Rose};
-ghost use Rattle.doc_text.specs.Tokens.{tokens, Ascend};
-ghost use Rattle.item_tree.specs.declared.label.ItemLabel.{ItemLabel};
-ghost use Rattle.schema_rules.specs.declared.why.SchemaWhy.{SchemaWhy};
+ghost use Rattle.base_trees.specs.Rose.{Rose};
+ghost use Rattle.xml_read.specs.Tokens.{tokens, Ascend};
+ghost use Rattle.xml_items.specs.declared.label.ItemLabel.{ItemLabel};
+ghost use Rattle.schema_syntax.specs.declared.why.SchemaWhy.{SchemaWhy};
 ghost use Rattle.schema_faults.specs.Faults.{first_fault, reasons, fault_if};
 ghost use Rattle.schema_faults.specs.Shown.{Shown, IsSchema};
 

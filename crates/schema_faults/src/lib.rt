@@ -1,4 +1,4 @@
-//! The first fault of a schema document: the reasons against its elements, in the order in which they are written.
+//! Finds the first fault of a schema document, by the order of the reasons.
 //!
 //! Read first: `specs/Reasons` and `specs/Faults`, then `first_fault` in `src/faults.rt`.
 #![tactic(auto)]

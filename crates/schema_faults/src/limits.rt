@@ -2,10 +2,10 @@
 ghost use Rattle.std.specs.Prelude.{◌≡◌};
 ghost use Rattle.schema_faults.specs.Limits as limit;
 
-use doc_text::ItemLabel;
-use label_tree::Tree;
-use schema_rules::{ChildSet, ElementRole, child_count, is_large, value_of};
-use xa_base::Text;
+use base_texts::Text;
+use base_trees::Tree;
+use schema_syntax::{ChildSet, ElementRole, child_count, is_large, value_of};
+use xml_read::ItemLabel;
 
 /// How many levels of groups one content model may have.
 const MOST_LEVELS: u32 = 16;

@@ -1,23 +1,23 @@
 //! The first reason against an element whose name may stand where it stands.
 ghost use Rattle.std.specs.Prelude.{◌≡◌, IfOk};
 ghost use Rattle.std.specs.List.{list_any};
-ghost use Rattle.label_tree.specs.Rose.{label_of};
-ghost use Rattle.xa_base.specs.Entries.{first_true};
-ghost use Rattle.xa_base.specs.WhiteSpace.{words_of};
-ghost use Rattle.schema_rules.specs.Scopes.{bindings_in};
+ghost use Rattle.base_trees.specs.Rose.{label_of};
+ghost use Rattle.base_texts.specs.Entries.{first_true};
+ghost use Rattle.base_texts.specs.WhiteSpace.{words_of};
+ghost use Rattle.schema_syntax.specs.Scopes.{bindings_in};
 ghost use Rattle.schema_faults.specs.Reasons as reason;
 
 use crate::limits::is_over_limit;
 use crate::requirements::{has_both_forms, is_untyped, lacks_required};
-use doc_text::ItemLabel;
-use label_tree::Tree;
-use schema_rules::{
+use base_texts::{Memory, Text, first_word, is_blank};
+use base_trees::Tree;
+use schema_syntax::{
     ChildSet, ElementRole, NamespaceScope, SchemaWhy, TypeName, has_attribute, has_bad_value,
     has_unknown, is_in, least_of, never_occurs, own_attributes, type_of, value_of,
 };
-use simple_values::boolean_of;
+use simple_types::boolean_of;
 use std::alloc::Global;
-use xa_base::{Memory, Text, first_word, is_blank};
+use xml_read::ItemLabel;
 
 // Whether the attribute of this name is true.
 fn is_true(name: &str, own: &[(Text, Text)]) -> bool

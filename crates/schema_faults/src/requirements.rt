@@ -2,10 +2,10 @@
 ghost use Rattle.std.specs.Prelude.{◌≡◌};
 ghost use Rattle.schema_faults.specs.Requirements as rule;
 
-use doc_text::ItemLabel;
-use label_tree::Tree;
-use schema_rules::{ChildSet, ElementRole, has_attribute, has_child, value_of};
-use xa_base::Text;
+use base_texts::Text;
+use base_trees::Tree;
+use schema_syntax::{ChildSet, ElementRole, has_attribute, has_child, value_of};
+use xml_read::ItemLabel;
 
 // Whether a type stands in an element of this role that takes the place of one by its name.
 fn has_inner_type(role: ElementRole, kids: &[Tree<ItemLabel>]) -> bool

@@ -1,8 +1,8 @@
 -- The components of the children of `schema` one after the other.
 use Rattle.std.proofs.Common.{◌≡◌, ℕ, true, ◌<◌, ◌≤◌, ◌+◌, List, ◌∷◌, ◌++◌, length, map, drop, get_or, ap, sym, ◌∙◌, append_assoc}
 use Rattle.schema_read.proofs.Words.{append-nil, drop_all, drop_more, Rose, label_of, ItemLabel, Element, Name, is_schema_name, own_attributes, Attribute, TypeDefinition, Local, Document, element_of, attribute_of, type_of, local_of, Globals, Settings, Parts, no_parts, parts_named, parts_by, parts_among, document_with, Adds, Are, cond-true}
-use Rattle.schema_parts.specs.Raw as raw
-use Rattle.schema_parts.specs.Parts.{parts_of}
+use Rattle.schema_components.specs.Raw as raw
+use Rattle.schema_components.specs.Parts.{parts_of}
 use Rattle.schema_read.specs.Raw.{and_parts}
 use Rattle.schema_read.proofs.Making.{length_after}
 

@@ -1,9 +1,9 @@
 -- Simple types one after another.
 use Rattle.std.proofs.Common.{◌≡◌, ℕ, zero, suc, Bool, true, false, Some, Box, Global, ◌<◌, List, [], ◌∷◌, ◌++◌, length, get_or, refl, ap, sym, ◌∙◌, arith, ◌==◌, not}
 use Rattle.schema_read.proofs.Words.{eqb-true, Base, Named, Inner, Bases, none, more, base_of, bases_in, how_of, simple_of, named_base, inner_base, RawRef, Other, no_name, joined, first_or_none, and_inner}
-use Rattle.schema_parts.specs.declared.simple_definitions.RawSimple.{RawSimple}
-use Rattle.schema_parts.specs.declared.simple_definitions.RawBase.{RawBase}
-use Rattle.schema_parts.specs.declared.simple_definitions.RawBase.TheVariants as base
+use Rattle.schema_components.specs.declared.simple_definitions.RawSimple.{RawSimple}
+use Rattle.schema_components.specs.declared.simple_definitions.RawBase.{RawBase}
+use Rattle.schema_components.specs.declared.simple_definitions.RawBase.TheVariants as base
 
 pub joined-none : (bases : Bases) → joined bases none ≡ bases
 joined-none none = refl

@@ -1,10 +1,10 @@
 -- The content models of a document name each of its local declarations once.
 use Rattle.std.proofs.Common.{◌≡◌, ℕ, ◌+◌, ◌≤◌, Bool, true, cond, List, [], ◌∷◌, ◌++◌, length, count_by, append_assoc, inl, inr, refl, ap, sym, ◌∙◌, subst, arith, ◌==◌}
 use Rattle.schema_read.proofs.Words.{and_parts, eqb-true, append-nil, Name, Rose, node, list_of, ParticleKind, ParticleLabel, RawContent, Bases, How, Use, Kind, Local, Own, none, leaves_of_model, model_in_content, model_in_kind, models_in_elements, models_in_types, models_in_locals, leaves_of_models, numbered, IsFrom, ModelsStand, Nested, IsCoherent, local_name, use_to, own_use, facets_among, Settings, takes_each, is_nothing, element_with, leaf_of, group_of, Parts, document_with}
-use Rattle.label_tree.specs.Rose as rose
+use Rattle.base_trees.specs.Rose as rose
 use Rattle.content_models.specs.declared.particles.ParticleKind.TheVariants as particle
-use Rattle.schema_parts.specs.declared.declarations.RawContent.TheVariants as content
-use Rattle.schema_parts.specs.Raw as raw
+use Rattle.schema_components.specs.declared.declarations.RawContent.TheVariants as content
+use Rattle.schema_components.specs.Raw as raw
 use Rattle.schema_read.proofs.Leaves.{in_elements, in_types, in_locals, count_append, count_more, count_models, count_both, count_numbered, models_later, models_append, nested_append, group_stands, leaves_of_group}
 use Rattle.schema_read.proofs.Reading.{Reading, and_reading, of_body, of_parts, Around, Extent, own_of, IsNothing, IsModel, ContentBy, by_compositor, members, Rules}
 

@@ -3,12 +3,12 @@ use Rattle.std.proofs.Common.{◌≡◌, ℕ, ◌<◌, true, List, [], ◌∷◌
 use Rattle.schema_read.proofs.Words.{list_all, slice_split, onto_first, join_with_byte, IsCharBoundary, and_parts, cond_both, take-append_seam, drop-append_seam, get_or-append_seam, has_xml_chars, is_white_space, has_bytes, Collapse}
 use Rattle.std.specs.Str.{chars, is_utf8}
 use Rattle.std.proofs.Math.Utf8.{encode}
-use Rattle.xa_base.specs.Characters.{is_xml_char}
-use Rattle.xa_base.specs.WhiteSpace.{words_of, treated}
+use Rattle.base_texts.specs.Characters.{is_xml_char}
+use Rattle.base_texts.specs.WhiteSpace.{words_of, treated}
 use Rattle.std.proofs.lemmas.List.Folds.{list_all-append}
 use Rattle.std.proofs.lemmas.Str.{chars-append, chars_past_char, encode_ascii, IsUtf8-take, IsUtf8-drop, IsUtf8-from_is_utf8, IsCharBoundary-before_ascii, IsCharBoundary-after_ascii}
-use Rattle.xa_base.proofs.FirstWord.{white_space-ascii}
-use Rattle.doc_text.proofs.Keeping.{IsFine, fine_chars, nothing_fine, fine-append}
+use Rattle.base_texts.proofs.FirstWord.{white_space-ascii}
+use Rattle.xml_read.proofs.Keeping.{IsFine, fine_chars, nothing_fine, fine-append}
 use Rattle.schema_read.proofs.FaultlessRoles.{Each}
 
 -- ---- what stands before an ASCII byte, and behind it

@@ -2,10 +2,10 @@
 use Rattle.std.proofs.Common.{◌≡◌, ℕ, ◌+◌, ◌≤◌, Bool, cond, List, [], ◌∷◌, ◌++◌, inl, inr, refl, ap, ◌∙◌, count_by, arith}
 use Rattle.schema_read.proofs.Words.{flat_map, append-nil, sum_by-append, Rose, node, roses_of, list_of, label_of, ParticleLabel, RawContent, Bases, none, more, How, ComplexKind, Own, places_in_base, places_in_how, places_in_bases, places_in_use, places_in_model, places_among, places_in_mixed, places_in_content, places_in_kind, places_in_local, places_in_element, places_in_attribute, places_in_definition, places_in, StandAmong, counted_among, local_name, own_use, attribute_by, declared_name, joined, Settings, element_with, group_of, Parts}
 use Rattle.std.proofs.lemmas.List.Concat.{flat_map-append}
-use Rattle.label_tree.specs.Rose as rose
-use Rattle.schema_parts.specs.declared.declarations.RawContent.TheVariants as content
-use Rattle.schema_parts.specs.Raw as raw
-use Rattle.schema_parts.specs.Places.{group_place}
+use Rattle.base_trees.specs.Rose as rose
+use Rattle.schema_components.specs.declared.declarations.RawContent.TheVariants as content
+use Rattle.schema_components.specs.Raw as raw
+use Rattle.schema_components.specs.Places.{group_place}
 use Rattle.schema_read.proofs.Reading.{Reading, and_reading, of_parts, Around, Extent, Site, own_of, scope_of, IsModel, ContentBy, by_compositor, members, Rules}
 
 module _ (test : ℕ → Bool) where

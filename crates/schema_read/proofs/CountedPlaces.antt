@@ -1,7 +1,7 @@
 -- The places that the limit of components counts ascend.
 use Rattle.std.proofs.Common.{ℕ, ◌+◌, ◌≤◌, Bool, true, false, cond, List, [], ◌∷◌, arith}
 use Rattle.schema_read.proofs.Words.{Rose, node, Roses, ItemLabel, Element, Text, is_counted, is_looked_into, counted_here, counted_inside, counted_at, counted_among}
-use Rattle.label_tree.specs.Rose as rose
+use Rattle.base_trees.specs.Rose as rose
 use Rattle.schema_read.proofs.ItemPlaces.{Spans, SpansAll, span_le, span_all_le}
 use Rattle.schema_read.proofs.RisingPlaces.{Rise, rise_append}
 

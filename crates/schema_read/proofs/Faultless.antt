@@ -2,11 +2,11 @@
 use Rattle.std.proofs.Common.{◌≡◌, ℕ, Bool, true, false, cond, List, [], ◌∷◌, ◌++◌, Option, Some, None, refl, subst, bytes_eq, codes, not}
 use Rattle.schema_read.proofs.Words.{list_any, option_or, Name, beside, first_true, Rose, node, Roses, list_of, ItemLabel, Element, is_schema_name, left_out, element_names, children, may_stand, refused_or, placement_of, has_unknown, has_bad_value, ElementRole, Position, Part, lacks_required, has_both_forms, is_over_limit, level_inside, early_tests, left_out_attributes, left_out_reference, untyped, is_empty_choice, late_tests, LookedAt, own_reason, unless_composition, placed_at, reasons_at, reasons_among, NoneAtAll}
 use Rattle.schema_faults.specs.Reasons.{reason_against}
-use Rattle.schema_rules.specs.Elements.{placed}
-use Rattle.schema_rules.specs.declared.why.SchemaWhy.{SchemaWhy}
-use Rattle.schema_rules.specs.declared.why.SchemaWhy.TheVariants as why
-use Rattle.schema_rules.specs.declared.elements.Placement.{Placement}
-use Rattle.schema_rules.specs.declared.elements.Placement.TheVariants.{Skipped, Refused, Placed}
+use Rattle.schema_syntax.specs.Elements.{placed}
+use Rattle.schema_syntax.specs.declared.why.SchemaWhy.{SchemaWhy}
+use Rattle.schema_syntax.specs.declared.why.SchemaWhy.TheVariants as why
+use Rattle.schema_syntax.specs.declared.elements.Placement.{Placement}
+use Rattle.schema_syntax.specs.declared.elements.Placement.TheVariants.{Skipped, Refused, Placed}
 
 -- no reason stands against either
 pub none_parts : (xs ys : List LookedAt) → NoneAtAll (xs ++ ys) → NoneAtAll xs × NoneAtAll ys

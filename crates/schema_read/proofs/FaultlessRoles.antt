@@ -1,7 +1,7 @@
 -- The roles of the elements that are read in a document without a fault.
 use Rattle.std.proofs.Common.{◌≡◌, ℕ, true, false, List, [], ◌∷◌, ◌++◌, Option, Some, None, inl, inr, refl, ap, sym, ◌∙◌, subst, bytes_eq, codes, ◌⊎◌}
 use Rattle.schema_read.proofs.Words.{list_any, or_cases, and_parts, bytes_eq-Decides, Name, beside, node, Roses, list_of, ItemLabel, Element, is_schema_name, part, children, own_attributes, names_in, is_in, Particles, Attributes, Varieties, ElementRole, Schema, GlobalElement, LocalElement, GlobalAttribute, LocalAttribute, GlobalSimpleType, InnerSimpleType, GlobalComplexType, InnerComplexType, Sequence, Choice, All, AllElement, Restriction, ListRole, Union, SimpleContent, Extension, Position, Anywhere, First, Alone, Part, level_inside, LookedAt, unless_composition, reasons_at, reasons_among, NoneAtAll, is_named}
-use Rattle.schema_rules.specs.declared.children.ChildSet.{ChildSet}
+use Rattle.schema_syntax.specs.declared.children.ChildSet.{ChildSet}
 use Rattle.schema_read.proofs.Faultless.{Stands, stands, Passes, passes}
 
 -- ---- one of some names

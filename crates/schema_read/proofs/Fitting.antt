@@ -1,8 +1,8 @@
 -- The particles of a document without a fault may occur, and stand in at most 16 levels of groups.
 use Rattle.std.proofs.Common.{◌≡◌, ℕ, suc, ◌+◌, ◌≤◌, max, true, List, [], ◌∷◌, inl, inr, refl, sym, subst, arith, ◌&&◌, nat_le}
 use Rattle.schema_read.proofs.Words.{and_from, le-leb, Rose, roses_of, height, depth_all, ParticleLabel, RawContent, Local, allow_one, all_allow_one, each_allows_one, fits, content_fits, kind_fits, type_fits, local_fits, elements_fit, types_fit, locals_fit, all_fit, least_of, most_of, ElementRole, Settings, leaf_of, Parts, declared_name}
-use Rattle.schema_parts.specs.declared.declarations.RawContent.TheVariants as content
-use Rattle.schema_parts.specs.Raw as raw
+use Rattle.schema_components.specs.declared.declarations.RawContent.TheVariants as content
+use Rattle.schema_components.specs.Raw as raw
 use Rattle.schema_read.proofs.Occurrences.{may_occur}
 use Rattle.schema_read.proofs.Reading.{Around, Site, own_of, scope_of, of_parts, LeafFact, ContentBy, IsModel}
 use Rattle.schema_read.proofs.Points.{Every, every_true, Property, Points, Each}

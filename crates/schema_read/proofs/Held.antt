@@ -1,8 +1,8 @@
 -- The values of the code can hold the components of a document without a fault: each choice has a particle, and a place is below the end of the document.
 use Rattle.std.proofs.Common.{◌≡◌, ℕ, ◌+◌, ◌≤◌, true, false, List, [], ◌∷◌, ◌++◌, length, inl, inr, refl, sym, subst, arith, ◌&&◌, ◌==◌, not, Bool}
 use Rattle.schema_read.proofs.Words.{list_any, Rose, Roses, roses_of, list_of, label_of, length_all, Allowed, AllowedAll, ItemLabel, KindMayHave, MayHave, ParticleLabel, RawContent, Local, never_occurs, ElementRole, Sequence, Choice, All, is_empty_choice, occurs, Settings, is_nothing, compositor, group_of, ContentHeld, KindHeld, ElementHeld, LocalHeld, TypeHeld, LocalsHeld}
-use Rattle.label_tree.specs.Rose as rose
-use Rattle.schema_parts.specs.declared.declarations.RawContent.TheVariants as content
+use Rattle.base_trees.specs.Rose as rose
+use Rattle.schema_components.specs.declared.declarations.RawContent.TheVariants as content
 use Rattle.schema_read.proofs.FaultlessRoles.{IsGroupRole, IsAll, HasGroup, word_of_particle, no_group_in_both}
 use Rattle.schema_read.proofs.Reading.{own_of, ContentBy, IsModel}
 use Rattle.schema_read.proofs.Points.{Every, every_as, Property, Points}

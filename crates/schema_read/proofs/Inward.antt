@@ -1,9 +1,9 @@
 -- Each part of a document stands behind the part that it stands in, and an element particle has the place of its declaration.
 use Rattle.std.proofs.Common.{◌≡◌, ℕ, ◌<◌, true, List, [], Some, inl, inr, refl, ap, sym, ◌∙◌, subst, ◌&&◌, nat_lt, slice_get}
 use Rattle.schema_read.proofs.Words.{and_parts, and_from, lt-ltb, eq-eqb, Name, Rose, roses_of, label_of, ParticleLabel, RawContent, Bases, none, more, Local, local_place, local_name, Settings, nothing, element_with, leaf_of, group_of, Parts}
-use Rattle.schema_parts.specs.declared.declarations.RawContent.TheVariants as content
-use Rattle.schema_parts.specs.Raw as raw
-use Rattle.schema_parts.specs.Inward.{is_behind, base_inward, how_inward, bases_inward, use_inward, uses_inward, has_place, label_declared, label_inward, model_inward, each_inward, content_inward, body_inward, kind_inward, local_inward, definition_inward, elements_inward, attributes_inward, types_inward, locals_inward}
+use Rattle.schema_components.specs.declared.declarations.RawContent.TheVariants as content
+use Rattle.schema_components.specs.Raw as raw
+use Rattle.schema_components.specs.Inward.{is_behind, base_inward, how_inward, bases_inward, use_inward, uses_inward, has_place, label_declared, label_inward, model_inward, each_inward, content_inward, body_inward, kind_inward, local_inward, definition_inward, elements_inward, attributes_inward, types_inward, locals_inward}
 use Rattle.schema_read.proofs.Reading.{Around, own_of, of_parts, ContentBy, IsModel, by_compositor, members}
 use Rattle.schema_read.proofs.Points.{Every, EveryBase, every_true, Property, Points, Each}
 

@@ -1,7 +1,7 @@
 -- Where the nodes of a tree of items stand: what stands in a node stands behind it, and before what is written behind the node.
 use Rattle.std.proofs.Common.{ℕ, ◌+◌, ◌<◌, ◌≤◌, List, [], ◌∷◌, ◌++◌, append_assoc, subst, sym, arith}
 use Rattle.schema_read.proofs.Words.{append-nil, Rose, node, Roses, item_place, Token, Closes, tokens, tokens_all, Ascend, ItemLabel, Element, Text}
-use Rattle.label_tree.specs.Rose as rose
+use Rattle.base_trees.specs.Rose as rose
 
 abbrev mutual
   -- all places of the tree are from the first number on and below the second one

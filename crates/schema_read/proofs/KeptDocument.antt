@@ -1,7 +1,7 @@
 -- Each document that is read keeps what a document has to keep.
 use Rattle.std.proofs.Common.{◌≡◌, ℕ, ◌+◌, ◌≤◌, Bool, true, false, List, [], ◌∷◌, ◌++◌, Some, None, refl, ap, sym, subst, arith}
 use Rattle.schema_read.proofs.Words.{Rose, Roses, node, list_of, label_of, roses_of-list_of, item_place, is_sound, levels, tokens, Ascend, ItemLabel, Element, Text, own_attributes, Schema, is_schema, outside, reasons_of, NoneAtAll, IsSchema, counted_among, Keeps, ElementHeld, TypeHeld, LocalHeld, ElementsHeld, TypesHeld, LocalsHeld, Settings, settings_of, Parts, parts_among, document_with, raw_of}
-use Rattle.schema_rules.specs.declared.why.SchemaWhy.TheVariants.{NotASchema}
+use Rattle.schema_syntax.specs.declared.why.SchemaWhy.TheVariants.{NotASchema}
 use Rattle.schema_read.proofs.Faultless.{passes}
 use Rattle.schema_read.proofs.OwnNames.{IsSpace, own_space}
 use Rattle.schema_read.proofs.ItemPlaces.{document_spans}

@@ -1,10 +1,10 @@
 -- The element particles of content models, and the local declarations that they are.
 use Rattle.std.proofs.Common.{◌≡◌, ℕ, ◌+◌, ◌≤◌, Bool, cond, List, [], ◌∷◌, ◌++◌, length, count_by, refl, append_assoc, ap, sym, ◌∙◌, subst, arith}
 use Rattle.schema_read.proofs.Words.{sum_by-cons, sum_by-append, Name, Rose, node, Roses, roses_of, ParticleKind, ParticleLabel, Local, TypeDefinition, all_leaves, leaves_of_model, model_in_kind, model_in_local, model_in_type, models_in_elements, models_in_types, models_in_locals, leaves_of_models, name_of, numbered, IsFrom, EachStands, AllStand, ModelsStand, Nested, least_of, most_of, group_of}
-use Rattle.label_tree.specs.Rose as rose
+use Rattle.base_trees.specs.Rose as rose
 use Rattle.content_models.specs.Seen.{all_seen}
 use Rattle.content_models.specs.declared.particles.ParticleKind.TheVariants as particle
-use Rattle.schema_parts.specs.Raw as raw
+use Rattle.schema_components.specs.Raw as raw
 use Rattle.schema_read.proofs.Reading.{by_compositor}
 
 -- ---- models one behind the other

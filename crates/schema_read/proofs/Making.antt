@@ -1,7 +1,7 @@
 -- What particles and types are, by the label and the kids of their elements.
 use Rattle.std.proofs.Common.{◌≡◌, ℕ, zero, suc, ◌<◌, ◌≤◌, ◌+◌, Bool, true, false, cond, List, [], ◌∷◌, ◌++◌, length, map, drop, get_or, refl, ap, sym, ◌∙◌, subst, Option, Some, None, append_assoc, length-append, arith, ◌&&◌, not, codes, set}
 use Rattle.schema_read.proofs.Words.{append-nil, drop_all, length-map, set-append_seam, and_left, Name, Rose, node, Roses, roses_of, list_of, label_of, kids_of, roses_of-list_of, roses_of-drop, ItemLabel, Element, Text, ParticleLabel, RawLocal, Simple, Complex, Kind, SimpleKind, ComplexKind, Local, Own, local_of, own_attributes, is_in, Particles, never_occurs, is_true, occurs, Settings, is_named, simple_type, Made, made, made_some, Makes, and_some, and_particle, first_kind, particle_by, complex_of, element_by, kind_by, declared_with, first_group, particle_at, particles_among, group_among, inner_kind, complex_type}
-use Rattle.schema_parts.specs.Raw as raw
+use Rattle.schema_components.specs.Raw as raw
 
 -- ---- what is made
 

@@ -1,8 +1,8 @@
 -- The rule of declared names, and that of items.
 use Rattle.std.proofs.Common.{◌≡◌, Bool, true, false, ◌&&◌, not, refl, ◌||◌, bytes_eq}
 use Rattle.schema_read.proofs.Words.{is_namespace, is_name_part, xmlns_space, xsi_space, Name}
-use Rattle.doc_text.specs.Sound as items
-use Rattle.schema_parts.specs.Declarable as schemas
+use Rattle.xml_read.specs.Sound as items
+use Rattle.schema_components.specs.Declarable as schemas
 
 regrouped : (space part xmlns instance : Bool) → (space && part && not (xmlns || (instance || false))) ≡ (space && not xmlns && part && not instance)
 regrouped false part xmlns instance = refl

@@ -1,7 +1,7 @@
 -- The names that a document without a fault declares.
 use Rattle.std.proofs.Common.{◌≡◌, ℕ, true, false, List, None, refl, ◌&&◌, not, codes}
 use Rattle.schema_read.proofs.Words.{and_from, or_parts, not-false, beside, Rose, list_of, ItemLabel, Local, is_declarable, has, has_child, Varieties, ElementRole, GlobalElement, LocalElement, AllElement, GlobalAttribute, LocalAttribute, GlobalSimpleType, GlobalComplexType, lacks_required, declared_name, local_name, Settings, Parts}
-use Rattle.schema_parts.specs.DeclaredNames.{use_named, uses_named, kind_named, element_named, local_named, attribute_named, type_named, elements_named, attributes_named, types_named, locals_named, all_named}
+use Rattle.schema_components.specs.DeclaredNames.{use_named, uses_named, kind_named, element_named, local_named, attribute_named, type_named, elements_named, attributes_named, types_named, locals_named, all_named}
 use Rattle.schema_read.proofs.FaultlessRoles.{IsLocal}
 use Rattle.schema_read.proofs.OwnNames.{own_name, IsSpace, local_space, may_be_declared, IsAttribute, may_be_attribute, named_or_reference}
 use Rattle.schema_read.proofs.Reading.{Around, Site, own_of, scope_of, of_parts, Fact}

@@ -1,8 +1,8 @@
 -- A particle that isn't dropped, in a document without a fault, may occur.
 use Rattle.std.proofs.Common.{◌≡◌, ℕ, ◌+◌, ◌-◌, ◌*◌, ◌≤◌, Bool, true, false, cond, List, [], ◌∷◌, Option, Some, None, inl, inr, refl, ap, subst, sym, ◌∙◌, arith, ◌&&◌, ◌||◌, ◌==◌, nat_le, nat_lt, codes, unwrap_or}
 use Rattle.schema_read.proofs.Words.{list_all, and_from, and_parts, and_cases, or_parts, cases_Bool, le-leb, leb-true, ltb-false, eqb-true, eqb-false, both_ways, beside, digits_of, is_crossed, is_no_all, declares_xmlns, has_malformed, has_bad_value, least_of, most_of, never_occurs, ElementRole, allow_one}
-use Rattle.xa_base.specs.Digits.{is_digit, is_numeral, number_from, number_of}
-use Rattle.schema_rules.specs.Digits.{is_zero, small, is_over}
+use Rattle.base_texts.specs.Digits.{is_digit, is_numeral, number_from, number_of}
+use Rattle.schema_syntax.specs.Digits.{is_zero, small, is_over}
 
 no_less : (n : ℕ) (bs : List ℕ) → n ≤ number_from n bs
 no_less n [] = omega arith

@@ -3,8 +3,8 @@ use Rattle.std.proofs.Common.{◌≡◌, ℕ, Bool, true, false, cond, List, [],
 use Rattle.schema_read.proofs.Words.{list_any, list_all, is_some, and_parts, and_from, and_cases, or_parts, and_right, not-false, not-true, not_from_false, cond_both, or_from, both_ways, bytes_eq-Decides, Name, Collapse, is_xml_char, is_ncname, beside, is_empty, has_xml_chars, spells_ncname, is_short_part, is_short_space, is_namespace, is_name_part, is_xmlns, xmlns_space, xsi_space, schema_space, xmlns_prefix, treated, is_sound_name, is_sound_attribute, has_name, are_sound_attributes, kept_spaces, is_declarable, is_declarable_attribute, kept_as_written, in_use, own_attributes, has, is_declared_name, is_target, has_malformed, declares_xmlns, is_crossed, is_no_all, has_bad_value, ElementRole, GlobalAttribute, LocalAttribute, value_or_empty, is_qualified, local_name}
 use Rattle.std.specs.Str.{chars, is_utf8}
 use Rattle.std.proofs.Math.Utf8.{encode}
-use Rattle.schema_rules.specs.Values.{is_well_formed}
-use Rattle.schema_rules.specs.Values.{is_named}
+use Rattle.schema_syntax.specs.Values.{is_well_formed}
+use Rattle.schema_syntax.specs.Values.{is_named}
 use Rattle.schema_read.proofs.CollapsedTexts.{collapsed_xml}
 
 -- ---- each value of an attribute

@@ -1,7 +1,7 @@
 -- Properties of each part by itself: what has to hold of a part for that it holds of all that is read of a document.
 use Rattle.std.proofs.Common.{◌≡◌, ℕ, ◌+◌, ◌≤◌, Bool, true, List, [], ◌∷◌, ◌++◌, length, Some, None, refl, sym, subst, append_assoc, arith, ◌&&◌, codes, slice_get}
 use Rattle.schema_read.proofs.Words.{list_any, and_from, length-append, Name, beside, Rose, roses_of, list_of, label_of, length_all, ItemLabel, levels_all, ParticleLabel, RawRef, RawContent, Base, Named, Inner, Bases, none, more, How, Restrict, ListOf, UnionOf, Simple, Use, Complex, Kind, NamedKind, SimpleKind, ComplexKind, Local, Reference, Own, Attribute, TypeDefinition, SimpleType, ComplexType, ElementRole, GlobalElement, GlobalAttribute, GlobalSimpleType, GlobalComplexType, Restriction, ListRole, Union, occurs, declared_name, local_name, use_to, own_use, attribute_by, facets_among, joined, Settings, element_with, leaf_of, group_of}
-use Rattle.schema_parts.specs.Raw as raw
+use Rattle.schema_components.specs.Raw as raw
 use Rattle.schema_read.proofs.FaultlessRoles.{HasGroup}
 use Rattle.schema_read.proofs.OwnNames.{IsAttribute}
 use Rattle.schema_read.proofs.Reading.{Reading, and_reading, of_bases, of_how, of_body, of_kinds, of_parts, Around, Extent, Site, own_of, scope_of, around_in, Fact, LeafFact, GroupFact, ContentBy, members, Rules}

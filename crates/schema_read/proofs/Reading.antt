@@ -5,8 +5,8 @@
 use Rattle.std.proofs.Common.{◌≡◌, ℕ, ◌+◌, ◌<◌, ◌≤◌, ◌^◌, false, true, cond, List, [], ◌∷◌, ◌++◌, length, Option, None, bytes_eq, codes, ◌⊎◌}
 use Rattle.schema_read.proofs.Words.{list_any, cond_both, Name, beside, Rose, Roses, roses_of, list_of, label_of, length_all, ItemLabel, Element, is_sound, are_sound, levels, levels_all, ParticleKind, ParticleLabel, RawRef, RawContent, Base, Named, Inner, Bases, none, more, How, Restrict, ListOf, UnionOf, Simple, Use, Complex, Kind, NamedKind, SimpleKind, ComplexKind, Local, Reference, Own, Attribute, TypeDefinition, SimpleType, ComplexType, own_attributes, never_occurs, ElementRole, Schema, GlobalElement, LocalElement, AllElement, GlobalAttribute, GlobalSimpleType, GlobalComplexType, Sequence, Choice, All, Restriction, ListRole, Union, Position, level_inside, occurs, reasons_at, reasons_among, NoneAtAll, counted_among, declared_name, local_name, use_to, own_use, attribute_by, facets_among, joined, named_members, inner_types, Settings, nothing, is_nothing, element_with, leaf_of, compositor, group_of}
 use Rattle.content_models.specs.declared.particles.ParticleKind.TheVariants as particle
-use Rattle.schema_parts.specs.declared.declarations.RawContent.TheVariants as content
-use Rattle.schema_parts.specs.Raw as raw
+use Rattle.schema_components.specs.declared.declarations.RawContent.TheVariants as content
+use Rattle.schema_components.specs.Raw as raw
 use Rattle.schema_read.proofs.Faultless.{Passes}
 use Rattle.schema_read.proofs.FaultlessRoles.{IsLocal, IsGroupRole, IsAll, HasGroup, word_of_particle}
 use Rattle.schema_read.proofs.OwnNames.{Texts, IsAttribute}

@@ -1,7 +1,7 @@
 -- The components of each kind stand in the order written, and between the places of a document.
 use Rattle.std.proofs.Common.{true, ◌≡◌, ℕ, ◌+◌, ◌≤◌, List, [], ◌++◌, length, map, sym, subst, arith, ◌&&◌}
 use Rattle.schema_read.proofs.Words.{and_from, map-append, length-map, Local, ascend, element_place, attribute_place, type_place, local_place, all_ascend, ElementRole, Settings, Parts}
-use Rattle.schema_parts.specs.Raw as raw
+use Rattle.schema_components.specs.Raw as raw
 use Rattle.schema_read.proofs.RisingPlaces.{Rise, rise_le, rise_lower, rise_append, rise_ascend, rise_length}
 use Rattle.schema_read.proofs.Reading.{Reading, of_bases, of_parts, Around, Extent, Fact, Site, Rules}
 

@@ -1,7 +1,7 @@
 -- Where there is room for what is read, there is room for each part of it.
 use Rattle.std.proofs.Common.{◌≡◌, ℕ, ◌+◌, ◌<◌, ◌^◌, Bool, true, false, cond, List, [], ◌∷◌, ◌++◌, length, map, drop, get_or, Option, Some, None, ap, sym, ◌∙◌, subst, append_assoc, length-append, arith, codes}
 use Rattle.schema_read.proofs.Words.{length-map, drop_more, Name, Rose, Roses, roses_of, label_of, Allowed, roses_of-drop, ItemLabel, MayHave, ParticleLabel, RawContent, RawLocal, Use, Complex, Kind, NamedKind, Local, Reference, Own, TypeDefinition, element_of, type_of, local_of, beside, Globals, type_ref, referred, local_name, simple_type, Settings, content_of_nothing, model_of, complex_by, complex_with, Made, made, element_by, kind_by, declared, declared_with, reference_to, and_particle, first_group, first_kind, particle_at, particles_among, group_among, inner_kind, complex_type, Parts, complex_types, parts_by, parts_among, ContentHeld, BodyHeld, FoundHeld, KindHeld, ElementHeld, LocalHeld, ElementsHeld, TypesHeld, LocalsHeld, Numbered, HasRoom, IsHeld, PartsHeld}
-use Rattle.schema_parts.specs.Raw as raw
+use Rattle.schema_components.specs.Raw as raw
 use Rattle.schema_read.specs.Raw.{and_parts}
 use Rattle.schema_read.proofs.Adding.{PartsAhead}
 use Rattle.schema_read.proofs.Held.{locals_held_append}

@@ -4,9 +4,9 @@ use Rattle.std.specs.List.{All}
 use Rattle.std.proofs.lemmas.Option.{slice_get_read}
 use Rattle.std.proofs.lemmas.List.Elements.{All-nil, All-cons}
 use Rattle.schema_read.proofs.Words.{Name, levels_all, Rose, ParticleLabel, RawContent, Complex, Local, Reference, Own, leaves_of_model, leaves_of_models, local_name, Settings, element_with, Parts}
-use Rattle.schema_parts.specs.declared.declarations.RawContent.TheVariants as content
-use Rattle.schema_parts.specs.Raw as raw
-use Rattle.schema_parts.specs.Chains.{leaves_of_content, complex_in_kind, complex_in_element, complex_in_local, complex_in_type, HasComplex, IsJustIn, IsChain, BeginsShort, AreShort}
+use Rattle.schema_components.specs.declared.declarations.RawContent.TheVariants as content
+use Rattle.schema_components.specs.Raw as raw
+use Rattle.schema_components.specs.Chains.{leaves_of_content, complex_in_kind, complex_in_element, complex_in_local, complex_in_type, HasComplex, IsJustIn, IsChain, BeginsShort, AreShort}
 use Rattle.schema_read.proofs.Leaves.{leaves_of_group}
 use Rattle.schema_read.proofs.Reading.{Around, own_of, of_parts, ContentBy}
 use Rattle.schema_read.proofs.Points.{Every, every_append, every_as, Property, Points, Each}

@@ -1,12 +1,12 @@
 -- The restrictions and the unions of a document without a fault.
 use Rattle.std.proofs.Common.{◌&&◌, ◌≡◌, ℕ, ◌+◌, ◌≤◌, Bool, true, false, cond, List, [], ◌∷◌, ◌++◌, Option, Some, None, inl, inr, refl, ap, subst, sym, ◌∙◌, arith, count_by, ◌||◌, not, bytes_eq, codes, nat_lt}
 use Rattle.schema_read.proofs.Words.{list_any, join_with_byte, option_or, and_parts, and_from, and_cases, or_parts, or_cases, not-false, not-true, cond_both, le-leb, ltb-false, both_ways, cases_Bool, sum_by-cons, bytes_eq-Decides, Name, Collapse, beside, is_empty, words_of, Rose, node, Roses, list_of, label_of, ItemLabel, Element, Text, Bases, none, more, How, Simple, Local, is_schema_name, has, in_use, kept_as_written, own_attributes, names_in, is_in, has_child, child_count, Varieties, SimpleTypes, Enumerations, ElementRole, GlobalSimpleType, InnerSimpleType, Restriction, Union, Position, names_members, lacks_required, has_large, level_inside, position_behind, reasons_at, reasons_among, NoneAtAll, facet_makers, with_value, facet_of, facet_at, and_facet, facets_among, joined, named_in, named_members, made_by, placed, defined, and_inner, variety_at, variety_among, simple_type, inner_types, Settings, Parts}
-use Rattle.xa_base.specs.WhiteSpace.{treated}
-use Rattle.xa_base.proofs.Collapsing.{treated-treated}
-use Rattle.label_tree.specs.Rose as rose
+use Rattle.base_texts.specs.WhiteSpace.{treated}
+use Rattle.base_texts.proofs.Collapsing.{treated-treated}
+use Rattle.base_trees.specs.Rose as rose
 use Rattle.simple_types.specs.declared.facets.Facet.{Facet}
-use Rattle.schema_parts.specs.Raw as raw
-use Rattle.schema_parts.specs.Varieties.{is_enumeration, has_few_enumerations, has_member, base_varied, how_varied, bases_varied, use_varied, uses_varied, kind_varied, local_varied, type_varied, elements_varied, attributes_varied, types_varied, locals_varied, all_varied}
+use Rattle.schema_components.specs.Raw as raw
+use Rattle.schema_components.specs.Varieties.{is_enumeration, has_few_enumerations, has_member, base_varied, how_varied, bases_varied, use_varied, uses_varied, kind_varied, local_varied, type_varied, elements_varied, attributes_varied, types_varied, locals_varied, all_varied}
 use Rattle.schema_read.proofs.Faultless.{none_parts}
 use Rattle.schema_read.proofs.FaultlessRoles.{one_of, HasVariety, simple_cases, standing, member}
 use Rattle.schema_read.proofs.OwnNames.{Entries, entry}

@@ -1,8 +1,8 @@
 -- The walk over a schema document without a fault: a property by the rules of `Reading` holds of all that is read of it.
 use Rattle.std.proofs.Common.{◌≡◌, ℕ, suc, ◌+◌, ◌<◌, ◌≤◌, Bool, true, false, cond, List, [], ◌∷◌, ◌++◌, length, Option, Some, None, inl, inr, refl, ap, sym, subst, arith, ◌||◌, not, bytes_eq, codes, nat_le, nat_lt, unwrap_or}
 use Rattle.schema_read.proofs.Words.{list_any, option_or, and_parts, and_left, and_right, or_parts, or_cases, cond_both, cond-true, cases_Bool, not-true, leb-false, lt-ltb, append-nil, bytes_eq-Decides, beside, Rose, node, Roses, roses_of, list_of, label_of, kids_of, length_all, roses_of-list_of, item_place, ItemLabel, Element, Text, levels_all, ParticleLabel, Other, RawContent, Inner, none, more, Use, Simple, Complex, Kind, NamedKind, SimpleKind, ComplexKind, Local, is_schema_name, counted_names, own_attributes, never_occurs, names_in, is_in, child_count, Particles, TakenParticles, Attributes, ElementRole, Schema, GlobalElement, LocalElement, AllElement, GlobalAttribute, GlobalSimpleType, GlobalComplexType, InnerComplexType, Sequence, Choice, All, Position, Anywhere, has_large, level_inside, is_over_limit, is_true, occurs, position_behind, reasons_among, NoneAtAll, counted_at, counted_among, no_name, type_ref, referred, declared_name, has_use, local_name, use_by, use_at, uses_among, global_attribute, simple_type, Settings, is_named, is_nothing, content_of_nothing, model_of, content_of, empty_place, group_place, simple_content, complex_with, complex_by, Made, made, made_some, element_name, kind_by, element_by, declared, declared_with, reference_to, leaf_of, group_of, particle_by, and_some, first_kind, first_group, complex_of, particle_at, particles_among, group_among, inner_kind, complex_type, Parts, no_parts, element_parts, attribute_parts, simple_type_parts, complex_type_parts, global_element, parts_named, parts_by, parts_among}
-use Rattle.label_tree.specs.Rose as rose
-use Rattle.schema_parts.specs.Raw as raw
+use Rattle.base_trees.specs.Rose as rose
+use Rattle.schema_components.specs.Raw as raw
 use Rattle.schema_read.proofs.FaultlessRoles.{one_of, role_there, HasParticles, HasTypes, HasGroup, local_types, IsGroupRole, group_particles, type_particles, word_of_particle, IsParticle, its_element, its_group, particle_cases, complex_cases, word_of, member, by_word}
 use Rattle.schema_read.proofs.ItemPlaces.{SpansAll, span_le, span_all_le}
 use Rattle.schema_read.proofs.Reading.{Reading, of_bases, of_body, of_kinds, of_parts, Around, Extent, extent, Site, own_of, scope_of, around_in, gap, Kid, Kids, Fact, LeafFact, GroupFact, IsNothing, ContentBy, Inside, Counted, Rules}

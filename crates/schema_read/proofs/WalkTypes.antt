@@ -1,8 +1,8 @@
 -- The walk over simple types, attributes and simple content.
 use Rattle.std.proofs.Common.{◌≡◌, ℕ, suc, ◌+◌, ◌<◌, ◌≤◌, Bool, true, false, cond, List, [], ◌∷◌, ◌++◌, length, Option, Some, None, inl, inr, refl, ap, sym, ◌∙◌, subst, arith, ◌&&◌, not, bytes_eq, codes}
 use Rattle.schema_read.proofs.Words.{list_any, list_all, option_or, and_parts, and_from, and_right, cond_both, append-nil, Name, words_of, beside, Rose, node, Roses, roses_of, list_of, label_of, kids_of, roses_of-list_of, item_place, ItemLabel, Element, Text, is_sound_name, are_sound_attributes, is_sound_binding, is_sound_label, is_text, begins_with_text, is_sound, are_sound, levels_all, Other, RawContent, RawRef, Base, Named, Inner, Bases, none, more, How, Restrict, ListOf, UnionOf, Simple, Use, Local, is_schema_name, counted_names, is_counted, skipped_names, own_attributes, names_in, is_in, Attributes, SimpleTypes, Varieties, ElementRole, GlobalAttribute, LocalAttribute, GlobalSimpleType, InnerSimpleType, Restriction, ListRole, Union, SimpleContent, Extension, Position, level_inside, position_behind, reasons_at, reasons_among, NoneAtAll, counted_inside, counted_at, counted_among, no_name, type_ref, referred, has_use, local_name, use_to, own_use, use_by, use_at, and_use, uses_among, facets_among, joined, named_in, first_or_none, made_by, placed, defined, and_inner, variety_at, variety_among, simple_type, inner_types, declared_type, Settings, is_named, extension_base, extended, extended_among, simple_content_at, simple_content}
-use Rattle.label_tree.specs.Rose as rose
-use Rattle.schema_parts.specs.declared.declarations.RawContent.TheVariants as content
+use Rattle.base_trees.specs.Rose as rose
+use Rattle.schema_components.specs.declared.declarations.RawContent.TheVariants as content
 use Rattle.schema_read.proofs.Faultless.{none_parts, Passes}
 use Rattle.schema_read.proofs.FaultlessRoles.{one_of, HasVariety, simple_cases, variety_cases, attribute_cases, in_extension, in_content, word_of, attribute_word, member}
 use Rattle.schema_read.proofs.OwnNames.{Texts, own_texts, IsAttribute}

@@ -1,17 +1,17 @@
 -- The attributes that a schema document declares (XML Schema Part 1, sections 3.2.2 and 3.4.2).
 use Rattle.std.specs.Prelude.{ℕ, Bool, true, false, ◌&&◌, not, List, [], ◌∷◌, ◌++◌, bytes_eq, codes, Option, Some, None, unwrap_or, if◌then◌else◌}
-use Rattle.xa_base.specs.declared.texts.Name.{Name}
-use Rattle.label_tree.specs.Rose.{Rose, roses_of, label_of, kids_of}
-use Rattle.item_tree.specs.declared.label.ItemLabel.{ItemLabel}
-use Rattle.item_tree.specs.declared.label.ItemLabel.TheVariants.{Element, Text}
+use Rattle.base_texts.specs.declared.texts.Name.{Name}
+use Rattle.base_trees.specs.Rose.{Rose, roses_of, label_of, kids_of}
+use Rattle.xml_items.specs.declared.label.ItemLabel.{ItemLabel}
+use Rattle.xml_items.specs.declared.label.ItemLabel.TheVariants.{Element, Text}
 use Rattle.simple_types.specs.declared.standards.Standard.{Standard}
 use Rattle.simple_types.specs.declared.standards.Standard.TheVariants.{Free, Default, Fixed}
-use Rattle.schema_parts.specs.Raw.{Base, Use, Attribute}
-use Rattle.xa_base.specs.Entries.{beside}
-use Rattle.schema_rules.specs.Attributes.{own_attributes}
-use Rattle.schema_rules.specs.Values.{qualifications}
-use Rattle.schema_rules.specs.Children.{is_in}
-use Rattle.schema_rules.specs.declared.children.ChildSet.TheVariants.{Attributes}
+use Rattle.schema_components.specs.Raw.{Base, Use, Attribute}
+use Rattle.base_texts.specs.Entries.{beside}
+use Rattle.schema_syntax.specs.Attributes.{own_attributes}
+use Rattle.schema_syntax.specs.Values.{qualifications}
+use Rattle.schema_syntax.specs.Children.{is_in}
+use Rattle.schema_syntax.specs.declared.children.ChildSet.TheVariants.{Attributes}
 use Rattle.schema_read.specs.Names.{referred, value_or_empty, declared_name}
 use Rattle.schema_read.specs.SimpleTypes.{declared_type}
 

@@ -1,24 +1,24 @@
 -- What may stand in an element of a complex type (XML Schema Part 1, section 3.4.2).
 use Rattle.std.specs.Prelude.{ℕ, ◌+◌, ◌==◌, Bool, true, false, ◌&&◌, List, [], ◌∷◌, ◌++◌, length, bytes_eq, codes, Option, Some, None, unwrap_or, if◌then◌else◌}
 use Rattle.std.specs.Option.{option_or}
-use Rattle.label_tree.specs.Rose.{Rose, node, none, label_of, kids_of}
-use Rattle.item_tree.specs.declared.label.ItemLabel.{ItemLabel}
-use Rattle.item_tree.specs.declared.label.ItemLabel.TheVariants.{Element, Text}
+use Rattle.base_trees.specs.Rose.{Rose, node, none, label_of, kids_of}
+use Rattle.xml_items.specs.declared.label.ItemLabel.{ItemLabel}
+use Rattle.xml_items.specs.declared.label.ItemLabel.TheVariants.{Element, Text}
 use Rattle.content_models.specs.declared.particles.ParticleKind.{ParticleKind}
 use Rattle.content_models.specs.declared.particles.ParticleKind.TheVariants as particle
 use Rattle.content_models.specs.declared.particles.ParticleLabel.{ParticleLabel}
-use Rattle.schema_parts.specs.declared.simple_definitions.RawRef.{RawRef}
-use Rattle.schema_parts.specs.declared.simple_definitions.RawRef.TheVariants.{Other}
-use Rattle.schema_parts.specs.declared.declarations.RawContent.{RawContent}
-use Rattle.schema_parts.specs.declared.declarations.RawContent.TheVariants as content
-use Rattle.schema_parts.specs.declared.declarations.RawUses.{RawUses}
-use Rattle.schema_parts.specs.Raw.{Use, Complex}
-use Rattle.schema_parts.specs.Seen.{uses_of}
-use Rattle.xa_base.specs.Entries.{beside}
-use Rattle.schema_rules.specs.Elements.{is_schema_name}
-use Rattle.schema_rules.specs.Attributes.{own_attributes}
-use Rattle.schema_rules.specs.Children.{is_in}
-use Rattle.schema_rules.specs.declared.children.ChildSet.TheVariants.{Particles}
+use Rattle.schema_components.specs.declared.simple_definitions.RawRef.{RawRef}
+use Rattle.schema_components.specs.declared.simple_definitions.RawRef.TheVariants.{Other}
+use Rattle.schema_components.specs.declared.declarations.RawContent.{RawContent}
+use Rattle.schema_components.specs.declared.declarations.RawContent.TheVariants as content
+use Rattle.schema_components.specs.declared.declarations.RawUses.{RawUses}
+use Rattle.schema_components.specs.Raw.{Use, Complex}
+use Rattle.schema_components.specs.Seen.{uses_of}
+use Rattle.base_texts.specs.Entries.{beside}
+use Rattle.schema_syntax.specs.Elements.{is_schema_name}
+use Rattle.schema_syntax.specs.Attributes.{own_attributes}
+use Rattle.schema_syntax.specs.Children.{is_in}
+use Rattle.schema_syntax.specs.declared.children.ChildSet.TheVariants.{Particles}
 use Rattle.schema_read.specs.Names.{no_name, type_ref}
 use Rattle.schema_read.specs.Attributes.{uses_among}
 use Rattle.schema_read.specs.Settings.{Settings}

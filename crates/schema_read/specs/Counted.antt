@@ -1,10 +1,10 @@
 -- The places of the components that the limit of components counts, in the order written.
 use Rattle.std.specs.Prelude.{ℕ, List, [], ◌∷◌, ◌++◌, if◌then◌else◌}
-use Rattle.xa_base.specs.declared.texts.Name.{Name}
-use Rattle.label_tree.specs.Rose.{Rose, node, Roses, none, more}
-use Rattle.item_tree.specs.declared.label.ItemLabel.{ItemLabel}
-use Rattle.item_tree.specs.declared.label.ItemLabel.TheVariants.{Element, Text}
-use Rattle.schema_rules.specs.Elements.{is_counted, is_looked_into}
+use Rattle.base_texts.specs.declared.texts.Name.{Name}
+use Rattle.base_trees.specs.Rose.{Rose, node, Roses, none, more}
+use Rattle.xml_items.specs.declared.label.ItemLabel.{ItemLabel}
+use Rattle.xml_items.specs.declared.label.ItemLabel.TheVariants.{Element, Text}
+use Rattle.schema_syntax.specs.Elements.{is_counted, is_looked_into}
 
 abbrev pub counted_here : Name → ℕ → List ℕ
 counted_here name at = if is_counted name then at ∷ [] else []

@@ -1,13 +1,13 @@
 -- What each document that is read keeps.
 use Rattle.std.specs.Prelude.{◌≡◌, ◌<◌, ◌^◌, true, length}
-use Rattle.schema_parts.specs.Raw.{Document}
-use Rattle.schema_parts.specs.Bounds.{all_fit, ascend}
-use Rattle.schema_parts.specs.DeclaredNames.{all_named}
-use Rattle.schema_parts.specs.Varieties.{all_varied}
-use Rattle.schema_parts.specs.Places.{all_ascend, places_in, StandAmong}
-use Rattle.schema_parts.specs.Inward.{all_inward}
-use Rattle.schema_parts.specs.Chains.{AreShort}
-use Rattle.schema_parts.specs.Coherent.{IsCoherent}
+use Rattle.schema_components.specs.Raw.{Document}
+use Rattle.schema_components.specs.Bounds.{all_fit, ascend}
+use Rattle.schema_components.specs.DeclaredNames.{all_named}
+use Rattle.schema_components.specs.Varieties.{all_varied}
+use Rattle.schema_components.specs.Places.{all_ascend, places_in, StandAmong}
+use Rattle.schema_components.specs.Inward.{all_inward}
+use Rattle.schema_components.specs.Chains.{AreShort}
+use Rattle.schema_components.specs.Coherent.{IsCoherent}
 use Rattle.schema_read.specs.Private.Held.{ElementsHeld, TypesHeld, LocalsHeld}
 
 pub record Keeps (d : Document) : Type 0 where

@@ -1,10 +1,10 @@
 -- Names and references of components (XML Schema Part 1, sections 2.5 and 3.15.3).
 use Rattle.std.specs.Prelude.{ℕ, List, [], codes, Option, Some, None}
-use Rattle.xa_base.specs.declared.texts.Name.{Name}
-use Rattle.schema_parts.specs.declared.simple_definitions.RawRef.{RawRef}
-use Rattle.schema_parts.specs.declared.simple_definitions.RawRef.TheVariants.{Builtin, Other}
-use Rattle.xa_base.specs.Entries.{beside}
-use Rattle.schema_rules.specs.References.{TypeName, Known, LeftOut, Elsewhere, type_name, resolved}
+use Rattle.base_texts.specs.declared.texts.Name.{Name}
+use Rattle.schema_components.specs.declared.simple_definitions.RawRef.{RawRef}
+use Rattle.schema_components.specs.declared.simple_definitions.RawRef.TheVariants.{Builtin, Other}
+use Rattle.base_texts.specs.Entries.{beside}
+use Rattle.schema_syntax.specs.References.{TypeName, Known, LeftOut, Elsewhere, type_name, resolved}
 
 -- what stands in the place of a name that a schema has; it isn't there in a document with a fault alone
 abbrev pub no_name : Name

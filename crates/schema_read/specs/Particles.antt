@@ -3,22 +3,22 @@
 -- The local declarations of a document have numbers from 0 in the order in which they were written. What follows tells
 -- of a part of a document what it is and which local declarations stand in it, given how many stand before it.
 use Rattle.std.specs.Prelude.{◌≡◌, ℕ, ◌+◌, Bool, List, [], ◌∷◌, ◌++◌, map, length, bytes_eq, codes, Option, Some, None, if◌then◌else◌}
-use Rattle.xa_base.specs.declared.texts.Name.{Name}
-use Rattle.label_tree.specs.Rose.{Rose, node, Roses, roses_of, list_of}
-use Rattle.label_tree.specs.Rose as rose
-use Rattle.item_tree.specs.declared.label.ItemLabel.{ItemLabel}
-use Rattle.item_tree.specs.declared.label.ItemLabel.TheVariants.{Element, Text}
+use Rattle.base_texts.specs.declared.texts.Name.{Name}
+use Rattle.base_trees.specs.Rose.{Rose, node, Roses, roses_of, list_of}
+use Rattle.base_trees.specs.Rose as rose
+use Rattle.xml_items.specs.declared.label.ItemLabel.{ItemLabel}
+use Rattle.xml_items.specs.declared.label.ItemLabel.TheVariants.{Element, Text}
 use Rattle.content_models.specs.declared.particles.ParticleKind.{ParticleKind}
 use Rattle.content_models.specs.declared.particles.ParticleKind.TheVariants as particle
 use Rattle.content_models.specs.declared.particles.ParticleLabel.{ParticleLabel}
-use Rattle.schema_parts.specs.declared.simple_definitions.RawRef.TheVariants.{Other}
-use Rattle.schema_parts.specs.declared.declarations.RawLocal.{RawLocal}
-use Rattle.schema_parts.specs.Raw as raw
-use Rattle.schema_parts.specs.Raw.{Simple, Complex, Kind, NamedKind, SimpleKind, ComplexKind, Local, Reference, Own}
-use Rattle.schema_parts.specs.Seen.{local_of}
-use Rattle.xa_base.specs.Entries.{beside}
-use Rattle.schema_rules.specs.Attributes.{own_attributes}
-use Rattle.schema_rules.specs.Values.{least_of, most_of}
+use Rattle.schema_components.specs.declared.simple_definitions.RawRef.TheVariants.{Other}
+use Rattle.schema_components.specs.declared.declarations.RawLocal.{RawLocal}
+use Rattle.schema_components.specs.Raw as raw
+use Rattle.schema_components.specs.Raw.{Simple, Complex, Kind, NamedKind, SimpleKind, ComplexKind, Local, Reference, Own}
+use Rattle.schema_components.specs.Seen.{local_of}
+use Rattle.base_texts.specs.Entries.{beside}
+use Rattle.schema_syntax.specs.Attributes.{own_attributes}
+use Rattle.schema_syntax.specs.Values.{least_of, most_of}
 use Rattle.schema_faults.specs.Reasons.{is_true, occurs}
 use Rattle.schema_read.specs.Names.{no_name, type_ref, referred}
 use Rattle.schema_read.specs.Attributes.{local_name}

@@ -1,14 +1,14 @@
 -- The components of a schema document (XML Schema Part 1, section 3.15.2).
 use Rattle.std.specs.Prelude.{◌≡◌, ℕ, ◌+◌, List, [], ◌∷◌, ◌++◌, map, length, bytes_eq, codes, Option, Some, None, if◌then◌else◌}
-use Rattle.xa_base.specs.declared.texts.Name.{Name}
-use Rattle.xa_base.specs.Namespaces.{xml_prefix, xml_space}
-use Rattle.label_tree.specs.Rose.{Rose, roses_of, label_of, kids_of}
-use Rattle.item_tree.specs.declared.label.ItemLabel.{ItemLabel}
-use Rattle.item_tree.specs.declared.label.ItemLabel.TheVariants as label
-use Rattle.schema_parts.specs.Raw.{Simple, Complex, Element, Local, Attribute, TypeDefinition, SimpleType, ComplexType, Document}
-use Rattle.schema_parts.specs.Seen.{element_of, attribute_of, type_of, local_of}
-use Rattle.schema_rules.specs.Elements.{is_schema_name}
-use Rattle.schema_rules.specs.Attributes.{own_attributes}
+use Rattle.base_texts.specs.declared.texts.Name.{Name}
+use Rattle.base_texts.specs.Namespaces.{xml_prefix, xml_space}
+use Rattle.base_trees.specs.Rose.{Rose, roses_of, label_of, kids_of}
+use Rattle.xml_items.specs.declared.label.ItemLabel.{ItemLabel}
+use Rattle.xml_items.specs.declared.label.ItemLabel.TheVariants as label
+use Rattle.schema_components.specs.Raw.{Simple, Complex, Element, Local, Attribute, TypeDefinition, SimpleType, ComplexType, Document}
+use Rattle.schema_components.specs.Seen.{element_of, attribute_of, type_of, local_of}
+use Rattle.schema_syntax.specs.Elements.{is_schema_name}
+use Rattle.schema_syntax.specs.Attributes.{own_attributes}
 use Rattle.schema_read.specs.declared.globals.Globals.{Globals}
 use Rattle.schema_read.specs.Names.{declared_name}
 use Rattle.schema_read.specs.SimpleTypes.{simple_type}

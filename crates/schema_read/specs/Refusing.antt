@@ -1,6 +1,6 @@
 -- What an error says of a schema document.
-use Rattle.label_tree.specs.Rose.{Rose}
-use Rattle.item_tree.specs.declared.label.ItemLabel.{ItemLabel}
+use Rattle.base_trees.specs.Rose.{Rose}
+use Rattle.xml_items.specs.declared.label.ItemLabel.{ItemLabel}
 use Rattle.schema_faults.specs.Shown as rules
 use Rattle.schema_read.specs.declared.error.SchemaError.{SchemaError}
 use Rattle.schema_read.specs.declared.error.SchemaError.TheVariants.{Shown, Memory}

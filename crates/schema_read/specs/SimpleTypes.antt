@@ -1,21 +1,21 @@
 -- The simple type definitions of a schema document (XML Schema Part 1, section 3.14.2).
 use Rattle.std.specs.Prelude.{ℕ, List, [], ◌∷◌, ◌++◌, bytes_eq, codes, Option, Some, None, if◌then◌else◌}
 use Rattle.std.specs.Option.{option_or}
-use Rattle.xa_base.specs.WhiteSpace.{words_of}
-use Rattle.label_tree.specs.Rose.{Rose, node, Roses, label_of, list_of}
-use Rattle.label_tree.specs.Rose as rose
-use Rattle.item_tree.specs.declared.label.ItemLabel.{ItemLabel}
-use Rattle.item_tree.specs.declared.label.ItemLabel.TheVariants.{Element, Text}
+use Rattle.base_texts.specs.WhiteSpace.{words_of}
+use Rattle.base_trees.specs.Rose.{Rose, node, Roses, label_of, list_of}
+use Rattle.base_trees.specs.Rose as rose
+use Rattle.xml_items.specs.declared.label.ItemLabel.{ItemLabel}
+use Rattle.xml_items.specs.declared.label.ItemLabel.TheVariants.{Element, Text}
 use Rattle.simple_types.specs.declared.facets.Facet.{Facet}
 use Rattle.simple_types.specs.declared.facets.Facet.TheVariants as facet
-use Rattle.schema_parts.specs.Raw.{Base, Named, Inner, Bases, none, more, How, Restrict, ListOf, UnionOf, Simple}
-use Rattle.schema_parts.specs.declared.simple_definitions.RawRef.TheVariants.{Other}
-use Rattle.schema_parts.specs.declared.simple_definitions.RawHow.{RawHow}
-use Rattle.schema_parts.specs.Seen.{how_of}
-use Rattle.xa_base.specs.Entries.{beside}
-use Rattle.schema_rules.specs.Attributes.{own_attributes}
-use Rattle.schema_rules.specs.Children.{is_in}
-use Rattle.schema_rules.specs.declared.children.ChildSet.TheVariants.{Varieties, SimpleTypes}
+use Rattle.schema_components.specs.Raw.{Base, Named, Inner, Bases, none, more, How, Restrict, ListOf, UnionOf, Simple}
+use Rattle.schema_components.specs.declared.simple_definitions.RawRef.TheVariants.{Other}
+use Rattle.schema_components.specs.declared.simple_definitions.RawHow.{RawHow}
+use Rattle.schema_components.specs.Seen.{how_of}
+use Rattle.base_texts.specs.Entries.{beside}
+use Rattle.schema_syntax.specs.Attributes.{own_attributes}
+use Rattle.schema_syntax.specs.Children.{is_in}
+use Rattle.schema_syntax.specs.declared.children.ChildSet.TheVariants.{Varieties, SimpleTypes}
 use Rattle.schema_read.specs.Names.{no_name, type_ref}
 
 -- ---- facets (Part 2, section 4.3)

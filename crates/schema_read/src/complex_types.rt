@@ -1,8 +1,8 @@
 //! Complex type definitions, elements and content models.
 ghost use Rattle.std.specs.Prelude.{◌≡◌, ◌+◌, ◌<◌, ◌^◌, ◌++◌, IfOk, OnOk, length, map, option_map};
-ghost use Rattle.label_tree.specs.Rose.{roses_of};
-ghost use Rattle.schema_parts.specs.Seen as seen;
-ghost use Rattle.schema_rules.specs.Scopes.{bindings_in};
+ghost use Rattle.base_trees.specs.Rose.{roses_of};
+ghost use Rattle.schema_components.specs.Seen as seen;
+ghost use Rattle.schema_syntax.specs.Scopes.{bindings_in};
 ghost use Rattle.schema_read.specs.Attributes as attributes;
 ghost use Rattle.schema_read.specs.Names as names;
 ghost use Rattle.schema_read.specs.Settings.{said};
@@ -16,13 +16,13 @@ use crate::names::{no_name, referred, type_ref};
 use crate::particles::{element_name, element_with, group_of, leaf_of, push_particle, put_own};
 use crate::reader::Reader;
 use crate::simple_definitions::simple_type;
+use base_texts::{Memory, Name, Text};
+use base_trees::Tree;
 use content_models::ParticleLabel;
-use doc_text::ItemLabel;
-use label_tree::Tree;
-use schema_parts::{RawComplex, RawElement, RawKind, RawLocal, RawRef};
-use schema_rules::{ChildSet, NamespaceScope, is_in, never_occurs, own_attributes, value_of};
+use schema_components::{RawComplex, RawElement, RawKind, RawLocal, RawRef};
+use schema_syntax::{ChildSet, NamespaceScope, is_in, never_occurs, own_attributes, value_of};
 use std::alloc::Global;
-use xa_base::{Memory, Name, Text};
+use xml_read::ItemLabel;
 
 fn next_number(locals: &[RawLocal]) -> u32
     requires { length locals.now < 2 ^ 32 }

@@ -1,10 +1,10 @@
 //! What may stand in an element of a complex type.
 ghost use Rattle.std.specs.Prelude.{◌≡◌, ◌+◌, ◌<◌, ◌^◌, IfOk, option_map};
-ghost use Rattle.label_tree.specs.Rose.{Allowed, label_of, kids_of};
+ghost use Rattle.base_trees.specs.Rose.{Allowed, label_of, kids_of};
 ghost use Rattle.content_models.specs.Kids.{MayHave};
 ghost use Rattle.schema_faults.specs.Reasons.{is_true};
-ghost use Rattle.schema_rules.specs.Scopes.{bindings_in};
-ghost use Rattle.schema_parts.specs.Seen.{complex_of};
+ghost use Rattle.schema_syntax.specs.Scopes.{bindings_in};
+ghost use Rattle.schema_components.specs.Seen.{complex_of};
 ghost use Rattle.schema_read.specs.Settings.{said};
 ghost use Rattle.schema_read.specs.Contents as contents;
 ghost use Rattle.schema_read.specs.Private.Held.{BodyHeld, ContentHeld};
@@ -12,14 +12,14 @@ ghost use Rattle.schema_read.specs.Private.Held.{BodyHeld, ContentHeld};
 use crate::declarations::{Setting, uses_among};
 use crate::names::{no_name, type_ref};
 use crate::reader::Reader;
+use base_texts::{Memory, Text};
+use base_trees::{Tree, Whole};
 use content_models::{ParticleKind, ParticleLabel};
-use doc_text::ItemLabel;
-use label_tree::{Tree, Whole};
-use schema_parts::{RawComplex, RawContent, RawRef, RawUses};
-use schema_rules::{ChildSet, NamespaceScope, is_in, is_schema_name, own_attributes, value_of};
-use simple_values::boolean_of;
+use schema_components::{RawComplex, RawContent, RawRef, RawUses};
+use schema_syntax::{ChildSet, NamespaceScope, is_in, is_schema_name, own_attributes, value_of};
+use simple_types::boolean_of;
 use std::alloc::Global;
-use xa_base::{Memory, Text};
+use xml_read::ItemLabel;
 
 /// Whether the attribute of this name stands there and says `true` or `1`.
 pub(crate) fn is_true(name: &str, own: &[(Text, Text)]) -> bool

@@ -1,21 +1,21 @@
 //! Attributes, and what a document says of all its declarations.
 ghost use Rattle.std.specs.Prelude.{◌≡◌, IfOk, option_map};
-ghost use Rattle.label_tree.specs.Rose.{label_of, kids_of, roses_of};
+ghost use Rattle.base_trees.specs.Rose.{label_of, kids_of, roses_of};
 ghost use Rattle.schema_read.specs.Names.{referred};
 ghost use Rattle.schema_read.specs.SimpleTypes.{declared_type};
-ghost use Rattle.schema_parts.specs.Seen.{attribute_of, use_of, uses_of};
-ghost use Rattle.schema_rules.specs.Scopes.{bindings_in};
+ghost use Rattle.schema_components.specs.Seen.{attribute_of, use_of, uses_of};
+ghost use Rattle.schema_syntax.specs.Scopes.{bindings_in};
 ghost use Rattle.schema_read.specs.Attributes as attributes;
 
 use crate::names::{declared_name, empty_text, referred, value_or_empty};
 use crate::simple_definitions::declared_type;
-use doc_text::ItemLabel;
-use label_tree::Tree;
-use schema_parts::{RawAttribute, RawUse, RawUses};
-use schema_rules::{ChildSet, NamespaceScope, is_in, own_attributes, qualification_of, value_of};
+use base_texts::{Memory, Name, Text};
+use base_trees::Tree;
+use schema_components::{RawAttribute, RawUse, RawUses};
+use schema_syntax::{ChildSet, NamespaceScope, is_in, own_attributes, qualification_of, value_of};
 use simple_types::Standard;
 use std::alloc::Global;
-use xa_base::{Memory, Name, Text};
+use xml_read::ItemLabel;
 
 /// What a document says of all its declarations.
 #[derive(Clone, Copy)]

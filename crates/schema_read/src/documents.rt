@@ -1,10 +1,10 @@
 //! A whole schema document.
 ghost use Rattle.std.specs.Prelude.{◌≡◌, ◌++◌, true, IfErr, IfOk, OnOk};
-ghost use Rattle.label_tree.specs.Rose.{roses_of};
-ghost use Rattle.doc_text.specs.Sound.{is_element};
-ghost use Rattle.doc_text.specs.Tokens.{tokens, Ascend};
-ghost use Rattle.schema_parts.specs.Documents.{doc_of, parts_of};
-ghost use Rattle.schema_rules.specs.Scopes.{bindings_in};
+ghost use Rattle.base_trees.specs.Rose.{roses_of};
+ghost use Rattle.xml_read.specs.Sound.{is_element};
+ghost use Rattle.xml_read.specs.Tokens.{tokens, Ascend};
+ghost use Rattle.schema_components.specs.Documents.{doc_of, parts_of};
+ghost use Rattle.schema_syntax.specs.Scopes.{bindings_in};
 ghost use Rattle.schema_faults.specs.Shown.{IsSchema};
 ghost use Rattle.schema_read.specs.Counted.{counted_here, counted_at, counted_among};
 ghost use Rattle.schema_read.specs.Keeping.{Keeps};
@@ -17,13 +17,13 @@ use crate::error::SchemaError;
 use crate::globals::Globals;
 use crate::names::value_or_empty;
 use crate::reader::Reader;
-use doc_text::{ItemLabel, Items};
-use label_tree::Tree;
+use base_texts::{Memory, Name, Text};
+use base_trees::Tree;
+use schema_components::RawDoc;
 use schema_faults::{DocumentFault, first_fault, root_fault};
-use schema_parts::RawDoc;
-use schema_rules::{NamespaceScope, is_counted, is_looked_into, own_attributes};
+use schema_syntax::{NamespaceScope, is_counted, is_looked_into, own_attributes};
 use std::alloc::Global;
-use xa_base::{Memory, Name, Text};
+use xml_read::{ItemLabel, Items};
 
 // Adds the places of those among these, and in them, that the limit of components counts.
 #[cycle(counting)]

@@ -2,10 +2,10 @@
 ghost use Rattle.std.specs.Prelude.{◌≡◌};
 ghost use Rattle.schema_read.specs.declared.error.SchemaError.TheVariants.{Memory as NoMemory};
 
-use schema_rules::SchemaWhy;
+use base_texts::Memory;
+use schema_syntax::SchemaWhy;
 use std::alloc::{AllocError, AllocFailed};
 use thiserror::Error;
-use xa_base::Memory;
 
 /// Why a document gives no components.
 #[derive(Clone, Copy, Debug, PartialEq, Eq, Error)]

@@ -1,7 +1,7 @@
 //! The global declarations of a document.
 ghost use Rattle.std.specs.Prelude.{[], IfOk, OnOk, length};
-ghost use Rattle.label_tree.specs.Rose.{label_of, kids_of};
-ghost use Rattle.schema_rules.specs.Scopes.{bindings_in};
+ghost use Rattle.base_trees.specs.Rose.{label_of, kids_of};
+ghost use Rattle.schema_syntax.specs.Scopes.{bindings_in};
 ghost use Rattle.schema_read.specs.Attributes as attributes;
 ghost use Rattle.schema_read.specs.Names.{declared_name};
 ghost use Rattle.schema_read.specs.Particles as parts;
@@ -15,11 +15,11 @@ use crate::declarations::global_attribute;
 use crate::names::declared_name;
 use crate::reader::Reader;
 use crate::simple_definitions::simple_type;
-use doc_text::ItemLabel;
-use label_tree::Tree;
-use schema_parts::{RawAttribute, RawElement, RawLocal, RawType};
-use schema_rules::{NamespaceScope, is_schema_name, own_attributes};
-use xa_base::{Memory, Text};
+use base_texts::{Memory, Text};
+use base_trees::Tree;
+use schema_components::{RawAttribute, RawElement, RawLocal, RawType};
+use schema_syntax::{NamespaceScope, is_schema_name, own_attributes};
+use xml_read::ItemLabel;
 
 /// What a document declares, as far as it is read.
 #[derive(Drop)]

@@ -1,9 +1,9 @@
 //! What holds of names.
 ghost use Rattle.std.specs.Prelude.{◌≡◌, ◌&&◌, not, bytes_eq};
-ghost use Rattle.xa_base.specs.Namespaces.{xsi_space};
-ghost use Rattle.xa_base.specs.declared.texts.Name.{Name};
-ghost use Rattle.doc_text.specs.Sound as items;
-ghost use Rattle.schema_parts.specs.Declarable as schemas;
+ghost use Rattle.base_texts.specs.Namespaces.{xsi_space};
+ghost use Rattle.base_texts.specs.declared.texts.Name.{Name};
+ghost use Rattle.xml_read.specs.Sound as items;
+ghost use Rattle.schema_components.specs.Declarable as schemas;
 
 /// The names that a schema may declare are those that items may have, but for the names in the namespace of the attributes
 /// of XML Schema for documents. That `xmlns` is no attribute is one rule for both, `is_xmlns` of the base.

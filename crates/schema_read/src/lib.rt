@@ -1,4 +1,4 @@
-//! The items of a schema document to its components, or its first fault.
+//! Reads the items of a schema document into its components, or reports its first fault.
 //!
 //! Read first: `specs/Raw` (`raw_of`), then `read_schema` in `src/documents.rt`.
 #![tactic(auto)]
@@ -18,4 +18,4 @@ mod simple_definitions;
 pub use documents::read_schema;
 pub use error::SchemaError;
 pub use laws::one_name_rule;
-pub use schema_rules::SchemaWhy;
+pub use schema_syntax::SchemaWhy;

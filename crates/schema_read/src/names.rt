@@ -1,13 +1,13 @@
 //! Names and references of components.
 ghost use Rattle.std.specs.Prelude.{◌≡◌, [], IfOk};
-ghost use Rattle.schema_rules.specs.Scopes.{bindings_in};
-ghost use Rattle.schema_rules.specs.Seen.{name_seen};
+ghost use Rattle.schema_syntax.specs.Scopes.{bindings_in};
+ghost use Rattle.schema_syntax.specs.Seen.{name_seen};
 ghost use Rattle.schema_read.specs.Names as names;
 
-use schema_parts::RawRef;
-use schema_rules::{NamespaceScope, Resolved, TypeName, resolve, type_of, value_of};
+use base_texts::{Memory, Name, Text};
+use schema_components::RawRef;
+use schema_syntax::{NamespaceScope, Resolved, TypeName, resolve, type_of, value_of};
 use std::alloc::Global;
-use xa_base::{Memory, Name, Text};
 
 pub(crate) fn empty_text(alloc: Global) -> Text
     ensures { result ≡ [] }

@@ -1,22 +1,22 @@
 //! Elements and particles by their parts.
 ghost use Rattle.std.specs.Prelude.{◌≡◌, ◌<◌, ◌++◌, List, IfOk, OnOk, map, set, length};
-ghost use Rattle.label_tree.specs.Rose.{Rose};
+ghost use Rattle.base_trees.specs.Rose.{Rose};
 ghost use Rattle.content_models.specs.declared.particles.ParticleLabel.{ParticleLabel as Label};
-ghost use Rattle.schema_parts.specs.Raw.{Own};
-ghost use Rattle.schema_parts.specs.Seen.{element_of, kind_of, local_of};
-ghost use Rattle.schema_rules.specs.Scopes.{bindings_in};
+ghost use Rattle.schema_components.specs.Raw.{Own};
+ghost use Rattle.schema_components.specs.Seen.{element_of, kind_of, local_of};
+ghost use Rattle.schema_syntax.specs.Scopes.{bindings_in};
 ghost use Rattle.schema_read.specs.Settings.{said};
 ghost use Rattle.schema_read.specs.Particles as parts;
 
 use crate::contents::is_true;
 use crate::declarations::{Setting, local_name};
 use crate::names::referred;
+use base_texts::{Memory, Name, Text};
+use base_trees::Tree;
 use content_models::{ParticleKind, ParticleLabel};
-use label_tree::Tree;
-use schema_parts::{RawElement, RawKind, RawLocal};
-use schema_rules::{NamespaceScope, least_of, most_of, value_of};
+use schema_components::{RawElement, RawKind, RawLocal};
+use schema_syntax::{NamespaceScope, least_of, most_of, value_of};
 use std::alloc::Global;
-use xa_base::{Memory, Name, Text};
 
 /// The name of the element that a local declaration declares or refers to.
 pub(crate) fn element_name(

@@ -1,6 +1,6 @@
 //! The reader of a schema document.
 use crate::declarations::Setting;
-use schema_rules::NamespaceScope;
+use schema_syntax::NamespaceScope;
 use std::alloc::Global;
 
 /// Reads elements of a schema document in which these bindings are in scope.

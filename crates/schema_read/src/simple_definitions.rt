@@ -1,22 +1,22 @@
 //! Simple type definitions.
 ghost use Rattle.std.specs.Prelude.{◌≡◌, ◌++◌, List, IfOk, OnOk, option_map};
 ghost use Rattle.simple_types.specs.declared.facets.Facet.{Facet};
-ghost use Rattle.schema_parts.specs.Raw.{Bases, Named};
+ghost use Rattle.schema_components.specs.Raw.{Bases, Named};
 ghost use Rattle.schema_read.specs.Names.{type_ref};
-ghost use Rattle.label_tree.specs.Rose.{roses_of};
-ghost use Rattle.schema_parts.specs.Seen.{base_of, bases_in, bases_of, how_of, simple_of};
-ghost use Rattle.schema_rules.specs.Scopes.{bindings_in};
-ghost use Rattle.xa_base.specs.WhiteSpace.{words_of};
+ghost use Rattle.base_trees.specs.Rose.{roses_of};
+ghost use Rattle.schema_components.specs.Seen.{base_of, bases_in, bases_of, how_of, simple_of};
+ghost use Rattle.schema_syntax.specs.Scopes.{bindings_in};
+ghost use Rattle.base_texts.specs.WhiteSpace.{words_of};
 ghost use Rattle.schema_read.specs.SimpleTypes as simple;
 
 use crate::names::{no_name, type_ref};
-use doc_text::ItemLabel;
-use label_tree::Tree;
-use schema_parts::{RawBase, RawBases, RawHow, RawRef, RawSimple};
-use schema_rules::{ChildSet, NamespaceScope, is_in, own_attributes, value_of};
+use base_texts::{Memory, Text, first_word};
+use base_trees::Tree;
+use schema_components::{RawBase, RawBases, RawHow, RawRef, RawSimple};
+use schema_syntax::{ChildSet, NamespaceScope, is_in, own_attributes, value_of};
 use simple_types::{Facet, Facets};
 use std::alloc::Global;
-use xa_base::{Memory, Text, first_word};
+use xml_read::ItemLabel;
 
 // The facet of this name.
 fn facet_of(name: &str, value: Text) -> Option<Facet>
@@ -128,7 +128,7 @@ fn first_or_none(alloc: Global, mut inner: Vec<RawBase>) -> RawBase
     inner.remove(0)
 }
 
-#[tactic(auto, unfolding(schema_parts::specs::Seen::base_of))]
+#[tactic(auto, unfolding(schema_components::specs::Seen::base_of))]
 fn named_type(alloc: Global, scope: &NamespaceScope<'_, '_>, text: &str) -> Result<RawBase, Memory>
     ensures { IfOk result (λ base. base_of base ≡ Named (type_ref (bindings_in scope.now) text.now)) }
 {
@@ -166,7 +166,7 @@ fn members_of(
     Ok(RawBases::of(members))
 }
 
-#[tactic(auto, unfolding(schema_parts::specs::Seen::how_of))]
+#[tactic(auto, unfolding(schema_components::specs::Seen::how_of))]
 fn restriction_of(
     alloc: Global,
     scope: &NamespaceScope<'_, '_>,
@@ -181,7 +181,7 @@ fn restriction_of(
     Ok(RawHow::Restrict { base, facets })
 }
 
-#[tactic(auto, unfolding(schema_parts::specs::Seen::how_of))]
+#[tactic(auto, unfolding(schema_components::specs::Seen::how_of))]
 fn list_of(
     alloc: Global,
     scope: &NamespaceScope<'_, '_>,

@@ -1,8 +1,8 @@
 -- Lists of types, and values that are equal.
 use Rattle.std.proofs.Common.{◌≡◌, ℕ, zero, suc, ◌+◌, ◌<◌, ◌≤◌, List, [], ◌∷◌, ◌++◌, refl, sym, ap, ◌∙◌, arith, length, get_or, take}
 use Rattle.std.proofs.lemmas.List.{take_more}
-use Rattle.label_tree.specs.Rose.{Rose, node, roses_of, label_of, kids_of, node_count, count_all}
-use Rattle.label_tree.proofs.Roses.{node-parts}
+use Rattle.base_trees.specs.Rose.{Rose, node, roses_of, label_of, kids_of, node_count, count_all}
+use Rattle.base_trees.proofs.Roses.{node-parts}
 use Rattle.simple_types.specs.declared.simples.Simple.{Simple}
 use Rattle.simple_types.specs.Space.{Spaces, none, more}
 use Rattle.simple_types.specs.Seen.{space_of, spaces_in}

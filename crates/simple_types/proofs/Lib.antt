@@ -1,3 +1,15 @@
 pub mod Copies
 pub mod Members
 pub mod Seen
+pub mod Again
+pub mod Collapsed
+pub mod Decimals
+pub mod FewDigits
+pub mod OwnSpellings
+pub mod Places
+pub mod PlainTexts
+pub mod Readings
+pub mod SideBySide
+pub mod Spellings
+pub mod WholeNumbers
+pub mod XmlTexts

@@ -1,6 +1,6 @@
 -- The built-in datatypes of XML Schema Part 2, section 3, as this profile has them.
 use Rattle.std.specs.Prelude.{ℕ, ◌^◌, ◌-◌, pos, negsuc, Some, None}
-use Rattle.xa_base.specs.declared.white_space.WhiteSpace.TheVariants as space
+use Rattle.base_texts.specs.declared.white_space.WhiteSpace.TheVariants as space
 use Rattle.simple_types.specs.declared.simples.Builtin.{Builtin}
 use Rattle.simple_types.specs.declared.simples.Builtin.TheVariants.{Boolean, Byte, Short, Int, Long, UnsignedByte, UnsignedShort, UnsignedInt, UnsignedLong, Integer, NonNegativeInteger, PositiveInteger, NonPositiveInteger, NegativeInteger, String, NormalizedString, Token, AnyUri, Language, NmToken, Name, NcName, NmTokens}
 use Rattle.simple_types.specs.declared.simples.Class.TheVariants as class

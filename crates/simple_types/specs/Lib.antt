@@ -5,3 +5,9 @@ pub mod Labels
 pub mod Seen
 pub mod Sound
 pub mod Space
+pub mod Answering
+pub mod Chains
+pub mod Lexical
+pub mod Reading
+pub mod Written
+pub mod Small

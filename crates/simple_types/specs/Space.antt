@@ -1,6 +1,6 @@
 -- The spaces of simple types: the values of a type, and how its texts are read (XML Schema Part 2, section 2).
 use Rattle.std.specs.Prelude.{ℕ, suc, ◌+◌, ℤ, Option, List, [], ◌∷◌}
-use Rattle.xa_base.specs.declared.white_space.WhiteSpace.{WhiteSpace}
+use Rattle.base_texts.specs.declared.white_space.WhiteSpace.{WhiteSpace}
 use Rattle.simple_types.specs.declared.simples.Class.{Class}
 
 mutual

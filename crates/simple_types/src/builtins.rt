@@ -6,8 +6,8 @@ ghost use Rattle.simple_types.specs.Sound.{Sound};
 ghost use Rattle.simple_types.specs.Builtins.{builtin_space};
 
 use crate::simples::{Builtin, Class, Simple};
+use base_texts::{Memory, WhiteSpace};
 use std::alloc::Global;
-use xa_base::{Memory, WhiteSpace};
 
 #[tactic(auto, unfolding(crate::specs::Seen::space_of))]
 fn whole(lo: Option<i128>, hi: Option<i128>) -> Simple

@@ -4,8 +4,8 @@ ghost use Rattle.simple_types.specs.Seen.{space_of, spaces_in};
 ghost use Rattle.simple_types.specs.Joining.{joined};
 
 use crate::simples::{Simple, SimpleList};
+use base_texts::Memory;
 use std::alloc::Global;
-use xa_base::Memory;
 
 #[cycle(copying)]
 pub fn append_copies(alloc: Global, out: &mut Vec<Simple>, members: &[Simple]) -> Result<(), Memory>

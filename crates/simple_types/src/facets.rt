@@ -1,8 +1,8 @@
 //! Facets as a schema writes them.
 ghost use Rattle.std.specs.Prelude.{◌≡◌};
 
+use base_texts::Text;
 use std::marker::Model;
-use xa_base::Text;
 
 /// A constraining facet of XML Schema Part 2, section 4.3, with its value as written.
 #[derive(Drop)]

@@ -4,10 +4,10 @@ ghost use Rattle.simple_types.specs.Labels.{MayHave, count_set};
 
 use crate::integers::Integer;
 use crate::lists::Flags;
-use flat_tree::Whole;
-use label_tree::Shape;
+use base_flat_trees::Whole;
+use base_texts::{Memory, Text};
+use base_trees::Shape;
 use std::alloc::Global;
-use xa_base::{Memory, Text};
 
 /// A node of an abstract value, by the ASN.1 type that it is of.
 #[derive(Drop)]

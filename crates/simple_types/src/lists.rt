@@ -1,11 +1,11 @@
 //! Lists that are seen as just their entries.
 ghost use Rattle.std.specs.Prelude.{◌≡◌, ◌<◌, ◌++◌, [], ◌∷◌, IfOk, OnOk, length};
 
+use base_texts::{Memory, Text};
 use std::alloc::Global;
 use std::marker::Model;
 use std::mem::size_of;
 use std::rc::RcSlice;
-use xa_base::{Memory, Text};
 
 // How many flags lie in their value at most: with their number and the tag of `Kept` that is 24 bytes, as many as a list
 // takes.

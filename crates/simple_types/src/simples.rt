@@ -3,7 +3,7 @@ ghost use Rattle.std.specs.Prelude.{◌≡◌};
 ghost use Rattle.simple_types.specs.Seen.{spaces_of, spaces_in};
 
 use crate::lists::{NumberList, TextList};
-use xa_base::{Text, WhiteSpace};
+use base_texts::{Text, WhiteSpace};
 
 /// The built-in datatypes of XML Schema Part 2 that this profile has.
 #[derive(Clone, Copy, Debug, PartialEq, Eq)]

@@ -1,8 +1,8 @@
 //! Default and fixed values.
 ghost use Rattle.std.specs.Prelude.{◌≡◌, IfOk};
 
+use base_texts::{Memory, Text};
 use std::alloc::Global;
-use xa_base::{Memory, Text};
 
 /// What is known of the value of an attribute besides its type: its value constraint (XML Schema Part 1, sections 3.2.1 and
 /// 3.5.1).

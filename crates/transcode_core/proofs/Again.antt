@@ -1,25 +1,25 @@
 -- What was written of a document is taken again, and what is written of this has the same treated items.
 use Rattle.std.proofs.Common.{◌≡◌, ℕ, ◌≤◌, List, length, refl, sym, ◌∙◌, subst, inr, Option, Some, Ok}
-use Rattle.label_tree.specs.Rose.{Rose}
-use Rattle.item_tree.specs.declared.label.ItemLabel.{ItemLabel}
-use Rattle.doc_text.specs.Documents.{DocOf}
-use Rattle.doc_text.proofs.PieceLaws.{PieceLaws}
-use Rattle.doc_written.specs.ReadBack.{ReadsAs}
-use Rattle.doc_written.specs.Written.{written}
-use Rattle.plain_items.specs.Plain.{Plain}
-use Rattle.plain_items.specs.Unplaced.{unplaced}
+use Rattle.base_trees.specs.Rose.{Rose}
+use Rattle.xml_items.specs.declared.label.ItemLabel.{ItemLabel}
+use Rattle.xml_read.specs.Documents.{DocOf}
+use Rattle.xml_read.proofs.PieceLaws.{PieceLaws}
+use Rattle.xml_write.specs.ReadBack.{ReadsAs}
+use Rattle.xml_write.specs.Written.{written}
+use Rattle.xml_items.specs.Plain.{Plain}
+use Rattle.xml_items.specs.Unplaced.{unplaced}
 use Rattle.xer_items.specs.Items.{Xer}
 use Rattle.asn_values.specs.Values.{Fits}
 use Rattle.simple_types.specs.declared.labels.ValueLabel.{ValueLabel}
-use Rattle.sound_items.specs.Statements.{DocumentsOfValues}
-use Rattle.schema_parts.specs.SetParts.{SetParts}
-use Rattle.validity.specs.Valid.{Valid}
-use Rattle.command_line.specs.declared.outcome.Outcome.TheVariants.{Done}
-use Rattle.command_line.specs.declared.tasks.Syntax.{Syntax}
-use Rattle.command_line.specs.declared.tasks.Task.TheVariants.{Send, Receive}
+use Rattle.value_laws.specs.SoundItems.{DocumentsOfValues}
+use Rattle.schema_components.specs.SetParts.{SetParts}
+use Rattle.validity_rules.specs.Valid.{Valid}
+use Rattle.transcode_words.specs.declared.outcome.Outcome.TheVariants.{Done}
+use Rattle.transcode_words.specs.declared.tasks.Syntax.{Syntax}
+use Rattle.transcode_words.specs.declared.tasks.Task.TheVariants.{Send, Receive}
 use Rattle.transcode_core.specs.Syntaxes.{AllSyntaxes}
 use Rattle.transcode_core.specs.Steps.{RootType, Typed, Decoded}
-use Rattle.command_line.specs.Words.{Asked, Serve}
+use Rattle.transcode_words.specs.Words.{Asked, Serve}
 use Rattle.transcode_core.specs.Due.{ItemsIn, Encoded, Documented, Answered, Due}
 use Rattle.transcode_core.specs.ReadBack.{DecodedBack, IsValidText, DocumentedBack, AnsweredBack, ReadBack}
 use Rattle.transcode_core.specs.Again.{AreThereAndBack, AreSameDocuments}

@@ -5,59 +5,59 @@ use Rattle.std.specs.Str.{is_utf8}
 use Rattle.std.proofs.lemmas.Str.{IsUtf8-from_is_utf8, is_utf8-from_IsUtf8}
 use Rattle.std.proofs.lemmas.Bool.{cases_lt}
 use Rattle.std.proofs.lemmas.List.{take_all, length-take}
-use Rattle.xa_base.specs.declared.texts.Name.{Name}
-use Rattle.xa_base.specs.Entries.{beside}
-use Rattle.label_tree.specs.Rose as tree
-use Rattle.label_tree.specs.Rose.{Rose, node_count, shown_count}
-use Rattle.item_tree.specs.declared.label.ItemLabel.{ItemLabel}
-use Rattle.doc_text.specs.declared.error.DocWhy.{DocWhy}
-use Rattle.doc_text.specs.Documents.{DocOf, BrokenAt}
-use Rattle.doc_text.specs.Sound.{AreItems}
-use Rattle.doc_text.proofs.OneTree.{valid_up_to}
-use Rattle.doc_written.specs.Written.{written}
-use Rattle.plain_items.specs.Plain.{Plain}
-use Rattle.plain_items.specs.Unplaced.{unplaced}
+use Rattle.base_texts.specs.declared.texts.Name.{Name}
+use Rattle.base_texts.specs.Entries.{beside}
+use Rattle.base_trees.specs.Rose as tree
+use Rattle.base_trees.specs.Rose.{Rose, node_count, shown_count}
+use Rattle.xml_items.specs.declared.label.ItemLabel.{ItemLabel}
+use Rattle.xml_read.specs.declared.error.DocWhy.{DocWhy}
+use Rattle.xml_read.specs.Documents.{DocOf, BrokenAt}
+use Rattle.xml_read.specs.Sound.{AreItems}
+use Rattle.xml_read.proofs.OneTree.{valid_up_to}
+use Rattle.xml_write.specs.Written.{written}
+use Rattle.xml_items.specs.Plain.{Plain}
+use Rattle.xml_items.specs.Unplaced.{unplaced}
 use Rattle.simple_types.specs.declared.labels.ValueLabel.{ValueLabel}
 use Rattle.schema_faults.specs.Faults.{first_fault, reasons}
 use Rattle.schema_faults.specs.declared.faults.DocumentFault.{DocumentFault}
 use Rattle.schema_read.specs.Raw.{raw_of}
-use Rattle.schema_parts.specs.Components.{Set}
-use Rattle.schema_parts.specs.Linked.{IsLinked}
-use Rattle.schema_parts.specs.Raw.{Document}
-use Rattle.schema_parts.specs.SetParts.{SetParts, parts_of}
+use Rattle.schema_components.specs.Components.{Set}
+use Rattle.schema_components.specs.Linked.{IsLinked}
+use Rattle.schema_components.specs.Raw.{Document}
+use Rattle.schema_components.specs.SetParts.{SetParts, parts_of}
 use Rattle.link_names.specs.declared.faults.LinkingFault as link
-use Rattle.schema_link.specs.Passes.{passes, ArePassed, IsShownBy}
-use Rattle.validity.specs.Laws.{AtLeastOne}
-use Rattle.validity.specs.Valid.{Valid}
+use Rattle.link_schemas.specs.Passes.{passes, ArePassed, IsShownBy}
+use Rattle.validity_rules.specs.Laws.{AtLeastOne}
+use Rattle.validity_rules.specs.Valid.{Valid}
 use Rattle.asn_types.specs.declared.modules.Assignment.{Assignment}
 use Rattle.asn_types.specs.Modules.{IsModule}
 use Rattle.asn_types.specs.Bounds.{IsBounded}
 use Rattle.asn_values.specs.Values.{Fits}
 use Rattle.map_subjects.specs.declared.subjects.Subject.TheVariants as subject
 use Rattle.map_assignments.specs.Mapped.{IsMapOf, root_at}
-use Rattle.map_694.proofs.Bodies.{global-named}
-use Rattle.map_694.proofs.Whole.{root-within}
+use Rattle.map_assignments.proofs.Bodies.{global-named}
+use Rattle.map_assignments.proofs.Whole.{root-within}
 use Rattle.module_print.specs.Printed.{printed}
-use Rattle.module_faults.specs.declared.reasons.ModuleWhy.TheVariants as module_why
+use Rattle.module_text.specs.declared.reasons.ModuleWhy.TheVariants as module_why
 use Rattle.module_read.specs.Tells.{SomeAnswer}
 use Rattle.module_read.specs.Summary as back
 use Rattle.xer_items.specs.Items.{Xer}
-use Rattle.schema_parts.specs.Small.{AreSmall}
-use Rattle.one_value.specs.Statements.{ValuesOfItems, ItemsOfValues}
-use Rattle.command_line.specs.declared.tasks.Syntax.{Syntax}
-use Rattle.command_line.specs.declared.tasks.Syntax.TheVariants.{Aligned, Unaligned, Der}
-use Rattle.command_line.specs.declared.tasks.Task.{Task}
-use Rattle.command_line.specs.declared.tasks.Task.TheVariants.{Check, Send, Receive}
-use Rattle.command_line.specs.Tasks.{reads}
+use Rattle.schema_components.specs.Small.{AreSmall}
+use Rattle.value_laws.specs.Statements.{ValuesOfItems, ItemsOfValues}
+use Rattle.transcode_words.specs.declared.tasks.Syntax.{Syntax}
+use Rattle.transcode_words.specs.declared.tasks.Syntax.TheVariants.{Aligned, Unaligned, Der}
+use Rattle.transcode_words.specs.declared.tasks.Task.{Task}
+use Rattle.transcode_words.specs.declared.tasks.Task.TheVariants.{Check, Send, Receive}
+use Rattle.transcode_words.specs.Tasks.{reads}
 use Rattle.transcode_core.specs.Syntaxes.{BeginsWith, AreOctetsOf, IsOneOfTwo, AllSyntaxes}
 use Rattle.transcode_core.specs.Private.Decided.{Decided}
 use Rattle.transcode_core.proofs.Verdicts.{done_due, refusal_due_of, decided_never}
-use Rattle.command_line.specs.declared.outcome.Outcome.{Outcome}
-use Rattle.command_line.specs.declared.outcome.Outcome.TheVariants.{Done, Usage, SchemaSyntax, SchemaFault, DocSyntax, LinkFault, UnknownRoot, Invalid, ModuleFault, Trailing, TooLong, TooManyNodes, LoadFault}
-use Rattle.command_line.specs.Order.{Give, Found, Then}
+use Rattle.transcode_words.specs.declared.outcome.Outcome.{Outcome}
+use Rattle.transcode_words.specs.declared.outcome.Outcome.TheVariants.{Done, Usage, SchemaSyntax, SchemaFault, DocSyntax, LinkFault, UnknownRoot, Invalid, ModuleFault, Trailing, TooLong, TooManyNodes, LoadFault}
+use Rattle.transcode_words.specs.Order.{Give, Found, Then}
 use Rattle.transcode_core.specs.Steps.{Loaded, Read, Faultless, SchemaIn, Schema, Schemas, AreParts, Linked, number_named, Rooted, Printed, ModuleIn, Input, AreLinked, Judged, RootType, IsTypeOf, IsRootType, Typed, Valued, ValueIn, Encoding, readable, fault_in, Streamed, DecodedOf, Decoded, Written}
 use Rattle.transcode_core.specs.Due.{Requested, SetIn, Opened, ItemsIn, Checked, Encoded, Documented, Served, TrialSent, Tried, Answered, Due}
-use Rattle.command_line.specs.Words.{Asked, Show, ShowBack, Serve, Trial, asked}
+use Rattle.transcode_words.specs.Words.{Asked, Show, ShowBack, Serve, Trial, asked}
 use Rattle.transcode_core.specs.Trial.{trial_name, trial_schema, trial_root, trial_document, summary}
 use Rattle.transcode_core.specs.Causes.{reads_input, ReadsInput, IsTold, AreRead, IsInput, IsInputOf}
 use Rattle.transcode_core.proofs.Octets.{value_in}

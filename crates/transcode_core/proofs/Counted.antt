@@ -8,25 +8,25 @@ use Rattle.std.specs.Str.{IsAscii}
 use Rattle.std.proofs.lemmas.List.{append-nil, length-append}
 use Rattle.std.proofs.lemmas.Str.{encode_ascii, IsUtf8-from_ascii, chars-IsAscii}
 use Rattle.std.proofs.lemmas.Str.Ascii.{IsAscii-nil, IsAscii-cons}
-use Rattle.xa_base.specs.Characters.{is_xml_char}
-use Rattle.xa_base.specs.WhiteSpace.{is_white_space}
-use Rattle.label_tree.specs.Rose.{Rose, node, Roses, none, more, Allowed, AllowedAll, length_all}
-use Rattle.item_tree.specs.declared.label.ItemLabel.{ItemLabel}
-use Rattle.item_tree.specs.declared.label.ItemLabel.TheVariants.{Element, Text}
-use Rattle.item_tree.specs.Labels.{MayHave}
-use Rattle.doc_pieces.specs.Pieces.{Tag, Piece, Declaration, Start, Empty, End, Comment, Instruction, CData, Reference, Character, Begins, IsName, IsText, IsSpace, IsAttribute, Exact, has_byte, spaced_ends}
-use Rattle.doc_pieces.specs.Reading.{piece_at, is_ascii_start, is_ascii_part, is_ascii_name}
-use Rattle.doc_pieces.proofs.AsciiNames.{ascii, ascii_name}
-use Rattle.doc_pieces.proofs.Names.{list_all-append}
-use Rattle.doc_pieces.proofs.PieceLaws.{literal_again}
-use Rattle.doc_pieces.proofs.Tools.{pairs}
-use Rattle.doc_text.specs.Contexts.{Context, start, is_outside, after}
-use Rattle.doc_text.specs.Tokens.{Token, Opens, Closes, Words, tokens, tokens_all, join}
-use Rattle.doc_text.specs.Documents.{told, Whole, DocOf}
-use Rattle.doc_text.proofs.PieceLaws.{PieceLaws}
-use Rattle.item_tree.specs.Counts.{element_count, elements_in}
-use Rattle.command_line.specs.Words.{Trial}
-use Rattle.command_line.proofs.FewFiles.{AreFew, few_asked}
+use Rattle.base_texts.specs.Characters.{is_xml_char}
+use Rattle.base_texts.specs.WhiteSpace.{is_white_space}
+use Rattle.base_trees.specs.Rose.{Rose, node, Roses, none, more, Allowed, AllowedAll, length_all}
+use Rattle.xml_items.specs.declared.label.ItemLabel.{ItemLabel}
+use Rattle.xml_items.specs.declared.label.ItemLabel.TheVariants.{Element, Text}
+use Rattle.xml_items.specs.Labels.{MayHave}
+use Rattle.xml_pieces.specs.Pieces.{Tag, Piece, Declaration, Start, Empty, End, Comment, Instruction, CData, Reference, Character, Begins, IsName, IsText, IsSpace, IsAttribute, Exact, has_byte, spaced_ends}
+use Rattle.xml_pieces.specs.Reading.{piece_at, is_ascii_start, is_ascii_part, is_ascii_name}
+use Rattle.xml_pieces.proofs.AsciiNames.{ascii, ascii_name}
+use Rattle.xml_pieces.proofs.Names.{list_all-append}
+use Rattle.xml_pieces.proofs.PieceLaws.{literal_again}
+use Rattle.xml_pieces.proofs.Tools.{pairs}
+use Rattle.xml_read.specs.Contexts.{Context, start, is_outside, after}
+use Rattle.xml_read.specs.Tokens.{Token, Opens, Closes, Words, tokens, tokens_all, join}
+use Rattle.xml_read.specs.Documents.{told, Whole, DocOf}
+use Rattle.xml_read.proofs.PieceLaws.{PieceLaws}
+use Rattle.xml_items.specs.Counts.{element_count, elements_in}
+use Rattle.transcode_words.specs.Words.{Trial}
+use Rattle.transcode_words.proofs.FewFiles.{AreFew, few_asked}
 use Rattle.transcode_core.specs.Trial.{trial_line, trial_lines, trial_document}
 use Rattle.transcode_core.specs.Due.{Requested}
 use Rattle.transcode_core.specs.Causes.{ReadsItems, ReadsOfWords, StepsFrom}

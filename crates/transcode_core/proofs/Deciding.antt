@@ -2,17 +2,17 @@
 use Rattle.std.proofs.Common.{◌≡◌, ◌⊎◌, ℕ, Bool, true, List, [], sym, ◌∙◌, subst, inl, inr, Option, Some, Result, Ok, Err}
 use Rattle.std.specs.Prelude.{Vec}
 use Rattle.std.specs.declared.alloc.Global.{Global}
-use Rattle.xa_base.specs.Faults.{HasRisen}
-use Rattle.xa_base.specs.declared.texts.Name.{Name}
-use Rattle.command_line.specs.declared.outcome.Outcome.{Outcome}
-use Rattle.command_line.specs.declared.outcome.Outcome.TheVariants.{LoadFault, ReadFault, OutOfMemory}
-use Rattle.command_line.specs.Words.{Asked}
-use Rattle.command_line.specs.Order.{Then}
-use Rattle.schema_parts.specs.SetParts.{SetParts}
+use Rattle.base_texts.specs.Faults.{HasRisen}
+use Rattle.base_texts.specs.declared.texts.Name.{Name}
+use Rattle.transcode_words.specs.declared.outcome.Outcome.{Outcome}
+use Rattle.transcode_words.specs.declared.outcome.Outcome.TheVariants.{LoadFault, ReadFault, OutOfMemory}
+use Rattle.transcode_words.specs.Words.{Asked}
+use Rattle.transcode_words.specs.Order.{Then}
+use Rattle.schema_components.specs.SetParts.{SetParts}
 use Rattle.transcode_core.specs.Due.{Requested, Opened, Due}
 use Rattle.transcode_core.specs.Private.Decided.{Decided}
 use Rattle.transcode_core.proofs.Verdicts.{refusal_due_of, refusal_is_not_done}
-use Rattle.command_line.specs.Answers.{Answers, IsRefusal}
+use Rattle.transcode_words.specs.Answers.{Answers, IsRefusal}
 use Rattle.transcode_core.specs.Causes.{SomeLoad, OneRead, Fails, Reaches, files_of, ReachesFile, reads_input, ReadsInput, reads_document, ReadsDocument, ReachesInput, Deciding}
 
 -- the words ask for one thing

@@ -5,7 +5,7 @@ use Rattle.std.proofs.lemmas.Bool.{and_parts}
 use Rattle.std.proofs.lemmas.List.{length-append}
 use Rattle.std.proofs.lemmas.List.Elements.{All-head, All-tail}
 use lib.Utf8.{scalar, scalars, scalar_cases, encode, encodes}
-use Rattle.label_tree.specs.Rose.{Rose, node, Roses, none, more, label_of, kids_of, length_all}
+use Rattle.base_trees.specs.Rose.{Rose, node, Roses, none, more, label_of, kids_of, length_all}
 use Rattle.simple_types.specs.declared.labels.ValueLabel.{ValueLabel}
 use Rattle.simple_types.specs.declared.labels.ValueLabel.TheVariants as value
 use Rattle.asn_types.specs.declared.marks.Instruction.{Instruction}
@@ -16,9 +16,9 @@ use Rattle.asn_types.specs.declared.types.TypeLabel.{TypeLabel}
 use Rattle.asn_types.specs.Refs.{resolve}
 use Rattle.asn_values.specs.Values.{ComponentPlace, places_in, places, below, IsTextOf, FitsAt, FitEach, In}
 use Rattle.der_fields.specs.Octets.{octets_of, value_from, length_octets, high_sevens, sevens, form_bit, context_identifier}
-use Rattle.der_fields.specs.Reading.{AreOctets}
-use Rattle.der_fields.proofs.Numbers.{Leads, shape_of, signed_again}
-use Rattle.der_form.specs.Encoding.{tagged, tags_of, universal_identifier, is_constructed, identifier, is_open, item_number, bool_octet, contents, headed, wrapped, der, each_der, distinguished}
+use Rattle.der_fields.specs.FieldsReading.{AreOctets}
+use Rattle.der_fields.proofs.FieldsNumbers.{Leads, shape_of, signed_again}
+use Rattle.der_fields.specs.Encoding.{tagged, tags_of, universal_identifier, is_constructed, identifier, is_open, item_number, bool_octet, contents, headed, wrapped, der, each_der, distinguished}
 
 pub all_octets : (xs : List ℕ) → All (λ x. x < 256) xs → AreOctets xs
 all_octets [] h = tt

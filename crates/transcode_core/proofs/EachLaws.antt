@@ -1,16 +1,16 @@
 -- Of the octets of records one outcome is due, with one list of bytes.
 use Rattle.std.proofs.Common.{◌≡◌, ◌⊎◌, ℕ, ◌+◌, ◌-◌, ◌<◌, true, List, [], ◌∷◌, ◌++◌, length, take, drop, refl, sym, ap, ◌∙◌, subst, inl, inr, arith, Some, Ok}
-use Rattle.label_tree.specs.Rose.{Rose}
+use Rattle.base_trees.specs.Rose.{Rose}
 use Rattle.simple_types.specs.declared.labels.ValueLabel.{ValueLabel}
 use Rattle.per_fields.specs.declared.stops.Stop.{Stop}
 use Rattle.per_fields.proofs.Law.{one_stop}
-use Rattle.per_stops.specs.Stopping.{StopsFirst}
-use Rattle.per_stops.proofs.Law.{stops_as_read}
+use Rattle.per_fields.specs.Stopping.{StopsFirst}
+use Rattle.per_fields.proofs.StopLaw.{stops_as_read}
 use Rattle.record_stream.specs.Next.{within, fault_of, most_of}
 use Rattle.record_stream.proofs.Cutting.{one_cut_of}
-use Rattle.schema_parts.specs.Components.{Set}
-use Rattle.command_line.specs.declared.outcome.Outcome.{Outcome}
-use Rattle.command_line.specs.declared.outcome.Outcome.TheVariants.{Done, Usage, SchemaSyntax, SchemaFault, LinkFault, UnknownRoot, DocSyntax, Invalid, PerFault, DerFault, ModuleFault, RecordFault, Trailing, TooLong, TooManyNodes, LoadFault, ReadFault, WriteFault, OutOfMemory}
+use Rattle.schema_components.specs.Components.{Set}
+use Rattle.transcode_words.specs.declared.outcome.Outcome.{Outcome}
+use Rattle.transcode_words.specs.declared.outcome.Outcome.TheVariants.{Done, Usage, SchemaSyntax, SchemaFault, LinkFault, UnknownRoot, DocSyntax, Invalid, PerFault, DerFault, ModuleFault, RecordFault, Trailing, TooLong, TooManyNodes, LoadFault, ReadFault, WriteFault, OutOfMemory}
 use Rattle.transcode_core.specs.Steps.{RootType, IsTypeOf}
 use Rattle.transcode_core.specs.Each.{each_limit, Documents, outcome_of, EndsAs, EachDue}
 use Rattle.transcode_core.proofs.Single.{Written-single, ok_inj}

@@ -3,9 +3,9 @@ use Rattle.std.proofs.Common.{◌≡◌, ◌⊎◌, ℕ, ◌+◌, ◌-◌, ◌*�
 use Rattle.std.specs.Io.KnownBytes.{Appends}
 use Rattle.std.proofs.lemmas.List.{append-nil, drop-drop, length-drop}
 use Rattle.std.proofs.Math.Seq.{take-append-add}
-use Rattle.xa_base.specs.Faults.{HasRisen, one_more}
-use Rattle.xa_base.specs.Bytes.{AppendsFront}
-use Rattle.label_tree.specs.Rose.{Rose}
+use Rattle.base_texts.specs.Faults.{HasRisen, one_more}
+use Rattle.base_texts.specs.Bytes.{AppendsFront}
+use Rattle.base_trees.specs.Rose.{Rose}
 use Rattle.simple_types.specs.declared.labels.ValueLabel.{ValueLabel}
 use Rattle.asn_types.specs.declared.modules.Assignment.{Assignment}
 use Rattle.asn_values.specs.Values.{In}
@@ -13,7 +13,7 @@ use Rattle.per_fields.specs.declared.stops.Stop.{Stop}
 use Rattle.per_fields.specs.declared.stops.Why.{Why}
 use Rattle.per_fields.specs.Codec.{AllOf}
 use Rattle.per_fields.specs.Encoding.{complete}
-use Rattle.per_stops.specs.Stopping.{StopsFirst}
+use Rattle.per_fields.specs.Stopping.{StopsFirst}
 use Rattle.record_stream.specs.declared.errors.RecordError.{RecordError}
 use Rattle.record_stream.specs.declared.errors.RecordError.TheVariants as record_error
 use Rattle.record_stream.specs.Heads.{left_with}
@@ -21,9 +21,9 @@ use Rattle.record_stream.specs.Cuts.{BeginWith}
 use Rattle.record_stream.specs.Next.{AnswersNext, Answer, IsDue, within, fault_of, most_of}
 use Rattle.record_stream.proofs.Cutting.{begin_none, begin_more, begin_front, few_values}
 use Rattle.record_stream.proofs.Ending.{cut_at_end, cut_at_stop, cut_at_failure}
-use Rattle.schema_parts.specs.Components.{Set}
-use Rattle.command_line.specs.declared.outcome.Outcome.{Outcome}
-use Rattle.command_line.specs.declared.outcome.Outcome.TheVariants.{Done, TooLong, WriteFault, OutOfMemory}
+use Rattle.schema_components.specs.Components.{Set}
+use Rattle.transcode_words.specs.declared.outcome.Outcome.{Outcome}
+use Rattle.transcode_words.specs.declared.outcome.Outcome.TheVariants.{Done, TooLong, WriteFault, OutOfMemory}
 use Rattle.transcode_core.specs.Steps.{RootType, IsTypeOf, Written}
 use Rattle.transcode_core.specs.Each.{each_limit, Documents, outcome_of, EndsAs, EachDue, FirstDue, TakenDue, IsOfRecords, EachEnds}
 

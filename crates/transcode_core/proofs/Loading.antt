@@ -3,11 +3,11 @@ use Rattle.std.proofs.Common.{◌≡◌, ℕ, suc, Bool, ◌+◌, ◌<◌, ◌�
 use Rattle.std.proofs.lemmas.List.{take-append-drop, take_more}
 use Rattle.std.proofs.Math.Seq.{drop-cons}
 use Rattle.std.proofs.lemmas.Grind.{common_steps}
-use Rattle.xa_base.specs.Faults.{HasRisen}
-use Rattle.schema_parts.specs.Raw.{Document}
-use Rattle.command_line.specs.declared.outcome.Outcome.{Outcome}
+use Rattle.base_texts.specs.Faults.{HasRisen}
+use Rattle.schema_components.specs.Raw.{Document}
+use Rattle.transcode_words.specs.declared.outcome.Outcome.{Outcome}
 use Rattle.transcode_core.specs.Steps.{Schema, Schemas}
-use Rattle.command_line.specs.Answers.{IsRefusal}
+use Rattle.transcode_words.specs.Answers.{IsRefusal}
 use Rattle.transcode_core.specs.Causes.{OneLoad, SomeLoad}
 
 abbrev pub Documents : Type 0

@@ -1,16 +1,16 @@
 -- Octets are the encoding of one value, or are refused once.
 use Rattle.std.proofs.Common.{◌≡◌, ℕ, ◌≤◌, List, length, refl, sym, ap, ◌∙◌, subst, inl, inr, arith, Option, Some, None, Ok}
 use Rattle.std.proofs.lemmas.List.{take_all}
-use Rattle.label_tree.specs.Rose.{Rose}
+use Rattle.base_trees.specs.Rose.{Rose}
 use Rattle.simple_types.specs.declared.labels.ValueLabel.{ValueLabel}
 use Rattle.asn_values.specs.Values.{In}
-use Rattle.command_line.specs.declared.outcome.Outcome.{Outcome}
-use Rattle.command_line.specs.declared.outcome.Outcome.TheVariants.{Trailing}
-use Rattle.command_line.specs.declared.tasks.Syntax.{Syntax}
-use Rattle.command_line.specs.declared.tasks.Syntax.TheVariants.{Aligned, Unaligned, Der}
+use Rattle.transcode_words.specs.declared.outcome.Outcome.{Outcome}
+use Rattle.transcode_words.specs.declared.outcome.Outcome.TheVariants.{Trailing}
+use Rattle.transcode_words.specs.declared.tasks.Syntax.{Syntax}
+use Rattle.transcode_words.specs.declared.tasks.Syntax.TheVariants.{Aligned, Unaligned, Der}
 use Rattle.transcode_core.specs.Steps.{RootType, IsTypeOf, IsNoEncoding, readable, fault_in, AreNoEncoding, Decoded}
 use Rattle.transcode_core.specs.Syntaxes.{Fault, IsEncoding, BeginsWith, HasFault, AreOctetsOf, IsOneOfTwo, AllSyntaxes}
-use Rattle.schema_parts.specs.Components.{Set}
+use Rattle.schema_components.specs.Components.{Set}
 
 abbrev pub Whole : Syntax → RootType → List ℕ → Rose ValueLabel → Type 0
 Whole syntax type octets v = (length octets ≤ 16777216) × In type.assignments type.number v × IsEncoding syntax type.assignments type.number v octets

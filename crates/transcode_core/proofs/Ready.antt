@@ -2,14 +2,14 @@
 use Rattle.std.proofs.Common.{◌≡◌, ◌⊎◌, ℕ, List, refl, sym, subst, inl, inr, Option, Result, Ok, Err}
 use Rattle.std.specs.Prelude.{Vec}
 use Rattle.std.specs.declared.alloc.Global.{Global}
-use Rattle.label_tree.specs.Rose.{Rose}
-use Rattle.item_tree.specs.declared.label.ItemLabel.{ItemLabel}
-use Rattle.command_line.specs.declared.outcome.Outcome.{Outcome}
-use Rattle.command_line.specs.declared.tasks.Syntax.{Syntax}
-use Rattle.command_line.specs.Order.{Give, Then}
-use Rattle.command_line.specs.Answers.{Answers, IsRefusal}
-use Rattle.command_line.proofs.Joined.{passed}
-use Rattle.schema_parts.specs.Components.{Set}
+use Rattle.base_trees.specs.Rose.{Rose}
+use Rattle.xml_items.specs.declared.label.ItemLabel.{ItemLabel}
+use Rattle.transcode_words.specs.declared.outcome.Outcome.{Outcome}
+use Rattle.transcode_words.specs.declared.tasks.Syntax.{Syntax}
+use Rattle.transcode_words.specs.Order.{Give, Then}
+use Rattle.transcode_words.specs.Answers.{Answers, IsRefusal}
+use Rattle.transcode_words.proofs.Joined.{passed}
+use Rattle.schema_components.specs.Components.{Set}
 use Rattle.transcode_core.specs.Preparing.{prepared_seen}
 use Rattle.transcode_core.specs.Steps.{RootType, IsTypeOf, Typed, ValueIn, Encoding}
 use Rattle.transcode_core.specs.Due.{ItemsIn, Encoded}

@@ -5,8 +5,8 @@ use Rattle.std.specs.Io.KnownBytes.{IsAtEnd}
 use Rattle.std.proofs.lemmas.List.{take_all, length-drop, length-append, append-nil}
 use Rattle.std.proofs.lemmas.Bool.{le-leb, lt-leb}
 use Rattle.asn_values.specs.Values.{In}
-use Rattle.bit_cursor.specs.Bits.{octet_bits}
-use Rattle.bit_cursor.proofs.BitLemmas.{length-octet_bits}
+use Rattle.base_codecs.specs.Bits.{octet_bits}
+use Rattle.base_codecs.proofs.BitLemmas.{length-octet_bits}
 use Rattle.per_fields.specs.declared.stops.Stop.{Stop}
 use Rattle.per_fields.specs.declared.stops.Why.{Why}
 use Rattle.per_fields.specs.declared.stops.Why.TheVariants as why
@@ -16,13 +16,13 @@ use Rattle.per_decode.specs.declared.errors.DecodeError.{DecodeError}
 use Rattle.per_decode.specs.declared.errors.DecodeError.TheVariants as error
 use Rattle.per_fields.specs.Stops.{is_short}
 use Rattle.per_decode.specs.Answers.{Answer, AnswersBy}
-use Rattle.command_line.specs.declared.outcome.Outcome.TheVariants.{PerFault, Trailing, TooLong}
+use Rattle.transcode_words.specs.declared.outcome.Outcome.TheVariants.{PerFault, Trailing, TooLong}
 use Rattle.transcode_core.specs.Steps as step
 use Rattle.transcode_core.specs.Steps.{RootType, IsTypeOf, readable, fault_in}
 use Rattle.transcode_core.specs.Syntaxes.{Fault, fault_of, per_syntax, HasFault}
 use Rattle.transcode_core.proofs.Syntaxes.{encoding_per, begins_per, per_fault, fault_per}
-use Rattle.schema_parts.specs.Components.{Set}
-use Rattle.per_stops.specs.Stopping.{StopsFirstBy}
+use Rattle.schema_components.specs.Components.{Set}
+use Rattle.per_fields.specs.Stopping.{StopsFirstBy}
 use Rattle.transcode_core.specs.Causes.{TakesItsField}
 
 short_is : (w : Why) → is_short w ≡ true → w ≡ why.Short

@@ -3,10 +3,10 @@ use Rattle.std.proofs.Common.{◌≡◌, ◌<◌, ℕ, zero, suc, take, arith, B
 use Rattle.std.specs.Prelude.{slice_get, IsSomeAnd, ◌||◌, if◌then◌else◌}
 use Rattle.std.specs.Option.{option_map}
 use Rattle.std.specs.List.{list_any, IsDistinct, AllByRecursion}
-use Rattle.xa_base.specs.declared.texts.Name.{Name}
-use Rattle.xa_base.specs.Names.{name_eq}
-use Rattle.xa_base.proofs.NameLaws.{name_eq-Decides}
-use Rattle.schema_parts.specs.declared.components.ElementDecl.{ElementDecl}
+use Rattle.base_texts.specs.declared.texts.Name.{Name}
+use Rattle.base_texts.specs.Names.{name_eq}
+use Rattle.base_texts.proofs.NameLaws.{name_eq-Decides}
+use Rattle.schema_components.specs.declared.components.ElementDecl.{ElementDecl}
 use Rattle.transcode_core.specs.Steps.{number_named}
 
 neither : (p q : Bool) → (p || q) ≡ false → (p ≡ false) × (q ≡ false)

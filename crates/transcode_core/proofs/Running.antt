@@ -2,12 +2,12 @@
 use Rattle.std.proofs.Common.{◌≡◌, ◌⊎◌, ℕ, ◌≤◌, List, [], length, refl, sym, ◌∙◌, subst, inl, inr, arith, Option, Some, None, Ok, Err}
 use Rattle.std.specs.Prelude.{IsTrue}
 use Rattle.std.specs.Io.KnownBytes.{Appends, IsAtEnd}
-use Rattle.xa_base.specs.Faults.{HasRisen}
-use Rattle.xa_base.specs.Bytes.{AppendsFront, LacksRoom}
-use Rattle.command_line.specs.declared.outcome.Outcome.{Outcome}
-use Rattle.command_line.specs.declared.outcome.Outcome.TheVariants.{Done, LoadFault, ReadFault, WriteFault, OutOfMemory}
-use Rattle.command_line.specs.Answers.{IsRefusal}
-use Rattle.command_line.specs.Lines.{line}
+use Rattle.base_texts.specs.Faults.{HasRisen}
+use Rattle.base_texts.specs.Bytes.{AppendsFront, LacksRoom}
+use Rattle.transcode_words.specs.declared.outcome.Outcome.{Outcome}
+use Rattle.transcode_words.specs.declared.outcome.Outcome.TheVariants.{Done, LoadFault, ReadFault, WriteFault, OutOfMemory}
+use Rattle.transcode_words.specs.Answers.{IsRefusal}
+use Rattle.transcode_words.specs.Lines.{line}
 use Rattle.transcode_core.specs.ReadBack.{ReadBack}
 use Rattle.transcode_core.specs.Runs.{Outside, Runs}
 use Rattle.transcode_core.specs.Due.{Due}

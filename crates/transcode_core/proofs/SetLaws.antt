@@ -1,12 +1,12 @@
 -- The documents of the files, and the set that they are.
 use Rattle.std.proofs.Common.{◌≡◌, ℕ, zero, suc, ◌+◌, List, [], ◌∷◌, length, refl, sym, ap, ◌∙◌, arith, Option, Some, Ok}
 use Rattle.std.specs.Prelude.{slice_get}
-use Rattle.label_tree.specs.Rose.{Rose, label_of, kids_of}
-use Rattle.item_tree.specs.declared.label.ItemLabel.{ItemLabel}
-use Rattle.item_tree.specs.declared.label.ItemLabel.TheVariants.{Element, Text}
-use Rattle.schema_parts.specs.Raw.{Document}
+use Rattle.base_trees.specs.Rose.{Rose, label_of, kids_of}
+use Rattle.xml_items.specs.declared.label.ItemLabel.{ItemLabel}
+use Rattle.xml_items.specs.declared.label.ItemLabel.TheVariants.{Element, Text}
+use Rattle.schema_components.specs.Raw.{Document}
 use Rattle.schema_read.specs.Raw.{raw_by}
-use Rattle.schema_link.specs.Sets.{AreNumbered}
+use Rattle.link_schemas.specs.Sets.{AreNumbered}
 use Rattle.transcode_core.specs.Steps.{Schema, Schemas}
 
 by_label : (k : ℕ) (label : ItemLabel) (kids : List (Rose ItemLabel)) → (raw_by k label kids).file ≡ k

@@ -1,62 +1,62 @@
 -- Where contents are told, at most one outcome or result is due.
 use Rattle.std.proofs.Common.{◌≡◌, ◌⊎◌, ℕ, ◌+◌, ◌≤◌, Bool, true, List, [], ◌∷◌, length, map, refl, sym, ap, ◌∙◌, subst, inl, inr, arith, Option, Some, None, Result, Ok, Err}
-use Rattle.xa_base.specs.Faults.{HasRisen}
-use Rattle.xa_base.specs.Entries.{beside}
-use Rattle.xa_base.specs.declared.texts.Name.{Name}
-use Rattle.label_tree.specs.Rose as tree
-use Rattle.label_tree.specs.Rose.{Rose, node_count, shown_count}
-use Rattle.item_tree.specs.declared.label.ItemLabel.{ItemLabel}
-use Rattle.doc_text.specs.declared.error.DocWhy.{DocWhy}
-use Rattle.doc_text.proofs.OneTree.{one_tree, tree_or_fault, one_fault}
-use Rattle.doc_text.proofs.PieceLaws.{PieceLaws}
-use Rattle.command_line.specs.declared.outcome.Outcome.{Outcome}
-use Rattle.command_line.specs.declared.outcome.Outcome.TheVariants.{Done, SchemaFault, LinkFault, ModuleFault, Invalid, TooManyNodes, OutOfMemory}
-use Rattle.command_line.specs.Order.{Give, Found, Then}
+use Rattle.base_texts.specs.Faults.{HasRisen}
+use Rattle.base_texts.specs.Entries.{beside}
+use Rattle.base_texts.specs.declared.texts.Name.{Name}
+use Rattle.base_trees.specs.Rose as tree
+use Rattle.base_trees.specs.Rose.{Rose, node_count, shown_count}
+use Rattle.xml_items.specs.declared.label.ItemLabel.{ItemLabel}
+use Rattle.xml_read.specs.declared.error.DocWhy.{DocWhy}
+use Rattle.xml_read.proofs.OneTree.{one_tree, tree_or_fault, one_fault}
+use Rattle.xml_read.proofs.PieceLaws.{PieceLaws}
+use Rattle.transcode_words.specs.declared.outcome.Outcome.{Outcome}
+use Rattle.transcode_words.specs.declared.outcome.Outcome.TheVariants.{Done, SchemaFault, LinkFault, ModuleFault, Invalid, TooManyNodes, OutOfMemory}
+use Rattle.transcode_words.specs.Order.{Give, Found, Then}
 use Rattle.schema_faults.specs.Faults.{first_fault, reasons}
 use Rattle.schema_faults.specs.declared.faults.DocumentFault.{DocumentFault}
 use Rattle.transcode_core.specs.Steps.{Loaded, Read, Faultless, Linked, Printed, ModuleIn, Schema, Schemas, Input, Judged, RootType, IsRootType, Typed, Valued, Encoding, Streamed, DecodedOf, Decoded, Written}
 use Rattle.transcode_core.specs.Due.{SetIn, Opened, ItemsIn, Checked, Encoded, Documented, Served, Tried, Answered, Due}
 use Rattle.transcode_core.specs.Private.Decided.{Decided}
-use Rattle.command_line.specs.declared.tasks.Syntax.{Syntax}
-use Rattle.command_line.specs.declared.tasks.Syntax.TheVariants.{Aligned, Unaligned, Der}
-use Rattle.command_line.specs.declared.tasks.Task.{Task}
-use Rattle.command_line.specs.declared.tasks.Task.TheVariants.{Check, Send, Receive}
+use Rattle.transcode_words.specs.declared.tasks.Syntax.{Syntax}
+use Rattle.transcode_words.specs.declared.tasks.Syntax.TheVariants.{Aligned, Unaligned, Der}
+use Rattle.transcode_words.specs.declared.tasks.Task.{Task}
+use Rattle.transcode_words.specs.declared.tasks.Task.TheVariants.{Check, Send, Receive}
 use Rattle.transcode_core.specs.Syntaxes.{AreOctetsOf, AllSyntaxes}
-use Rattle.command_line.specs.Words.{Asked, Show, ShowBack, Serve, Trial}
-use Rattle.command_line.specs.Answers.{IsRefusal}
+use Rattle.transcode_words.specs.Words.{Asked, Show, ShowBack, Serve, Trial}
+use Rattle.transcode_words.specs.Answers.{IsRefusal}
 use Rattle.transcode_core.specs.Causes.{reads_input, ReadsInput, IsTold, Deciding}
 use Rattle.schema_read.specs.Raw.{raw_of}
-use Rattle.schema_parts.specs.SetParts.{SetParts, NamedSpace, named_spaces, parts_of}
+use Rattle.schema_components.specs.SetParts.{SetParts, NamedSpace, named_spaces, parts_of}
 use Rattle.link_set.specs.Sets.{set_of}
 use Rattle.simple_types.specs.Seen.{space_of}
-use Rattle.schema_parts.specs.Components.{Set}
-use Rattle.schema_parts.specs.Linked.{IsLinked}
-use Rattle.plain_items.specs.Plain.{Plain}
-use Rattle.plain_items.specs.Unplaced.{unplaced}
-use Rattle.doc_written.specs.Written.{written}
+use Rattle.schema_components.specs.Components.{Set}
+use Rattle.schema_components.specs.Linked.{IsLinked}
+use Rattle.xml_items.specs.Plain.{Plain}
+use Rattle.xml_items.specs.Unplaced.{unplaced}
+use Rattle.xml_write.specs.Written.{written}
 use Rattle.simple_types.specs.declared.labels.ValueLabel.{ValueLabel}
 use Rattle.asn_types.specs.declared.modules.Assignment.{Assignment}
 use Rattle.asn_values.specs.Values.{Fits}
 use Rattle.xer_items.specs.Items.{Xer}
-use Rattle.one_value.specs.Statements.{OneValue}
+use Rattle.value_laws.specs.Statements.{OneValue}
 use Rattle.map_subjects.specs.declared.subjects.Subject.TheVariants as subject
 use Rattle.map_subjects.specs.declared.subjects.NamedSubject.{NamedSubject}
 use Rattle.map_subjects.specs.Subjects.{AreEntries, place_in}
 use Rattle.transcode_core.specs.Trial.{trial_name, trial_schema, trial_root, trial_document}
 use Rattle.transcode_core.proofs.Octets.{one_whole, whole_or_none, one_refusal, value_or_none, one_no_encoding}
 use Rattle.transcode_core.proofs.Verdicts.{outcome_of, bytes_of, decided, due_done}
-use Rattle.validity.specs.Laws.{AtMostOne}
-use Rattle.schema_parts.specs.declared.components.SimpleDef.{SimpleDef}
-use Rattle.map_694.proofs.Once.{one-map, one-entries}
-use Rattle.map_694.proofs.SameSets.{AreSame, map-same, name-of-same}
+use Rattle.validity_rules.specs.Laws.{AtMostOne}
+use Rattle.schema_components.specs.declared.components.SimpleDef.{SimpleDef}
+use Rattle.map_assignments.proofs.Once.{one-map, one-entries}
+use Rattle.map_assignments.proofs.SameSets.{AreSame, map-same, name-of-same}
 use Rattle.module_print.specs.Printed.{printed}
 use Rattle.module_read.specs.Tells.{OneAnswer}
 use Rattle.module_read.specs.Summary as back
-use Rattle.schema_parts.specs.Raw.{Document}
+use Rattle.schema_components.specs.Raw.{Document}
 use Rattle.link_names.specs.declared.faults.LinkingFault as link
-use Rattle.schema_link.specs.Passes.{passes}
-use Rattle.schema_link.proofs.OneAnswer.{one_shown, none_shown}
-use Rattle.schema_link.proofs.OneSet.{one_list}
+use Rattle.link_schemas.specs.Passes.{passes}
+use Rattle.link_schemas.proofs.OneAnswer.{one_shown, none_shown}
+use Rattle.link_schemas.proofs.OneSet.{one_list}
 
 -- at most one verdict
 abbrev pub IsSingle : {A : Type 0} → (Result A Outcome → Type 0) → Type 0

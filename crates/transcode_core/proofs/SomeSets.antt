@@ -1,32 +1,32 @@
 -- The files of a command are documents that are read, so where they pass they have a set and a map.
 use Rattle.std.proofs.Common.{◌≡◌, ℕ, ◌+◌, ◌<◌, ◌^◌, List, [], ◌∷◌, map, length, All, refl, sym, ◌∙◌, subst, inl, inr, arith, Some, Ok}
 use Rattle.std.proofs.lemmas.List.Elements.{All-nil, All-cons, All-head, All-tail}
-use Rattle.xa_base.specs.Lists.{HasItem}
-use Rattle.label_tree.specs.Rose.{Rose}
-use Rattle.item_tree.specs.declared.label.ItemLabel.{ItemLabel}
-use Rattle.doc_text.specs.Documents.{DocOf}
-use Rattle.doc_text.specs.Sound.{AreItems}
-use Rattle.doc_text.proofs.Places.{doc_ascends}
+use Rattle.base_texts.specs.Lists.{HasItem}
+use Rattle.base_trees.specs.Rose.{Rose}
+use Rattle.xml_items.specs.declared.label.ItemLabel.{ItemLabel}
+use Rattle.xml_read.specs.Documents.{DocOf}
+use Rattle.xml_read.specs.Sound.{AreItems}
+use Rattle.xml_read.proofs.Places.{doc_ascends}
 use Rattle.simple_types.specs.Seen.{space_of}
 use Rattle.simple_types.specs.Space.{Space, Booleans, Wholes, Numbers, Words, Characters, ListOf, UnionOf}
 use Rattle.schema_faults.proofs.ShownLaws.{no_fault}
-use Rattle.schema_parts.specs.Components.{Set}
-use Rattle.schema_parts.specs.Linked.{IsLinked}
-use Rattle.schema_parts.specs.Raw.{Document}
-use Rattle.schema_parts.specs.SetParts.{SetParts, parts_of}
-use Rattle.schema_parts.specs.declared.components.SimpleDef.{SimpleDef}
-use Rattle.link_cycles.specs.SimpleTypes.{simple_types}
+use Rattle.schema_components.specs.Components.{Set}
+use Rattle.schema_components.specs.Linked.{IsLinked}
+use Rattle.schema_components.specs.Raw.{Document}
+use Rattle.schema_components.specs.SetParts.{SetParts, parts_of}
+use Rattle.schema_components.specs.declared.components.SimpleDef.{SimpleDef}
+use Rattle.link_names.specs.SimpleTypes.{simple_types}
 use Rattle.link_simple.specs.Making.{IsMaking}
 use Rattle.link_set.specs.Sets.{set_of}
-use Rattle.schema_link.specs.Passes.{passes, ArePassed}
-use Rattle.schema_link.specs.Sets.{AreNumbered}
+use Rattle.link_schemas.specs.Passes.{passes, ArePassed}
+use Rattle.link_schemas.specs.Sets.{AreNumbered}
 use Rattle.asn_types.specs.declared.modules.Assignment.{Assignment}
 use Rattle.asn_types.specs.Bounds.{IsBounded}
 use Rattle.asn_types.specs.Modules.{IsModule}
 use Rattle.map_assignments.specs.Mapped.{IsMapOf}
-use Rattle.simple_values.specs.Small.{IsSmall}
-use Rattle.map_widths.specs.Widths.{IsWide, HasWidths}
-use Rattle.set_exists.specs.Reading.{IsReadAs, AreRead}
+use Rattle.simple_types.specs.Small.{IsSmall}
+use Rattle.map_laws.specs.Widths.{IsWide, HasWidths}
+use Rattle.link_exists.specs.Reading.{IsReadAs, AreRead}
 use Rattle.transcode_core.specs.Steps.{Schema, Schemas, AreParts}
 use Rattle.transcode_core.proofs.Answering.{HasMap, SetLaws}
 use Rattle.transcode_core.proofs.SetLaws.{are_numbered}

@@ -2,20 +2,20 @@
 use Rattle.std.proofs.Common.{◌≡◌, ℕ, zero, suc, ◌*◌, ◌/◌, ◌<◌, ◌≤◌, ◌^◌, Bool, true, false, List, [], ◌∷◌, ◌++◌, length, take, drop, All, refl, sym, ap, ◌∙◌, subst, inl, inr, arith}
 use Rattle.std.proofs.lemmas.List.{length-take, length-append, append-nil, take-append-drop}
 use Rattle.std.proofs.lemmas.List.Elements.{All-head, All-tail, All-nil, All-cons}
-use Rattle.label_tree.specs.Rose.{Rose}
+use Rattle.base_trees.specs.Rose.{Rose}
 use Rattle.simple_types.specs.declared.labels.ValueLabel.{ValueLabel}
 use Rattle.asn_types.specs.declared.modules.Assignment.{Assignment}
 use Rattle.asn_types.specs.Modules.{IsModule}
 use Rattle.asn_types.specs.Bounds.{IsBounded}
-use Rattle.bit_cursor.specs.Bits.{number, bits, octet, octet_bits}
-use Rattle.bit_cursor.proofs.BitLemmas.{bits-number, number-lt, length-bits, number-bits, length-octet_bits}
+use Rattle.base_codecs.specs.Bits.{number, bits, octet, octet_bits}
+use Rattle.base_codecs.proofs.BitLemmas.{bits-number, number-lt, length-bits, number-bits, length-octet_bits}
 use Rattle.per_fields.specs.Encoding.{complete_by}
 use Rattle.per_fields.specs.Laws as law
-use Rattle.per_stops.specs.Laws.{OneOfTwoBy}
-use Rattle.command_line.specs.declared.tasks.Syntax.TheVariants.{Aligned, Unaligned, Der}
-use Rattle.der_fields.specs.Reading.{AreOctets}
-use Rattle.der_form.specs.Encoding.{distinguished}
-use Rattle.der_stops.specs.Laws as der
+use Rattle.per_fields.specs.StopLaws.{OneOfTwoBy}
+use Rattle.transcode_words.specs.declared.tasks.Syntax.TheVariants.{Aligned, Unaligned, Der}
+use Rattle.der_fields.specs.FieldsReading.{AreOctets}
+use Rattle.der_fields.specs.Encoding.{distinguished}
+use Rattle.der_fields.specs.StopLaws as der
 use Rattle.transcode_core.specs.Syntaxes.{Fault, fault_of, der_fault_of, per_syntax, IsPer, BeginsWithPer, HasPerFault, IsEncoding, BeginsWith, HasFault, HaveEightBits, AreOctetsOf, IsOneOfTwo, SyntaxLaw, AllSyntaxes}
 use Rattle.transcode_core.proofs.DerOctets.{distinguished_octets}
 

@@ -3,13 +3,13 @@ use Rattle.std.proofs.Common.{◌≡◌, ℕ, ◌<◌, List, [], ◌++◌, lengt
 use Rattle.std.proofs.lemmas.Bool.{cases_lt}
 use Rattle.std.proofs.lemmas.List.{length-append}
 use Rattle.der_fields.specs.declared.stops.Why.{Why}
-use Rattle.der_fields.specs.Reading.{stop_at}
-use Rattle.der_form.specs.Encoding.{distinguished}
+use Rattle.der_fields.specs.FieldsReading.{stop_at}
+use Rattle.der_fields.specs.Encoding.{distinguished}
 use Rattle.der_decode.specs.declared.decoded.Decoded.{Decoded}
 use Rattle.der_decode.specs.declared.errors.DecodeError.TheVariants.{Bad}
 use Rattle.der_decode.specs.Answers.{Says}
-use Rattle.command_line.specs.declared.outcome.Outcome.TheVariants.{DerFault, Trailing}
-use Rattle.command_line.specs.declared.tasks.Syntax.TheVariants.{Der}
+use Rattle.transcode_words.specs.declared.outcome.Outcome.TheVariants.{DerFault, Trailing}
+use Rattle.transcode_words.specs.declared.tasks.Syntax.TheVariants.{Der}
 use Rattle.transcode_core.specs.Steps.{RootType, DecodedOf}
 use Rattle.transcode_core.specs.Syntaxes.{der_fault_of}
 use Rattle.transcode_core.proofs.DerOctets.{all_octets}

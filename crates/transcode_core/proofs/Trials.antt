@@ -2,19 +2,19 @@
 use Rattle.std.proofs.Common.{◌≡◌, ◌⊎◌, ℕ, List, [], ◌∷◌, ◌++◌, length, refl, ◌∙◌, ap, subst, inl, inr, arith, Option, Some, None, Result, Ok, Err}
 use Rattle.std.specs.Prelude.{Vec, true}
 use Rattle.std.specs.declared.alloc.Global.{Global}
-use Rattle.xa_base.specs.Entries.{beside}
-use Rattle.command_line.specs.declared.outcome.Outcome.{Outcome}
-use Rattle.command_line.specs.declared.tasks.Syntax.TheVariants.{Aligned}
-use Rattle.command_line.specs.declared.tasks.Task.TheVariants.{Send}
-use Rattle.command_line.specs.Words.{Serve}
-use Rattle.label_tree.specs.Rose.{Rose}
-use Rattle.item_tree.specs.declared.label.ItemLabel.{ItemLabel}
+use Rattle.base_texts.specs.Entries.{beside}
+use Rattle.transcode_words.specs.declared.outcome.Outcome.{Outcome}
+use Rattle.transcode_words.specs.declared.tasks.Syntax.TheVariants.{Aligned}
+use Rattle.transcode_words.specs.declared.tasks.Task.TheVariants.{Send}
+use Rattle.transcode_words.specs.Words.{Serve}
+use Rattle.base_trees.specs.Rose.{Rose}
+use Rattle.xml_items.specs.declared.label.ItemLabel.{ItemLabel}
 use Rattle.transcode_core.specs.Trial.{trial_name, trial_schema, trial_root, trial_document, summary}
-use Rattle.command_line.specs.Order.{Give, Then}
+use Rattle.transcode_words.specs.Order.{Give, Then}
 use Rattle.transcode_core.specs.Due.{Opened, ItemsIn, Served, Answered, Tried}
-use Rattle.command_line.specs.Answers.{Answers, NoMemory, IsRefusal}
+use Rattle.transcode_words.specs.Answers.{Answers, NoMemory, IsRefusal}
 use Rattle.transcode_core.specs.Causes.{Answering, StepsUpTo, StepsFrom}
-use Rattle.command_line.proofs.Joined.{passed, refused}
+use Rattle.transcode_words.proofs.Joined.{passed, refused}
 
 abbrev pub trial_files : List (List ℕ × List ℕ)
 trial_files = (trial_name, trial_schema) ∷ []

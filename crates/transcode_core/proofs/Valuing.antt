@@ -1,17 +1,17 @@
 -- What reading a document's value answers is what is due of it.
 use Rattle.std.proofs.Common.{◌≡◌, ℕ, ◌≤◌, refl, sym, ap, subst, inl, inr, Some, Ok, Err}
-use Rattle.label_tree.specs.Rose.{Rose, node_count}
+use Rattle.base_trees.specs.Rose.{Rose, node_count}
 use Rattle.simple_types.specs.declared.labels.ValueLabel.{ValueLabel}
-use Rattle.item_tree.specs.declared.label.ItemLabel.{ItemLabel}
-use Rattle.schema_parts.specs.Components.{Set}
-use Rattle.schema_parts.specs.SetParts.{parts_of}
-use Rattle.validity.specs.declared.why.InvalidWhy.{InvalidWhy}
-use Rattle.validity.specs.Faults.{FirstFault}
+use Rattle.xml_items.specs.declared.label.ItemLabel.{ItemLabel}
+use Rattle.schema_components.specs.Components.{Set}
+use Rattle.schema_components.specs.SetParts.{parts_of}
+use Rattle.validity_rules.specs.declared.why.InvalidWhy.{InvalidWhy}
+use Rattle.validity_rules.specs.Faults.{FirstFault}
 use Rattle.asn_values.specs.Values.{Fits, In}
 use Rattle.xer_items.specs.Items.{Xer}
 use Rattle.map_assignments.specs.Mapped.{root_at}
 use Rattle.xer_read.specs.Answers.{IsValueOf, IsTooLarge}
-use Rattle.command_line.specs.declared.outcome.Outcome.TheVariants.{Invalid, TooManyNodes}
+use Rattle.transcode_words.specs.declared.outcome.Outcome.TheVariants.{Invalid, TooManyNodes}
 use Rattle.transcode_core.specs.Steps.{RootType, IsTypeOf, AreLinked, ValueIn}
 
 module _ (s : Set) (n : ℕ) (type : RootType) (h : IsTypeOf s n type) where

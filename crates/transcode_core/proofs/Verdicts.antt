@@ -1,30 +1,30 @@
 -- A verdict before it is written, and the outcome with its bytes.
 use Rattle.std.specs.Prelude.{◌&&◌, nat_le}
 use Rattle.std.proofs.Common.{◌≡◌, ℕ, ◌+◌, Bool, true, false, cond, List, [], ◌∷◌, length, refl, ap, ◌∙◌, subst, inl, inr, Option, Some, None, Result, Ok, Err}
-use Rattle.label_tree.specs.Rose.{Rose}
-use Rattle.item_tree.specs.declared.label.ItemLabel.{ItemLabel}
-use Rattle.doc_text.specs.declared.error.DocWhy.{DocWhy}
-use Rattle.schema_parts.specs.Raw.{Document}
-use Rattle.schema_parts.specs.SetParts.{SetParts}
+use Rattle.base_trees.specs.Rose.{Rose}
+use Rattle.xml_items.specs.declared.label.ItemLabel.{ItemLabel}
+use Rattle.xml_read.specs.declared.error.DocWhy.{DocWhy}
+use Rattle.schema_components.specs.Raw.{Document}
+use Rattle.schema_components.specs.SetParts.{SetParts}
 use Rattle.schema_read.specs.Raw.{raw_of}
-use Rattle.plain_items.specs.Plain.{Plain}
-use Rattle.xa_base.specs.declared.texts.Name.{Name}
+use Rattle.xml_items.specs.Plain.{Plain}
+use Rattle.base_texts.specs.declared.texts.Name.{Name}
 use Rattle.asn_types.specs.declared.modules.Assignment.{Assignment}
-use Rattle.command_line.specs.declared.outcome.Outcome.{Outcome}
-use Rattle.command_line.specs.declared.outcome.Outcome.TheVariants.{Done, Usage, SchemaSyntax, SchemaFault, LinkFault, UnknownRoot, DocSyntax, Invalid, PerFault, RecordFault, DerFault, ModuleFault, Trailing, TooLong, TooManyNodes, LoadFault, ReadFault, WriteFault, OutOfMemory}
-use Rattle.command_line.specs.declared.tasks.Syntax.{Syntax}
-use Rattle.command_line.specs.declared.tasks.Syntax.TheVariants.{Aligned, Unaligned, Der}
-use Rattle.command_line.specs.declared.tasks.Task.{Task}
-use Rattle.command_line.specs.declared.tasks.Task.TheVariants.{Check, Send, Receive}
-use Rattle.command_line.specs.Order.{Give, Then}
+use Rattle.transcode_words.specs.declared.outcome.Outcome.{Outcome}
+use Rattle.transcode_words.specs.declared.outcome.Outcome.TheVariants.{Done, Usage, SchemaSyntax, SchemaFault, LinkFault, UnknownRoot, DocSyntax, Invalid, PerFault, RecordFault, DerFault, ModuleFault, Trailing, TooLong, TooManyNodes, LoadFault, ReadFault, WriteFault, OutOfMemory}
+use Rattle.transcode_words.specs.declared.tasks.Syntax.{Syntax}
+use Rattle.transcode_words.specs.declared.tasks.Syntax.TheVariants.{Aligned, Unaligned, Der}
+use Rattle.transcode_words.specs.declared.tasks.Task.{Task}
+use Rattle.transcode_words.specs.declared.tasks.Task.TheVariants.{Check, Send, Receive}
+use Rattle.transcode_words.specs.Order.{Give, Then}
 use Rattle.transcode_core.specs.Syntaxes.{Fault, HasFault}
 use Rattle.transcode_core.specs.Steps.{Loaded, Read, Faultless, SchemaIn, Schema, Schemas, Linked, Rooted, Printed, ModuleIn, Input, Judged, RootType, Typed, Valued, ValueIn, Encoding, readable, AreNoEncoding, Streamed, Decoded, Written}
 use Rattle.module_read.specs.Summary as back
-use Rattle.command_line.specs.Words.{Asked, Show, ShowBack, Serve, Trial}
+use Rattle.transcode_words.specs.Words.{Asked, Show, ShowBack, Serve, Trial}
 use Rattle.transcode_core.specs.Trial.{trial_name, trial_schema, trial_root, trial_document, summary}
 use Rattle.transcode_core.specs.Due.{Requested, SetIn, Opened, ItemsIn, Encoded, Served, TrialSent, Answered, Whole, Due}
 use Rattle.transcode_core.specs.Private.Decided.{Decided}
-use Rattle.command_line.specs.Answers.{IsRefusal}
+use Rattle.transcode_words.specs.Answers.{IsRefusal}
 
 abbrev pub Verdict : Type 0
 Verdict = Result (List ℕ) Outcome

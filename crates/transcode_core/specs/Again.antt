@@ -1,12 +1,12 @@
 -- What was written of a document, and taken again.
 use Rattle.std.specs.Prelude.{ℕ, List, Option, Ok}
-use Rattle.xa_base.specs.declared.texts.Name.{Name}
-use Rattle.label_tree.specs.Rose.{Rose}
-use Rattle.plain_items.specs.Plain.{Plain}
-use Rattle.schema_parts.specs.SetParts.{SetParts}
-use Rattle.command_line.specs.declared.tasks.Syntax.{Syntax}
-use Rattle.command_line.specs.declared.tasks.Task.TheVariants.{Send, Receive}
-use Rattle.command_line.specs.Words.{Serve}
+use Rattle.base_texts.specs.declared.texts.Name.{Name}
+use Rattle.base_trees.specs.Rose.{Rose}
+use Rattle.xml_items.specs.Plain.{Plain}
+use Rattle.schema_components.specs.SetParts.{SetParts}
+use Rattle.transcode_words.specs.declared.tasks.Syntax.{Syntax}
+use Rattle.transcode_words.specs.declared.tasks.Task.TheVariants.{Send, Receive}
+use Rattle.transcode_words.specs.Words.{Serve}
 use Rattle.transcode_core.specs.Due.{Requested, Opened}
 use Rattle.transcode_core.specs.ReadBack.{IsValidText}
 

@@ -1,22 +1,22 @@
 -- Answers of the outside, each with its cause.
 use Rattle.std.specs.Prelude.{◌≡◌, ◌⊎◌, ℕ, suc, ◌+◌, ◌*◌, ◌≤◌, drop, Bool, true, false, IsTrue, List, [], ◌∷◌, ◌++◌, length, Option, Some, None, Ok}
-use Rattle.xa_base.specs.Faults.{HasRisen}
-use Rattle.xa_base.specs.Entries.{Lacks}
-use Rattle.command_line.specs.declared.outcome.Outcome.{Outcome}
-use Rattle.command_line.specs.declared.outcome.Outcome.TheVariants.{Done, Usage, SchemaSyntax, SchemaFault, LinkFault, UnknownRoot, ModuleFault, TooLong, LoadFault, ReadFault, WriteFault, OutOfMemory}
-use Rattle.schema_parts.specs.Raw.{Document}
-use Rattle.schema_parts.specs.SetParts.{SetParts}
+use Rattle.base_texts.specs.Faults.{HasRisen}
+use Rattle.base_texts.specs.Entries.{Lacks}
+use Rattle.transcode_words.specs.declared.outcome.Outcome.{Outcome}
+use Rattle.transcode_words.specs.declared.outcome.Outcome.TheVariants.{Done, Usage, SchemaSyntax, SchemaFault, LinkFault, UnknownRoot, ModuleFault, TooLong, LoadFault, ReadFault, WriteFault, OutOfMemory}
+use Rattle.schema_components.specs.Raw.{Document}
+use Rattle.schema_components.specs.SetParts.{SetParts}
 use Rattle.transcode_core.specs.Steps.{Schemas, RootType, Typed, readable}
-use Rattle.command_line.specs.declared.tasks.Syntax.{Syntax}
-use Rattle.command_line.specs.declared.tasks.Syntax.TheVariants.{Aligned, Unaligned, Der}
-use Rattle.command_line.specs.Tasks.{Reads, ADocument, Octets, reads, is_document}
+use Rattle.transcode_words.specs.declared.tasks.Syntax.{Syntax}
+use Rattle.transcode_words.specs.declared.tasks.Syntax.TheVariants.{Aligned, Unaligned, Der}
+use Rattle.transcode_words.specs.Tasks.{Reads, ADocument, Octets, reads, is_document}
 use Rattle.transcode_core.specs.Syntaxes.{Fault, HasFault, AreOctetsOf}
-use Rattle.command_line.specs.Words.{Asked, Show, ShowBack, Serve, Trial}
+use Rattle.transcode_words.specs.Words.{Asked, Show, ShowBack, Serve, Trial}
 use Rattle.transcode_core.specs.Due.{Requested, Opened, ItemsIn}
 use Rattle.transcode_core.specs.Trial.{trial_document}
-use Rattle.label_tree.specs.Rose.{Rose}
-use Rattle.item_tree.specs.declared.label.ItemLabel.{ItemLabel}
-use Rattle.item_tree.specs.Counts.{element_count}
+use Rattle.base_trees.specs.Rose.{Rose}
+use Rattle.xml_items.specs.declared.label.ItemLabel.{ItemLabel}
+use Rattle.xml_items.specs.Counts.{element_count}
 
 -- the count of the library rose, and over a sure library none has the name
 pub record Fails (before now : ℕ) (is_sure : Bool) (entries : Option (List (List ℕ × List ℕ))) (name : List ℕ) : Type 0 where

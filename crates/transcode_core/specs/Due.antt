@@ -1,18 +1,18 @@
 -- The outcome and the bytes due: the first refusal in the order of the steps and no bytes, or Done and the bytes of the result.
 use Rattle.std.specs.Prelude.{◌≡◌, ◌⊎◌, ℕ, List, [], ◌∷◌, length, Option, Some, Result, Ok, Err}
-use Rattle.xa_base.specs.declared.texts.Name.{Name}
-use Rattle.label_tree.specs.Rose.{Rose}
-use Rattle.item_tree.specs.declared.label.ItemLabel.{ItemLabel}
-use Rattle.schema_parts.specs.SetParts.{SetParts}
-use Rattle.command_line.specs.declared.outcome.Outcome.{Outcome}
-use Rattle.command_line.specs.declared.outcome.Outcome.TheVariants.{Done, Usage, DocSyntax}
-use Rattle.command_line.specs.declared.tasks.Syntax.{Syntax}
-use Rattle.command_line.specs.declared.tasks.Syntax.TheVariants.{Aligned}
-use Rattle.command_line.specs.declared.tasks.Task.{Task}
-use Rattle.command_line.specs.declared.tasks.Task.TheVariants.{Check, Send, Receive}
-use Rattle.command_line.specs.Words.{Asked, Show, ShowBack, Serve, Trial, asked}
+use Rattle.base_texts.specs.declared.texts.Name.{Name}
+use Rattle.base_trees.specs.Rose.{Rose}
+use Rattle.xml_items.specs.declared.label.ItemLabel.{ItemLabel}
+use Rattle.schema_components.specs.SetParts.{SetParts}
+use Rattle.transcode_words.specs.declared.outcome.Outcome.{Outcome}
+use Rattle.transcode_words.specs.declared.outcome.Outcome.TheVariants.{Done, Usage, DocSyntax}
+use Rattle.transcode_words.specs.declared.tasks.Syntax.{Syntax}
+use Rattle.transcode_words.specs.declared.tasks.Syntax.TheVariants.{Aligned}
+use Rattle.transcode_words.specs.declared.tasks.Task.{Task}
+use Rattle.transcode_words.specs.declared.tasks.Task.TheVariants.{Check, Send, Receive}
+use Rattle.transcode_words.specs.Words.{Asked, Show, ShowBack, Serve, Trial, asked}
 use Rattle.module_read.specs.Summary as back
-use Rattle.command_line.specs.Order.{Give, Found, Then}
+use Rattle.transcode_words.specs.Order.{Give, Found, Then}
 use Rattle.transcode_core.specs.Trial.{trial_root, trial_name, trial_schema, trial_document, summary}
 use Rattle.transcode_core.specs.Steps.{Loaded, Schemas, Linked, Printed, ModuleIn, Rooted, Input, Read, Judged, Typed, ValueIn, Encoding, Decoded, Written}
 

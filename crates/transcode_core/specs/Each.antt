@@ -2,20 +2,20 @@
 -- input. Unlike all other results these come one by one, so that a refusal stands behind those before it.
 use Rattle.std.specs.Prelude.{◌≡◌, ℕ, zero, ◌+◌, ◌-◌, ◌<◌, ◌≤◌, List, [], ◌∷◌, ◌++◌, length, take, drop, Option, Some, None, Ok}
 use Rattle.std.specs.Io.KnownBytes.{Appends}
-use Rattle.xa_base.specs.Faults.{HasRisen}
-use Rattle.xa_base.specs.Bytes.{AppendsFront}
-use Rattle.label_tree.specs.Rose.{Rose}
+use Rattle.base_texts.specs.Faults.{HasRisen}
+use Rattle.base_texts.specs.Bytes.{AppendsFront}
+use Rattle.base_trees.specs.Rose.{Rose}
 use Rattle.simple_types.specs.declared.labels.ValueLabel.{ValueLabel}
 use Rattle.asn_values.specs.Values.{In}
 use Rattle.per_fields.specs.declared.stops.Stop.{Stop}
 use Rattle.per_fields.specs.Codec.{AllOf}
-use Rattle.per_stops.specs.Stopping.{StopsFirst}
+use Rattle.per_fields.specs.Stopping.{StopsFirst}
 use Rattle.record_stream.specs.declared.errors.RecordError.{RecordError}
 use Rattle.record_stream.specs.declared.errors.RecordError.TheVariants as record_error
 use Rattle.record_stream.specs.Cuts.{BeginWith, IsCut}
 use Rattle.record_stream.specs.Next.{within, fault_of}
-use Rattle.command_line.specs.declared.outcome.Outcome.{Outcome}
-use Rattle.command_line.specs.declared.outcome.Outcome.TheVariants.{Done, RecordFault, TooLong, ReadFault, WriteFault, OutOfMemory}
+use Rattle.transcode_words.specs.declared.outcome.Outcome.{Outcome}
+use Rattle.transcode_words.specs.declared.outcome.Outcome.TheVariants.{Done, RecordFault, TooLong, ReadFault, WriteFault, OutOfMemory}
 use Rattle.transcode_core.specs.Steps.{RootType, Written}
 
 -- how many octets the records of an input may have

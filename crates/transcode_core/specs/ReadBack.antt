@@ -1,19 +1,19 @@
 -- What is written for octets is read back. This is promised of the text that is written, and is no part of what is due.
 use Rattle.std.specs.Prelude.{◌≡◌, ℕ, ⊤, List, Option, Some, Ok}
-use Rattle.label_tree.specs.Rose.{Rose}
+use Rattle.base_trees.specs.Rose.{Rose}
 use Rattle.simple_types.specs.declared.labels.ValueLabel.{ValueLabel}
-use Rattle.item_tree.specs.declared.label.ItemLabel.{ItemLabel}
-use Rattle.doc_text.specs.Documents.{DocOf}
-use Rattle.plain_items.specs.Plain.{Plain}
-use Rattle.plain_items.specs.Unplaced.{unplaced}
-use Rattle.doc_written.specs.Written.{written}
-use Rattle.doc_written.specs.ReadBack.{ReadsAs}
-use Rattle.schema_parts.specs.SetParts.{SetParts}
+use Rattle.xml_items.specs.declared.label.ItemLabel.{ItemLabel}
+use Rattle.xml_read.specs.Documents.{DocOf}
+use Rattle.xml_items.specs.Plain.{Plain}
+use Rattle.xml_items.specs.Unplaced.{unplaced}
+use Rattle.xml_write.specs.Written.{written}
+use Rattle.xml_write.specs.ReadBack.{ReadsAs}
+use Rattle.schema_components.specs.SetParts.{SetParts}
 use Rattle.xer_items.specs.Items.{Xer}
-use Rattle.command_line.specs.declared.tasks.Syntax.{Syntax}
-use Rattle.command_line.specs.Tasks.{Reads, ADocument, Octets, reads}
+use Rattle.transcode_words.specs.declared.tasks.Syntax.{Syntax}
+use Rattle.transcode_words.specs.Tasks.{Reads, ADocument, Octets, reads}
 use Rattle.transcode_core.specs.Steps.{RootType, Typed, Decoded, Judged}
-use Rattle.command_line.specs.Words.{Asked, Show, ShowBack, Serve, Trial}
+use Rattle.transcode_words.specs.Words.{Asked, Show, ShowBack, Serve, Trial}
 use Rattle.transcode_core.specs.Due.{Requested, Opened}
 
 -- the text that is written of the items of the value (X.693) is read as a document with these items

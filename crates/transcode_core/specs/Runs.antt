@@ -1,14 +1,14 @@
 -- WHAT `run` PROMISES: of all commands that answer whole, and of the one whose documents come one by one.
 use Rattle.std.specs.Prelude.{◌≡◌, ◌⊎◌, ℕ, ◌≤◌, Bool, IsTrue, List, [], length, Option, Some, None, Ok, Err}
 use Rattle.std.specs.Io.KnownBytes.{Appends, IsAtEnd}
-use Rattle.xa_base.specs.Faults.{HasRisen}
-use Rattle.xa_base.specs.Bytes.{AppendsFront, LacksRoom}
-use Rattle.command_line.specs.declared.outcome.Outcome.{Outcome}
-use Rattle.command_line.specs.declared.outcome.Outcome.TheVariants.{Done, LoadFault, ReadFault, WriteFault, OutOfMemory}
-use Rattle.command_line.specs.Answers.{IsRefusal}
-use Rattle.command_line.specs.Lines.{line}
-use Rattle.xa_base.specs.declared.texts.Name.{Name}
-use Rattle.schema_parts.specs.SetParts.{SetParts}
+use Rattle.base_texts.specs.Faults.{HasRisen}
+use Rattle.base_texts.specs.Bytes.{AppendsFront, LacksRoom}
+use Rattle.transcode_words.specs.declared.outcome.Outcome.{Outcome}
+use Rattle.transcode_words.specs.declared.outcome.Outcome.TheVariants.{Done, LoadFault, ReadFault, WriteFault, OutOfMemory}
+use Rattle.transcode_words.specs.Answers.{IsRefusal}
+use Rattle.transcode_words.specs.Lines.{line}
+use Rattle.base_texts.specs.declared.texts.Name.{Name}
+use Rattle.schema_components.specs.SetParts.{SetParts}
 use Rattle.transcode_core.specs.Steps.{RootType, Typed}
 use Rattle.transcode_core.specs.Due.{Opened, Due}
 use Rattle.transcode_core.specs.Each.{Flow, EachEnds}

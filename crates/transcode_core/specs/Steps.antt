@@ -1,49 +1,49 @@
 -- Each step with what it passes on and what it refuses.
 use Rattle.std.specs.Prelude.{◌≡◌, ◌⊎◌, ℕ, zero, suc, ◌&&◌, ◌+◌, ◌<◌, ◌≤◌, ⊤, nat_le, List, [], ◌∷◌, map, take, length, Option, Some, None, Result, Ok, Err, if◌then◌else◌}
 use Rattle.std.specs.Option.{option_map}
-use Rattle.label_tree.specs.Rose.{Rose, node_count, shown_count}
-use Rattle.xa_base.specs.Entries.{HasEntry, HasLonger, Lacks}
-use Rattle.xa_base.specs.declared.texts.Name.{Name}
-use Rattle.xa_base.specs.Names.{name_eq}
-use Rattle.item_tree.specs.declared.label.ItemLabel.{ItemLabel}
-use Rattle.doc_text.specs.declared.error.DocWhy.{DocWhy}
-use Rattle.doc_text.specs.Documents.{DocOf, BrokenAt}
+use Rattle.base_trees.specs.Rose.{Rose, node_count, shown_count}
+use Rattle.base_texts.specs.Entries.{HasEntry, HasLonger, Lacks}
+use Rattle.base_texts.specs.declared.texts.Name.{Name}
+use Rattle.base_texts.specs.Names.{name_eq}
+use Rattle.xml_items.specs.declared.label.ItemLabel.{ItemLabel}
+use Rattle.xml_read.specs.declared.error.DocWhy.{DocWhy}
+use Rattle.xml_read.specs.Documents.{DocOf, BrokenAt}
 use Rattle.schema_faults.specs.Faults.{first_fault, reasons}
 use Rattle.schema_faults.specs.declared.faults.DocumentFault.{DocumentFault}
-use Rattle.schema_parts.specs.Raw.{Document}
+use Rattle.schema_components.specs.Raw.{Document}
 use Rattle.simple_types.specs.Space.{Space}
-use Rattle.link_cycles.specs.SimpleTypes.{simple_types}
-use Rattle.schema_parts.specs.Components.{Set}
-use Rattle.schema_parts.specs.Linked.{IsLinked}
-use Rattle.plain_items.specs.Plain.{Plain}
-use Rattle.plain_items.specs.Unplaced.{unplaced}
-use Rattle.validity.specs.declared.why.InvalidWhy.{InvalidWhy}
-use Rattle.validity.specs.Valid.{Valid}
-use Rattle.validity.specs.Faults.{FirstFault}
+use Rattle.link_names.specs.SimpleTypes.{simple_types}
+use Rattle.schema_components.specs.Components.{Set}
+use Rattle.schema_components.specs.Linked.{IsLinked}
+use Rattle.xml_items.specs.Plain.{Plain}
+use Rattle.xml_items.specs.Unplaced.{unplaced}
+use Rattle.validity_rules.specs.declared.why.InvalidWhy.{InvalidWhy}
+use Rattle.validity_rules.specs.Valid.{Valid}
+use Rattle.validity_rules.specs.Faults.{FirstFault}
 use Rattle.link_set.specs.Sets.{SetParts, parts_of, set_of}
 use Rattle.asn_types.specs.declared.modules.Assignment.{Assignment}
 use Rattle.asn_types.specs.Modules.{IsModule}
 use Rattle.asn_types.specs.Bounds.{IsBounded}
 use Rattle.asn_values.specs.Values.{Fits, In}
 use Rattle.simple_types.specs.declared.labels.ValueLabel.{ValueLabel}
-use Rattle.schema_parts.specs.Small.{AreSmall}
+use Rattle.schema_components.specs.Small.{AreSmall}
 use Rattle.map_assignments.specs.Mapped.{root_at, IsMapOf}
 use Rattle.xer_items.specs.Items.{Xer}
-use Rattle.doc_written.specs.Written.{written}
+use Rattle.xml_write.specs.Written.{written}
 use Rattle.module_print.specs.Printed.{printed}
-use Rattle.module_faults.specs.declared.reasons.ModuleWhy.{ModuleWhy}
-use Rattle.module_faults.specs.ReadBack.{IsBadAt}
+use Rattle.module_text.specs.declared.reasons.ModuleWhy.{ModuleWhy}
+use Rattle.module_text.specs.ReadBack.{IsBadAt}
 use Rattle.module_read.specs.Tells.{Tells}
-use Rattle.schema_parts.specs.declared.components.ElementDecl.{ElementDecl}
+use Rattle.schema_components.specs.declared.components.ElementDecl.{ElementDecl}
 use Rattle.link_names.specs.declared.faults.LinkingFault as link
-use Rattle.schema_link.specs.Passes.{passes, IsShownBy, ArePassed}
+use Rattle.link_schemas.specs.Passes.{passes, IsShownBy, ArePassed}
 use Rattle.schema_read.specs.Raw.{raw_of}
 use Rattle.link_simple.specs.Making.{IsMaking}
-use Rattle.command_line.specs.declared.outcome.Outcome.{Outcome}
-use Rattle.command_line.specs.declared.outcome.Outcome.TheVariants.{SchemaSyntax, SchemaFault, LinkFault, UnknownRoot, Invalid, PerFault, ModuleFault, Trailing, TooLong, TooManyNodes, LoadFault}
-use Rattle.command_line.specs.declared.tasks.Syntax.{Syntax}
-use Rattle.command_line.specs.declared.tasks.Syntax.TheVariants.{Aligned, Unaligned, Der}
-use Rattle.command_line.specs.Order.{Give, Found, Then}
+use Rattle.transcode_words.specs.declared.outcome.Outcome.{Outcome}
+use Rattle.transcode_words.specs.declared.outcome.Outcome.TheVariants.{SchemaSyntax, SchemaFault, LinkFault, UnknownRoot, Invalid, PerFault, ModuleFault, Trailing, TooLong, TooManyNodes, LoadFault}
+use Rattle.transcode_words.specs.declared.tasks.Syntax.{Syntax}
+use Rattle.transcode_words.specs.declared.tasks.Syntax.TheVariants.{Aligned, Unaligned, Der}
+use Rattle.transcode_words.specs.Order.{Give, Found, Then}
 use Rattle.transcode_core.specs.Syntaxes.{Fault, IsEncoding, BeginsWith, HasFault, HaveEightBits, AreOctetsOf}
 
 -- the contents of file k, if they are no more than the limit

@@ -1,27 +1,27 @@
 -- Transfer syntaxes: of each the encoding of a value, the octets that begin with one, and the first fault of those that don't.
 -- A further syntax is a row of each, and one of the law below.
 use Rattle.std.specs.Prelude.{◌≡◌, ◌⊎◌, ℕ, ◌*◌, ◌<◌, ◌≤◌, Bool, true, false, All, List, length}
-use Rattle.label_tree.specs.Rose.{Rose}
+use Rattle.base_trees.specs.Rose.{Rose}
 use Rattle.simple_types.specs.declared.labels.ValueLabel.{ValueLabel}
 use Rattle.asn_types.specs.declared.modules.Assignment.{Assignment}
 use Rattle.asn_types.specs.Modules.{IsModule}
 use Rattle.asn_types.specs.Bounds.{IsBounded}
 use Rattle.asn_values.specs.Values.{In}
-use Rattle.bit_cursor.specs.Bits.{octet_bits}
+use Rattle.base_codecs.specs.Bits.{octet_bits}
 use Rattle.per_fields.specs.declared.stops.Stop.{Stop}
 use Rattle.per_fields.specs.Encoding.{complete_by}
 use Rattle.per_fields.specs.Laws.{BeginsBy}
-use Rattle.per_stops.specs.Stopping.{StopsFirstBy}
+use Rattle.per_fields.specs.Stopping.{StopsFirstBy}
 use Rattle.per_fields.specs.Stops.{is_short}
 use Rattle.der_fields.specs.declared.stops.Stop.{Stop as DerStopping}
-use Rattle.der_fields.specs.Reading.{AreOctets}
-use Rattle.der_form.specs.Encoding.{distinguished}
-use Rattle.der_form.specs.Laws.{Begins}
-use Rattle.der_stops.specs.Stopping.{DerStop}
-use Rattle.command_line.specs.declared.outcome.Outcome.{Outcome}
-use Rattle.command_line.specs.declared.outcome.Outcome.TheVariants.{PerFault, DerFault}
-use Rattle.command_line.specs.declared.tasks.Syntax.{Syntax}
-use Rattle.command_line.specs.declared.tasks.Syntax.TheVariants.{Aligned, Unaligned, Der}
+use Rattle.der_fields.specs.FieldsReading.{AreOctets}
+use Rattle.der_fields.specs.Encoding.{distinguished}
+use Rattle.der_fields.specs.Laws.{Begins}
+use Rattle.der_fields.specs.Stopping.{DerStop}
+use Rattle.transcode_words.specs.declared.outcome.Outcome.{Outcome}
+use Rattle.transcode_words.specs.declared.outcome.Outcome.TheVariants.{PerFault, DerFault}
+use Rattle.transcode_words.specs.declared.tasks.Syntax.{Syntax}
+use Rattle.transcode_words.specs.declared.tasks.Syntax.TheVariants.{Aligned, Unaligned, Der}
 
 -- a first fault: how it is told, whether the octets end before it is decided, and the bit behind what shows it, or behind all octets
 -- where they are all there before any is looked at

@@ -1,6 +1,6 @@
 -- The trial: a schema that is part of the program, an order of so many lines, and the line that tells how long its encoding is.
 use Rattle.std.specs.Prelude.{ℕ, zero, suc, ◌+◌, ◌%◌, List, [], ◌++◌, codes, decimal}
-use Rattle.xa_base.specs.declared.texts.Name.{Name}
+use Rattle.base_texts.specs.declared.texts.Name.{Name}
 
 -- the name under which the schema stands
 abbrev pub trial_name : List ℕ

@@ -1,15 +1,15 @@
 //! The items of a document, from a source or lent.
 ghost use Rattle.std.specs.Prelude.{◌≤◌, Some, OnOk, IfErr};
 ghost use Rattle.std.specs.Io.KnownBytes.{IsAtEnd};
-ghost use Rattle.command_line.specs.Answers.{Answers, NoMemory};
+ghost use Rattle.transcode_words.specs.Answers.{Answers, NoMemory};
 ghost use Rattle.transcode_core.specs.Due.{ItemsIn};
 ghost use Rattle.transcode_core.specs.Causes.{OneRead, IsOfInput};
 
 use crate::files::{LIMIT, read_input, read_input_items, read_shared_items};
-use command_line::Outcome;
-use doc_text::Items;
+use base_texts::Source;
 use std::alloc::Global;
-use xa_base::Source;
+use transcode_words::Outcome;
+use xml_read::Items;
 
 /// The items of the document in the input.
 pub fn read_items<S: Source>(alloc: Global, input: &mut S) -> Result<Items, Outcome>

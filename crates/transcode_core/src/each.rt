@@ -1,21 +1,21 @@
 //! From records, one behind the other, to the texts of their values' documents.
 ghost use Rattle.std.specs.Prelude.{◌≡◌, ◌⊎◌, ℕ, ◌≤◌, List, None, OnOk, IfErr, Ok};
 ghost use Rattle.std.specs.Io.KnownBytes.{Appends, IsAtEnd};
-ghost use Rattle.xa_base.specs.Faults.{HasRisen};
-ghost use Rattle.xa_base.specs.Bytes.{AppendsFront};
+ghost use Rattle.base_texts.specs.Faults.{HasRisen};
+ghost use Rattle.base_texts.specs.Bytes.{AppendsFront};
 ghost use Rattle.asn_values.specs.Values.{In};
-ghost use Rattle.schema_parts.specs.Components.{Set};
+ghost use Rattle.schema_components.specs.Components.{Set};
 ghost use Rattle.transcode_core.specs.Private.Seen.{type_seen};
 ghost use Rattle.transcode_core.specs.Steps.{IsTypeOf, Written};
 ghost use Rattle.transcode_core.specs.Each.{EachEnds, outcome_of};
 
 use crate::opened::RootModule;
 use crate::receiving::write_value;
-use command_line::Outcome;
+use base_texts::{Failed, Sink, Source, write_all};
 use record_stream::{RecordError, Records};
 use simple_types::Value;
 use std::alloc::Global;
-use xa_base::{Failed, Sink, Source, write_all};
+use transcode_words::Outcome;
 
 /// How many octets the records of an input may have.
 const LIMIT: u64 = 1_073_741_824;

@@ -1,20 +1,20 @@
 //! The file and the input.
 ghost use Rattle.std.specs.Prelude.{◌≡◌, ◌≤◌, length, IfOk, IfErr, OnOk};
-ghost use Rattle.doc_text.specs.Tokens.{tokens, Ascend};
-ghost use Rattle.schema_parts.specs.Documents.{doc_of};
+ghost use Rattle.xml_read.specs.Tokens.{tokens, Ascend};
+ghost use Rattle.schema_components.specs.Documents.{doc_of};
 ghost use Rattle.schema_read.specs.Raw.{raw_of};
-ghost use Rattle.command_line.specs.Order.{Give, Then};
+ghost use Rattle.transcode_words.specs.Order.{Give, Then};
 ghost use Rattle.std.specs.Io.KnownBytes.{IsAtEnd};
 ghost use Rattle.transcode_core.specs.Steps.{Loaded, Input, Read, Faultless};
-ghost use Rattle.command_line.specs.Answers.{Answers, NoMemory};
+ghost use Rattle.transcode_words.specs.Answers.{Answers, NoMemory};
 ghost use Rattle.transcode_core.specs.Causes.{OneLoad, OneRead, IsOfInput};
 
-use command_line::Outcome;
-use doc_text::{DocError, Document, Items, read_document, read_shared};
-use schema_parts::RawDoc;
+use base_texts::{Library, LoadError, ReadError, Source, Text, read_all};
+use schema_components::RawDoc;
 use schema_read::{SchemaError, read_schema};
 use std::alloc::Global;
-use xa_base::{Library, LoadError, ReadError, Source, Text, read_all};
+use transcode_words::Outcome;
+use xml_read::{DocError, Document, Items, read_document, read_shared};
 
 /// The greatest length of a file, and of the input, in bytes.
 pub const LIMIT: u64 = 16_777_216;

@@ -1,10 +1,10 @@
 //! Whether a document is valid for the root of a set.
 ghost use Rattle.std.specs.Prelude.{◌+◌, ◌*◌, ◌≤◌, [], OnOk, IfErr, Ok};
 ghost use Rattle.std.specs.Io.KnownBytes.{IsAtEnd};
-ghost use Rattle.schema_parts.specs.SetParts.{parts_of};
-ghost use Rattle.item_tree.specs.Counts.{element_count};
-ghost use Rattle.command_line.specs.Order.{Give, Then};
-ghost use Rattle.command_line.specs.Answers.{Answers, NoMemory};
+ghost use Rattle.schema_components.specs.SetParts.{parts_of};
+ghost use Rattle.xml_items.specs.Counts.{element_count};
+ghost use Rattle.transcode_words.specs.Order.{Give, Then};
+ghost use Rattle.transcode_words.specs.Answers.{Answers, NoMemory};
 ghost use Rattle.transcode_core.specs.Private.Seen.{opened_seen};
 ghost use Rattle.transcode_core.specs.Steps.{Judged};
 ghost use Rattle.transcode_core.specs.Due.{ItemsIn, Checked};
@@ -12,13 +12,13 @@ ghost use Rattle.transcode_core.specs.Causes.{OneRead, StepsUpTo, IsOfInput, Ste
 
 use crate::documents::read_items;
 use crate::opened::Opened;
-use command_line::Outcome;
-use doc_text::Items;
+use base_texts::{Source, Steps};
 use std::alloc::Global;
 use std::sync::ledger::Ledger;
+use transcode_words::Outcome;
 use validity_check::CheckError;
-use xa_base::{Source, Steps};
 use xer_read::check_items;
+use xml_read::Items;
 
 /// Whether the document is valid for the root: it has no bytes to write.
 pub fn judge<L: Ledger>(

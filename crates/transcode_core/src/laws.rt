@@ -1,34 +1,31 @@
 //! What holds of what is due.
 ghost use Rattle.std.specs.Prelude.{◌≡◌, ◌+◌, ◌*◌, ◌≤◌, ℕ, List, length, Option, Some, Ok};
-ghost use Rattle.plain_items.specs.Plain.{Plain};
-ghost use Rattle.label_tree.specs.Rose.{Rose};
-ghost use Rattle.schema_parts.specs.SetParts.{SetParts};
-ghost use Rattle.command_line.specs.declared.outcome.Outcome.{Outcome};
-ghost use Rattle.command_line.specs.declared.outcome.Outcome.TheVariants as outcome;
-ghost use Rattle.command_line.specs.declared.tasks.Syntax.{Syntax};
+ghost use Rattle.xml_items.specs.Plain.{Plain};
+ghost use Rattle.base_trees.specs.Rose.{Rose};
+ghost use Rattle.schema_components.specs.SetParts.{SetParts};
+ghost use Rattle.transcode_words.specs.declared.outcome.Outcome.{Outcome};
+ghost use Rattle.transcode_words.specs.declared.outcome.Outcome.TheVariants as outcome;
+ghost use Rattle.transcode_words.specs.declared.tasks.Syntax.{Syntax};
 ghost use Rattle.transcode_core.specs.Causes.{ReadsInput, IsTold, IsInputOf, ReadsOfWords, StepsFrom};
 ghost use Rattle.transcode_core.specs.Syntaxes.{AllSyntaxes};
 ghost use Rattle.transcode_core.specs.Due.{Requested, Encoded, Documented, Due};
-ghost use Rattle.command_line.specs.Words.{Trial};
+ghost use Rattle.transcode_words.specs.Words.{Trial};
 ghost use Rattle.transcode_core.specs.Trial.{trial_document};
-ghost use Rattle.item_tree.specs.declared.label.ItemLabel.{ItemLabel};
-ghost use Rattle.doc_text.specs.Documents.{DocOf};
-ghost use Rattle.item_tree.specs.Counts.{element_count};
+ghost use Rattle.xml_items.specs.declared.label.ItemLabel.{ItemLabel};
+ghost use Rattle.xml_read.specs.Documents.{DocOf};
+ghost use Rattle.xml_items.specs.Counts.{element_count};
 ghost use Rattle.transcode_core.specs.ReadBack.{IsValidText, DocumentedBack, ReadBack};
 ghost use Rattle.transcode_core.specs.Again.{AreThereAndBack, AreSameDocuments};
 
-use der_stops::stops_first as stops_of_der;
-use doc_text::{document_items, one_answer as document_answer};
-use map_laws::maps_exist;
-use map_widths::{maps_are_bounded, maps_are_modules};
+use der_fields::stops_first as stops_of_der;
+use link_exists::sets_of_documents;
+use link_schemas::one_answer as link_answer;
+use map_laws::{maps_are_bounded, maps_are_modules, maps_exist};
 use module_read::{one_answer as one_module, some_answer as some_module};
-use one_value::{items_of_values, one_value};
-use per_fields::either_variant as octets_of_either;
-use per_stops::either_variant as stops_of_either;
-use schema_link::one_answer as link_answer;
-use set_exists::sets_of_documents;
-use validity::{at_least_one, at_most_one};
-use value_exists::values_of_items;
+use per_fields::{either_variant as octets_of_either, stops_of_either};
+use validity_rules::{at_least_one, at_most_one};
+use value_laws::{items_of_values, one_value, values_of_items};
+use xml_read::{document_items, one_answer as document_answer};
 
 /// In each transfer syntax octets begin with the encoding of one value, or have one first fault, and never both; and each value
 /// has one encoding.

@@ -1,7 +1,7 @@
-//! The top call: words, files and an input to an outcome and bytes.
+//! Answers a command: from words, schema files and an input to an outcome and output bytes.
 //!
-//! Read first: docs/ORDER.md and docs/PROMISE.md; `specs/Runs` (what `run` promises), `specs/Due` (what is due of a command) and
-//! `specs/Steps`, then `run` in `src/top.rt`.
+//! Read first: docs/ORDER.md and docs/PROMISE.md; `specs/Runs` (the promise of `run`), `specs/Due` (the required result of a
+//! command) and `specs/Steps`, then `run` in `src/top.rt`.
 #![tactic(auto)]
 
 mod documents;
@@ -22,8 +22,8 @@ mod top;
 mod trial;
 mod typing;
 
-pub use command_line::{Outcome, write_line};
 pub use laws::{exactly_one_of_both, one_answer, some_answer, there_and_back, trial_elements};
 pub use prepared::Prepared;
 pub use top::run;
+pub use transcode_words::{Outcome, write_line};
 pub use trial::trial_document;

@@ -1,20 +1,20 @@
 //! The schema files as one set, and the root in it.
 ghost use Rattle.std.specs.Prelude.{◌≡◌, ◌≤◌, length, IfOk, IfErr, map};
-ghost use Rattle.schema_parts.specs.Documents.{doc_of};
-ghost use Rattle.schema_parts.specs.SetParts.{parts_of};
-ghost use Rattle.command_line.specs.Seen.{root_seen};
+ghost use Rattle.schema_components.specs.Documents.{doc_of};
+ghost use Rattle.schema_components.specs.SetParts.{parts_of};
+ghost use Rattle.transcode_words.specs.Seen.{root_seen};
 ghost use Rattle.transcode_core.specs.Private.Seen.{opened_seen};
 ghost use Rattle.transcode_core.specs.Steps.{Linked, Rooted};
-ghost use Rattle.command_line.specs.Order.{Give, Then};
-ghost use Rattle.schema_link.specs.Sets.{AreNumbered};
-ghost use Rattle.command_line.specs.Answers.{Answers, NoMemory};
+ghost use Rattle.transcode_words.specs.Order.{Give, Then};
+ghost use Rattle.link_schemas.specs.Sets.{AreNumbered};
+ghost use Rattle.transcode_words.specs.Answers.{Answers, NoMemory};
 
 use crate::opened::Opened;
-use command_line::{Outcome, Root};
-use schema_link::{LinkError, link};
-use schema_parts::{RawDoc, SchemaSet, find_root};
+use base_texts::{Name, Text};
+use link_schemas::{LinkError, link};
+use schema_components::{RawDoc, SchemaSet, find_root};
 use std::alloc::Global;
-use xa_base::{Name, Text};
+use transcode_words::{Outcome, Root};
 
 /// The documents as one set.
 pub fn link_files(alloc: Global, documents: &[RawDoc]) -> Result<SchemaSet, Outcome>

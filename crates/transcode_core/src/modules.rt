@@ -1,18 +1,18 @@
 //! A printed module in a file, and what is told of it.
 ghost use Rattle.std.specs.Prelude.{◌≡◌, ◌∷◌, [], ◌≤◌, length};
 ghost use Rattle.module_read.specs.Summary as back;
-ghost use Rattle.command_line.specs.Order.{Give, Then};
-ghost use Rattle.command_line.specs.Answers.{Answers, NoMemory};
+ghost use Rattle.transcode_words.specs.Order.{Give, Then};
+ghost use Rattle.transcode_words.specs.Answers.{Answers, NoMemory};
 ghost use Rattle.transcode_core.specs.Steps.{ModuleIn};
 ghost use Rattle.transcode_core.specs.Due.{ShownBack};
 ghost use Rattle.transcode_core.specs.Causes.{SomeLoad};
 
 use crate::files::load_file;
 use asn_types::Module;
-use command_line::Outcome;
+use base_texts::{Library, Text};
 use module_read::{ModuleError, read_module, summary};
 use std::alloc::Global;
-use xa_base::{Library, Text};
+use transcode_words::Outcome;
 
 // The module of which these bytes are the print.
 fn module_in(alloc: Global, bytes: &[u8]) -> Result<Module, Outcome>

@@ -2,7 +2,7 @@
 ghost use Rattle.std.specs.Prelude.{◌<◌};
 
 use asn_types::Module;
-use schema_parts::SchemaSet;
+use schema_components::SchemaSet;
 
 /// A linked set, and the number of a global element in it.
 #[derive(Drop)]

@@ -1,8 +1,8 @@
 //! The set that files are, and the root in it.
 ghost use Rattle.std.specs.Prelude.{◌≡◌, ◌≤◌, length};
-ghost use Rattle.schema_parts.specs.SetParts.{parts_of};
-ghost use Rattle.command_line.specs.Seen.{root_seen};
-ghost use Rattle.command_line.specs.Answers.{Answers};
+ghost use Rattle.schema_components.specs.SetParts.{parts_of};
+ghost use Rattle.transcode_words.specs.Seen.{root_seen};
+ghost use Rattle.transcode_words.specs.Answers.{Answers};
 ghost use Rattle.transcode_core.specs.Private.Seen.{opened_seen};
 ghost use Rattle.transcode_core.specs.Due.{SetIn};
 ghost use Rattle.transcode_core.specs.Due as due;
@@ -11,10 +11,10 @@ ghost use Rattle.transcode_core.specs.Causes.{SomeLoad};
 use crate::linking::{link_files, open_set};
 use crate::opened::Opened;
 use crate::schemas::load_schemas;
-use command_line::{Outcome, Root};
-use schema_parts::SchemaSet;
+use base_texts::{Library, Text};
+use schema_components::SchemaSet;
 use std::alloc::Global;
-use xa_base::{Library, Text};
+use transcode_words::{Outcome, Root};
 
 /// The set that these files are.
 pub fn read_set<F: Library>(

@@ -1,12 +1,12 @@
 //! Schemas read once: a set with its root and its map, for any number of messages.
 ghost use Rattle.std.specs.Prelude.{◌≡◌, ℕ, ◌+◌, ◌*◌, ◌≤◌, true, [], length, OnOk, IfOk, IfErr, Ok, Some};
 ghost use Rattle.std.specs.Io.KnownBytes.{IsAtEnd};
-ghost use Rattle.schema_parts.specs.SetParts.{parts_of};
-ghost use Rattle.item_tree.specs.Counts.{element_count};
-ghost use Rattle.command_line.specs.Seen.{root_seen};
-ghost use Rattle.command_line.specs.Tasks.{Octets, reads, is_document};
-ghost use Rattle.command_line.specs.Order.{Give, Then};
-ghost use Rattle.command_line.specs.Answers.{Answers, NoMemory};
+ghost use Rattle.schema_components.specs.SetParts.{parts_of};
+ghost use Rattle.xml_items.specs.Counts.{element_count};
+ghost use Rattle.transcode_words.specs.Seen.{root_seen};
+ghost use Rattle.transcode_words.specs.Tasks.{Octets, reads, is_document};
+ghost use Rattle.transcode_words.specs.Order.{Give, Then};
+ghost use Rattle.transcode_words.specs.Answers.{Answers, NoMemory};
 ghost use Rattle.transcode_core.specs.Private.Seen.{opened_seen};
 ghost use Rattle.transcode_core.specs.Preparing.{prepared_seen};
 ghost use Rattle.transcode_core.specs.Steps.{RootType, Typed, Judged};
@@ -24,13 +24,13 @@ use crate::opening::open_files;
 use crate::receiving::write_input;
 use crate::sending::encode_items;
 use crate::typing::map_root;
-use command_line::{Outcome, Root, Syntax, Task};
-use doc_text::Items;
-use sound_items::documents_of_values;
+use base_texts::{Library, Sink, Source, Steps, Text};
 use std::alloc::Global;
 use std::marker::Model;
 use std::sync::ledger::Ledger;
-use xa_base::{Library, Sink, Source, Steps, Text};
+use transcode_words::{Outcome, Root, Syntax, Task};
+use value_laws::documents_of_values;
+use xml_read::Items;
 
 /// Schemas that were read: a set with its root and its map, for any number of messages; seen as the set and the number of the root.
 /// No call changes it.
@@ -44,8 +44,8 @@ impl Model for Prepared {
     ghost use Rattle.std.specs.Prelude.{ℕ};
     ghost use Rattle.std.specs.Coded.{codes};
     ghost use Rattle.simple_types.specs.contracts.simples.Simple as simple;
-    ghost use Rattle.schema_parts.specs.contracts.components.ComplexDef as complex;
-    ghost use Rattle.schema_parts.specs.Components.{Set};
+    ghost use Rattle.schema_components.specs.contracts.components.ComplexDef as complex;
+    ghost use Rattle.schema_components.specs.Components.{Set};
     ghost use Rattle.transcode_core.specs.Private.Seen.{type_seen};
     ghost use Rattle.transcode_core.specs.Steps.{IsTypeOf};
 

@@ -1,28 +1,28 @@
 //! From the octets of an encoding to the text of its value's document.
 ghost use Rattle.std.specs.Prelude.{◌≡◌, ◌<◌, ◌≤◌, IsTrue, IsFalse, List, ℕ, Some, length, IsErr, OnOk, IfOk, IfErr};
 ghost use Rattle.std.specs.Io.KnownBytes.{IsAtEnd};
-ghost use Rattle.xa_base.specs.Faults.{Counts};
+ghost use Rattle.base_texts.specs.Faults.{Counts};
 ghost use Rattle.asn_values.specs.Values.{In};
-ghost use Rattle.schema_parts.specs.Components.{Set};
+ghost use Rattle.schema_components.specs.Components.{Set};
 ghost use Rattle.transcode_core.specs.Private.Seen.{type_seen};
 ghost use Rattle.transcode_core.specs.Steps.{IsTypeOf, Streamed, DecodedOf, Decoded, Written};
 ghost use Rattle.transcode_core.specs.Syntaxes.{per_syntax};
 ghost use Rattle.transcode_core.specs.ReadBack.{WrittenBack, DecodedBack};
-ghost use Rattle.command_line.specs.Order.{Then};
-ghost use Rattle.command_line.specs.Answers.{Answers, NoMemory};
+ghost use Rattle.transcode_words.specs.Order.{Then};
+ghost use Rattle.transcode_words.specs.Answers.{Answers, NoMemory};
 ghost use Rattle.transcode_core.specs.Causes.{OneRead, TakesItsField, TakesOctets, IsOfInput};
 
 use crate::eight_bits::see_octets;
 use crate::files::read_input;
 use crate::opened::RootModule;
-use command_line::{Outcome, Syntax};
+use base_texts::{Failed, Source};
 use der_decode::{DecodeError as DerError, decode_der};
 use per_decode::{DecodeError, decode_by};
 use per_fields::{Aligned, Unaligned, Variant};
 use simple_types::Value;
-use sound_items::items_are_sound;
 use std::alloc::Global;
-use xa_base::{Failed, Source};
+use transcode_words::{Outcome, Syntax};
+use value_laws::items_are_sound;
 use xer_write::text_of;
 
 /// The greatest length of an encoding, in octets.

@@ -1,15 +1,15 @@
 //! The schema files, one after another.
 ghost use Rattle.std.specs.Prelude.{◌≡◌, ◌≤◌, length, map};
-ghost use Rattle.schema_parts.specs.Documents.{doc_of};
+ghost use Rattle.schema_components.specs.Documents.{doc_of};
 ghost use Rattle.transcode_core.specs.Steps.{SchemaIn, Schema, Schemas};
-ghost use Rattle.command_line.specs.Answers.{Answers, NoMemory};
+ghost use Rattle.transcode_words.specs.Answers.{Answers, NoMemory};
 ghost use Rattle.transcode_core.specs.Causes.{OneLoad, SomeLoad};
 
 use crate::files::{load_file, read_components, read_schema_items};
-use command_line::Outcome;
-use schema_parts::RawDoc;
+use base_texts::{Library, Text};
+use schema_components::RawDoc;
 use std::alloc::Global;
-use xa_base::{Library, Text};
+use transcode_words::Outcome;
 
 // The components of the schema document in the bytes. Its items are dropped.
 fn read_file(alloc: Global, file: u32, bytes: &[u8]) -> Result<RawDoc, Outcome>

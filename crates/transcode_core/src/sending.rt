@@ -1,26 +1,26 @@
 //! From the items of a document to the encoding of its value.
 ghost use Rattle.std.specs.Prelude.{◌+◌, ◌*◌, ◌≤◌, IfOk, OnOk, IfErr};
-ghost use Rattle.item_tree.specs.Counts.{element_count};
+ghost use Rattle.xml_items.specs.Counts.{element_count};
 ghost use Rattle.asn_values.specs.Values.{In};
 ghost use Rattle.transcode_core.specs.Private.Seen.{opened_seen, type_seen};
 ghost use Rattle.transcode_core.specs.Steps.{RootType, IsTypeOf, ValueIn, Encoding};
 ghost use Rattle.transcode_core.specs.Syntaxes.{per_syntax};
-ghost use Rattle.command_line.specs.Order.{Then};
-ghost use Rattle.command_line.specs.Answers.{Answers, NoMemory};
+ghost use Rattle.transcode_words.specs.Order.{Then};
+ghost use Rattle.transcode_words.specs.Answers.{Answers, NoMemory};
 ghost use Rattle.transcode_core.specs.Causes.{IsOfInput};
 
 use crate::eight_bits::see_octets;
 use crate::opened::{Opened, RootModule};
-use command_line::{Outcome, Syntax};
+use base_texts::Steps;
 use der_encode::encode_der;
-use doc_text::Items;
 use per_encode::encode_by;
 use per_fields::{Aligned, Unaligned, Variant};
 use simple_types::Value;
 use std::alloc::Global;
 use std::sync::ledger::Ledger;
-use xa_base::Steps;
+use transcode_words::{Outcome, Syntax};
 use xer_read::{ReadValueError, read_value};
+use xml_read::Items;
 
 // The value of the document, if it is valid: one value, in the map of the set.
 fn value_of<L: Ledger>(

@@ -1,25 +1,25 @@
 //! The top call.
 ghost use Rattle.std.specs.Prelude.{◌≡◌, ◌⊎◌, ℕ, ◌≤◌, true, [], ◌∷◌, length, OnOk, IfOk, IfErr, Ok, Err, Some};
 ghost use Rattle.std.specs.Io.KnownBytes.{Appends, IsAtEnd};
-ghost use Rattle.xa_base.specs.Faults.{HasRisen};
-ghost use Rattle.xa_base.specs.Bytes.{AppendsFront};
-ghost use Rattle.schema_parts.specs.SetParts.{SetParts, parts_of};
-ghost use Rattle.command_line.specs.Lines.{line};
-ghost use Rattle.command_line.specs.Seen.{root_seen, seen};
+ghost use Rattle.base_texts.specs.Faults.{HasRisen};
+ghost use Rattle.base_texts.specs.Bytes.{AppendsFront};
+ghost use Rattle.schema_components.specs.SetParts.{SetParts, parts_of};
+ghost use Rattle.transcode_words.specs.Lines.{line};
+ghost use Rattle.transcode_words.specs.Seen.{root_seen, seen};
 ghost use Rattle.transcode_core.specs.Private.Seen.{opened_seen};
-ghost use Rattle.command_line.specs.Words as command;
-ghost use Rattle.command_line.specs.Tasks.{reads, is_document};
+ghost use Rattle.transcode_words.specs.Words as command;
+ghost use Rattle.transcode_words.specs.Tasks.{reads, is_document};
 ghost use Rattle.transcode_core.specs.Private.Decided.{Decided};
 ghost use Rattle.transcode_core.specs.Trial as trial;
 ghost use Rattle.transcode_core.specs.Trial.{trial_name, trial_schema, trial_root};
 ghost use Rattle.transcode_core.specs.Steps.{RootType, Typed, Printed};
-ghost use Rattle.command_line.specs.Order.{Give, Then};
+ghost use Rattle.transcode_words.specs.Order.{Give, Then};
 ghost use Rattle.transcode_core.specs.Due as due;
 ghost use Rattle.transcode_core.specs.Due.{SetIn, ItemsIn, Served, Tried, Answered};
 ghost use Rattle.transcode_core.specs.Runs.{Runs, RunsAs};
 ghost use Rattle.transcode_core.specs.Each.{EachEnds};
 ghost use Rattle.transcode_core.specs.ReadBack.{ServedBack, AnsweredBack, ReadBack};
-ghost use Rattle.command_line.specs.Answers.{IsRefusal, Answers, NoMemory};
+ghost use Rattle.transcode_words.specs.Answers.{IsRefusal, Answers, NoMemory};
 ghost use Rattle.transcode_core.specs.Causes.{SomeLoad, OneRead, reads_input, ReadsInput, Takes, TakesInput, LooksAt, TakesOfWords, ReadsItems, ReadsOfWords, StepsUpTo, IsOfInput, Answering, Deciding, StepsFrom, reads_document, ReadsDocument};
 
 use crate::judging::check_input;
@@ -28,19 +28,18 @@ use crate::opened::Opened;
 use crate::opening::{open_files, read_set};
 use crate::prepared::Prepared;
 use crate::trial::{self, schema_files, schema_name, summary, trial_document};
-use command_line::{Outcome, Request, Root, Syntax, Task, read_each, read_words, write_line};
-use der_stops::stops_first as stops_of_der;
-use map_694::map_set;
+use base_texts::{Failed, Library, Sink, Source, Steps, SureSource, Text, write_all};
+use der_fields::stops_first as stops_of_der;
+use map_assignments::map_set;
 use module_print::print_module;
 use module_read::one_answer as one_module;
-use one_value::one_value;
-use per_fields::either_variant as octets_of_either;
-use per_stops::either_variant as stops_of_either;
-use schema_parts::SchemaSet;
+use per_fields::{either_variant as octets_of_either, stops_of_either};
+use schema_components::SchemaSet;
 use std::alloc::Global;
 use std::sync::ledger::Ledger;
-use validity::at_most_one;
-use xa_base::{Failed, Library, Sink, Source, Steps, SureSource, Text, write_all};
+use transcode_words::{Outcome, Request, Root, Syntax, Task, read_each, read_words, write_line};
+use validity_rules::at_most_one;
+use value_laws::one_value;
 
 // The text of the module of the set.
 fn print(alloc: Global, set: &SchemaSet) -> Result<Vec<u8>, Outcome>

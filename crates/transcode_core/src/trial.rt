@@ -2,10 +2,10 @@
 ghost use Rattle.std.specs.Prelude.{◌≡◌, ◌++◌, ◌+◌, ◌%◌, ◌<◌, ◌≤◌, [], ◌∷◌, decimal, OnOk, IfOk};
 ghost use Rattle.transcode_core.specs.Trial as trial;
 
-use command_line::Root;
+use base_texts::{Entry, Memory, SureLibrary, Text};
 use itoa::Buffer;
 use std::alloc::Global;
-use xa_base::{Entry, Memory, SureLibrary, Text};
+use transcode_words::Root;
 
 // The name under which the schema stands.
 const NAME: &str = "order.xsd";

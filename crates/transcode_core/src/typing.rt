@@ -2,12 +2,12 @@
 ghost use Rattle.std.specs.Prelude.{IfOk};
 ghost use Rattle.transcode_core.specs.Private.Seen.{opened_seen, type_seen};
 ghost use Rattle.transcode_core.specs.Steps.{IsTypeOf, Typed};
-ghost use Rattle.command_line.specs.Answers.{Answers, NoMemory};
+ghost use Rattle.transcode_words.specs.Answers.{Answers, NoMemory};
 
 use crate::opened::{Opened, RootModule};
-use command_line::Outcome;
-use map_694::{map_set, root_type};
+use map_assignments::{map_set, root_type};
 use std::alloc::Global;
+use transcode_words::Outcome;
 use xer_read::see_simples;
 
 /// The map of the set, and the type of its root.

@@ -1,8 +1,8 @@
 //! Why a table can't be read, or its rows can't be run.
+use base_texts::Memory;
 use std::alloc::AllocError;
 use std::num::ParseIntError;
 use thiserror::Error;
-use xa_base::Memory;
 
 /// What is wrong with a line of the table.
 #[derive(Debug, Drop, Error)]

@@ -1,5 +1,4 @@
-//! Runs the rows of a table that stands in its input: each does what `transcode_cmd` does, over files and streams in
-//! memory, and tells what must come.
+//! Runs the rows of a table in its input, each as `bin/transcode` would, over files and streams in memory.
 //!
 //! Read first: docs/TESTING.md and the head of `stdin`, which has the rows and their form.
 #![tactic(auto)]

@@ -1,7 +1,7 @@
 //! A row: what the call is given, and what is due.
 use crate::error::LineError;
+use base_texts::{Entry, Text};
 use std::alloc::Global;
-use xa_base::{Entry, Text};
 
 /// A text that stands under a name, as a file or to be copied.
 #[derive(Drop)]

@@ -3,11 +3,11 @@ ghost use Rattle.std.specs.Prelude.{◌≡◌, ◌<◌};
 
 use crate::error::LineError;
 use crate::row::{Call, Calls, Due, Row};
+use base_texts::{Library, MemoryLibrary, MemorySink, MemorySource, Sink, Source, Steps, Text};
 use std::alloc::Global;
 use std::marker::Brand;
 use std::sync::ledger::{Blank, Ledger};
 use transcode_core::{Outcome, run};
-use xa_base::{Library, MemoryLibrary, MemorySink, MemorySource, Sink, Source, Steps, Text};
 
 // Does what the words ask for, and counts steps in a ledger of its own.
 fn run_counted<F: Library, S: Source, K: Sink, E: Sink, L: Ledger>(

@@ -1,15 +1,15 @@
 -- How many elements there are in the first kids.
 use Rattle.std.proofs.Common.{◌≡◌, ℕ, zero, suc, ◌+◌, ◌≤◌, length, List, [], ◌∷◌, ◌++◌, Option, Some, None, refl, sym, ap, arith, length-append}
 use Rattle.std.specs.Prelude.{Result, Ok, Err, MatchResult, OnOk}
-use Rattle.xa_base.specs.declared.texts.Name.{Name}
-use Rattle.label_tree.specs.Rose.{Rose, node, Roses, roses_of, label_of, kids_of, node_count, count_all}
-use Rattle.label_tree.specs.Rose as rose
-use Rattle.item_tree.specs.declared.label.ItemLabel.{ItemLabel}
-use Rattle.item_tree.specs.declared.label.ItemLabel.TheVariants.{Element, Text}
-use Rattle.validity.specs.Faults.{front}
-use Rattle.validity.specs.Valid.{put_before, only_text}
-use Rattle.validity.proofs.Reading.{kid_at, roses_of-list_of, front_long}
-use Rattle.item_tree.specs.Counts.{element_count, elements_in}
+use Rattle.base_texts.specs.declared.texts.Name.{Name}
+use Rattle.base_trees.specs.Rose.{Rose, node, Roses, roses_of, label_of, kids_of, node_count, count_all}
+use Rattle.base_trees.specs.Rose as rose
+use Rattle.xml_items.specs.declared.label.ItemLabel.{ItemLabel}
+use Rattle.xml_items.specs.declared.label.ItemLabel.TheVariants.{Element, Text}
+use Rattle.validity_rules.specs.Faults.{front}
+use Rattle.validity_rules.specs.Valid.{put_before, only_text}
+use Rattle.validity_rules.proofs.Reading.{kid_at, roses_of-list_of, front_long}
+use Rattle.xml_items.specs.Counts.{element_count, elements_in}
 
 pub one_more : (ts : Roses ItemLabel) (i : ℕ) (t : Rose ItemLabel) → kid_at ts i ≡ Some t → elements_in (front (suc i) ts) ≡ elements_in (front i ts) + element_count t
 one_more rose.none i t e = absurd (cc)

@@ -1,21 +1,21 @@
 -- What a linked set keeps of what it declares.
 use Rattle.std.proofs.Common.{◌≡◌, ℕ, zero, suc, ◌<◌, List, [], ◌∷◌, Option, Some, None, map, length, refl, sym, ap, subst}
 use Rattle.std.specs.Prelude.{slice_get}
-use Rattle.label_tree.specs.Rose.{Rose}
+use Rattle.base_trees.specs.Rose.{Rose}
 use Rattle.simple_types.specs.Seen.{space_of}
 use Rattle.simple_types.specs.Sound.{Sound}
 use Rattle.simple_types.specs.Space.{Space, Booleans}
 use Rattle.content_models.specs.declared.particles.ParticleLabel.{ParticleLabel}
-use Rattle.schema_parts.specs.declared.components.ElementDecl.{ElementDecl}
-use Rattle.schema_parts.specs.declared.components.SimpleDef.{SimpleDef}
-use Rattle.schema_parts.specs.declared.components.ComplexDef.{ComplexDef}
-use Rattle.schema_parts.specs.declared.components.Content.{Content}
-use Rattle.schema_parts.specs.declared.components.Content.TheVariants as content
-use Rattle.schema_parts.specs.Components.{Set, model_of}
-use Rattle.schema_parts.specs.Linked.{IsElement, IsTyped, IsSimpleType, IsContent, IsModel, IsComplexType, IsLinked}
-use Rattle.schema_parts.specs.SetParts.{named_space, parts_of}
-use Rattle.validity.specs.Asked.{asked_by_type, asked_at, space_at}
-use Rattle.validity.proofs.Linked.{all_at}
+use Rattle.schema_components.specs.declared.components.ElementDecl.{ElementDecl}
+use Rattle.schema_components.specs.declared.components.SimpleDef.{SimpleDef}
+use Rattle.schema_components.specs.declared.components.ComplexDef.{ComplexDef}
+use Rattle.schema_components.specs.declared.components.Content.{Content}
+use Rattle.schema_components.specs.declared.components.Content.TheVariants as content
+use Rattle.schema_components.specs.Components.{Set, model_of}
+use Rattle.schema_components.specs.Linked.{IsElement, IsTyped, IsSimpleType, IsContent, IsModel, IsComplexType, IsLinked}
+use Rattle.schema_components.specs.SetParts.{named_space, parts_of}
+use Rattle.validity_rules.specs.Asked.{asked_by_type, asked_at, space_at}
+use Rattle.validity_rules.proofs.Linked.{all_at}
 use Rattle.validity_check.specs.Told.{model_at}
 
 module _ (s : Set) where

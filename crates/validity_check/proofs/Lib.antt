@@ -8,3 +8,9 @@ pub mod Tagging
 pub mod Truths
 pub mod Walking
 pub mod Rooting
+pub mod Going
+pub mod Lacking
+pub mod Ordered
+pub mod ByUses
+mod Firsts
+mod Fixing

@@ -1,16 +1,16 @@
 -- The root of a document.
 use Rattle.std.proofs.Common.{◌≡◌, ℕ, inl, inr, Some, refl, sym, subst}
 use Rattle.std.specs.Prelude.{Result, Ok, Err, MatchResult, slice_get}
-use Rattle.label_tree.specs.Rose.{Rose, label_of}
-use Rattle.item_tree.specs.Labels.{item_place}
-use Rattle.item_tree.specs.declared.label.ItemLabel.{ItemLabel}
-use Rattle.schema_parts.specs.declared.components.ElementDecl.{ElementDecl}
-use Rattle.schema_parts.specs.Components.{Set}
-use Rattle.schema_parts.specs.SetParts.{parts_of}
-use Rattle.validity.specs.Asked.{asked_at, name_at}
-use Rattle.validity.specs.Valid.{HasName}
-use Rattle.validity.specs.Faults.{At, FaultBy, FirstFault}
-use Rattle.validity.specs.declared.why.InvalidWhy.TheVariants.{WrongRoot}
+use Rattle.base_trees.specs.Rose.{Rose, label_of}
+use Rattle.xml_items.specs.Labels.{item_place}
+use Rattle.xml_items.specs.declared.label.ItemLabel.{ItemLabel}
+use Rattle.schema_components.specs.declared.components.ElementDecl.{ElementDecl}
+use Rattle.schema_components.specs.Components.{Set}
+use Rattle.schema_components.specs.SetParts.{parts_of}
+use Rattle.validity_rules.specs.Asked.{asked_at, name_at}
+use Rattle.validity_rules.specs.Valid.{HasName}
+use Rattle.validity_rules.specs.Faults.{At, FaultBy, FirstFault}
+use Rattle.validity_rules.specs.declared.why.InvalidWhy.TheVariants.{WrongRoot}
 use Rattle.validity_check.specs.declared.error.CheckError.{CheckError}
 use Rattle.validity_check.specs.declared.error.CheckError.TheVariants.{Invalid, Memory}
 use Rattle.validity_check.specs.Answers.{Tells, IsValidBy, IsValid}

@@ -1,12 +1,12 @@
 -- What sound items are made of.
 use Rattle.std.proofs.Common.{◌≡◌, ℕ, zero, suc, Some, Bool, true, false, refl, ◌∙◌, ap, subst}
 use Rattle.std.specs.Prelude.{not, ◌&&◌}
-use Rattle.label_tree.specs.Rose.{Rose, node, Roses, roses_of, label_of, kids_of}
-use Rattle.label_tree.specs.Rose as rose
-use Rattle.item_tree.specs.declared.label.ItemLabel.{ItemLabel}
-use Rattle.doc_text.specs.Sound.{is_sound_label, is_text, begins_with_text, is_element, is_sound, are_sound}
-use Rattle.schema_parts.proofs.Truths.{both}
-use Rattle.validity.proofs.Reading.{kid_at, roses_of-list_of}
+use Rattle.base_trees.specs.Rose.{Rose, node, Roses, roses_of, label_of, kids_of}
+use Rattle.base_trees.specs.Rose as rose
+use Rattle.xml_items.specs.declared.label.ItemLabel.{ItemLabel}
+use Rattle.xml_read.specs.Sound.{is_sound_label, is_text, begins_with_text, is_element, is_sound, are_sound}
+use Rattle.schema_components.proofs.Truths.{both}
+use Rattle.validity_rules.proofs.Reading.{kid_at, roses_of-list_of}
 
 pub kid_sound : (ts : Roses ItemLabel) (i : ℕ) (t : Rose ItemLabel) → are_sound ts ≡ true → kid_at ts i ≡ Some t → is_sound t ≡ true
 kid_sound rose.none i t h e = absurd (cc)

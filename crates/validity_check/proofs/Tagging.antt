@@ -3,30 +3,30 @@ use Rattle.std.proofs.Common.{◌≡◌, ℕ, inl, inr, List, [], ◌∷◌, Som
 use Rattle.std.specs.Prelude.{Result, Ok, Err, MatchResult, All, not, bytes_eq, ◌||◌, ◌&&◌, if◌then◌else◌}
 use Rattle.std.specs.List.{list_any}
 use Rattle.std.proofs.lemmas.List.Elements.{All-nil, All-cons, All-head, All-tail}
-use Rattle.xa_base.specs.declared.texts.Name.{Name}
-use Rattle.xa_base.specs.Names.{name_eq}
-use Rattle.xa_base.specs.Limits.{is_namespace, is_name_part, is_xmlns}
-use Rattle.xa_base.specs.Namespaces.{xmlns_space, xsi_space}
-use Rattle.xa_base.proofs.NameLaws.{name_eq-Decides}
-use Rattle.label_tree.specs.Rose.{Rose, Roses, none, label_of, roses_of, kids_of}
-use Rattle.plain_items.specs.Plain.{Plain}
-use Rattle.item_tree.specs.declared.label.ItemLabel.{ItemLabel}
-use Rattle.item_tree.specs.declared.label.ItemLabel.TheVariants.{Element}
-use Rattle.schema_parts.specs.declared.components.AttributeUse.{AttributeUse}
-use Rattle.schema_parts.specs.Components.{Set}
-use Rattle.schema_parts.specs.Declarable.{kept_spaces, is_declarable, is_declarable_attribute}
-use Rattle.schema_parts.specs.Linked.{IsUse}
-use Rattle.schema_parts.specs.SetParts.{SetParts, parts_of}
-use Rattle.schema_parts.proofs.Truths.{both}
-use Rattle.validity.specs.Asked.{Asked, Attribute, attribute_in, Inside, nothing, simple, children, asked_at}
-use Rattle.validity.specs.Valid.{treated_element}
-use Rattle.validity.specs.Attributes.{is_special, text_of, left, nil_of, nil_from, IsRight, Stands, AllStand, OneMissing}
-use Rattle.validity.specs.Faults.{IsBad, FirstKid, FaultBy}
-use Rattle.validity.specs.declared.why.InvalidWhy.{InvalidWhy}
-use Rattle.validity.specs.declared.why.InvalidWhy.TheVariants.{XsiType, BadNil, MissingAttribute, NilWithContent}
-use Rattle.validity.proofs.Reading.{type_fault, nil_fault, wrong_fault, missing_fault, inner_fault, all_kept}
-use Rattle.validity.proofs.Treated.{both_false}
-use Rattle.validity.proofs.Unique.{ContentValid, ContentFault, NilValid, NilFault}
+use Rattle.base_texts.specs.declared.texts.Name.{Name}
+use Rattle.base_texts.specs.Names.{name_eq}
+use Rattle.base_texts.specs.Limits.{is_namespace, is_name_part, is_xmlns}
+use Rattle.base_texts.specs.Namespaces.{xmlns_space, xsi_space}
+use Rattle.base_texts.proofs.NameLaws.{name_eq-Decides}
+use Rattle.base_trees.specs.Rose.{Rose, Roses, none, label_of, roses_of, kids_of}
+use Rattle.xml_items.specs.Plain.{Plain}
+use Rattle.xml_items.specs.declared.label.ItemLabel.{ItemLabel}
+use Rattle.xml_items.specs.declared.label.ItemLabel.TheVariants.{Element}
+use Rattle.schema_components.specs.declared.components.AttributeUse.{AttributeUse}
+use Rattle.schema_components.specs.Components.{Set}
+use Rattle.schema_components.specs.Declarable.{kept_spaces, is_declarable, is_declarable_attribute}
+use Rattle.schema_components.specs.Linked.{IsUse}
+use Rattle.schema_components.specs.SetParts.{SetParts, parts_of}
+use Rattle.schema_components.proofs.Truths.{both}
+use Rattle.validity_rules.specs.Asked.{Asked, Attribute, attribute_in, Inside, nothing, simple, children, asked_at}
+use Rattle.validity_rules.specs.Valid.{treated_element}
+use Rattle.validity_rules.specs.Attributes.{is_special, text_of, left, nil_of, nil_from, IsRight, Stands, AllStand, OneMissing}
+use Rattle.validity_rules.specs.Faults.{IsBad, FirstKid, FaultBy}
+use Rattle.validity_rules.specs.declared.why.InvalidWhy.{InvalidWhy}
+use Rattle.validity_rules.specs.declared.why.InvalidWhy.TheVariants.{XsiType, BadNil, MissingAttribute, NilWithContent}
+use Rattle.validity_rules.proofs.Reading.{type_fault, nil_fault, wrong_fault, missing_fault, inner_fault, all_kept}
+use Rattle.validity_rules.proofs.Treated.{both_false}
+use Rattle.validity_rules.proofs.Unique.{ContentValid, ContentFault, NilValid, NilFault}
 use Rattle.validity_check.specs.declared.error.CheckError.{CheckError}
 use Rattle.validity_check.specs.declared.error.CheckError.TheVariants.{Invalid, Memory}
 use Rattle.validity_check.specs.Answers.{Tells, TagFault, IsGoodTag, IsValidInside, InsideFault, IsValidBy}

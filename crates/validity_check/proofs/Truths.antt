@@ -1,10 +1,10 @@
 -- Truth values as the type of truth values reads them.
 use Rattle.std.proofs.Common.{◌≡◌, Option, Some, None, Bool, refl, sym, ◌∙◌, ap}
 use Rattle.std.specs.Prelude.{Ok, Err}
-use Rattle.label_tree.specs.Rose.{Rose, label_of}
+use Rattle.base_trees.specs.Rose.{Rose, label_of}
 use Rattle.simple_types.specs.declared.labels.ValueLabel.{ValueLabel}
 use Rattle.simple_types.specs.declared.labels.ValueLabel.TheVariants as label
-use Rattle.simple_values.specs.Reading.{Wide, Bad, leaf, boolean_from}
+use Rattle.simple_types.specs.Reading.{Wide, Bad, leaf, boolean_from}
 
 leaf_is : (c : Bool) (v : Rose ValueLabel) → boolean_from (Some c) ≡ Ok v → leaf (label.Bool c) ≡ v
 leaf_is c v e = cc

@@ -1,24 +1,24 @@
 -- What is known behind some kids of an element, whose names a matcher took.
 use Rattle.std.proofs.Common.{◌≡◌, ℕ, ◌+◌, ◌≤◌, ◌<◌, ◌⊎◌, List, [], ◌∷◌, ◌++◌, Bool, true, false, length, get_or, sym, ◌∙◌, subst, arith, length-append}
 use Rattle.std.specs.Prelude.{Result, Ok, Err, MatchResult}
-use Rattle.xa_base.specs.declared.texts.Name.{Name}
-use Rattle.xa_base.specs.WhiteSpace.{is_blank}
-use Rattle.label_tree.specs.Rose.{Rose, roses_of, label_of}
+use Rattle.base_texts.specs.declared.texts.Name.{Name}
+use Rattle.base_texts.specs.WhiteSpace.{is_blank}
+use Rattle.base_trees.specs.Rose.{Rose, roses_of, label_of}
 use Rattle.content_models.specs.Particle.{Particle}
 use Rattle.content_models.specs.Language.{Leaf, names, Lang, Viable}
-use Rattle.content_spots.specs.Laws.{IsNamed}
+use Rattle.content_models.specs.SpotLaws.{IsNamed}
 use Rattle.content_match.specs.Taking.{Matched, Took, TookMore}
 use Rattle.content_match.specs.declared.places.Leaf as matched
-use Rattle.item_tree.specs.declared.label.ItemLabel.{ItemLabel}
-use Rattle.item_tree.specs.declared.label.ItemLabel.TheVariants.{Element, Text}
-use Rattle.schema_parts.specs.Components.{Set}
-use Rattle.schema_parts.specs.SetParts.{parts_of}
-use Rattle.validity.specs.Asked.{asked_at}
-use Rattle.validity.specs.Valid.{ValidBy}
-use Rattle.validity.specs.Faults.{Begins, At, front, FaultBy}
-use Rattle.validity.specs.declared.why.InvalidWhy.{InvalidWhy}
-use Rattle.validity.specs.declared.why.InvalidWhy.TheVariants.{TextNotAllowed, UnexpectedElement, MissingElement}
-use Rattle.validity.proofs.Reading.{Fine, all_read, more_wanted, text_fault, unexpected, own_fault, text_read, element_read}
+use Rattle.xml_items.specs.declared.label.ItemLabel.{ItemLabel}
+use Rattle.xml_items.specs.declared.label.ItemLabel.TheVariants.{Element, Text}
+use Rattle.schema_components.specs.Components.{Set}
+use Rattle.schema_components.specs.SetParts.{parts_of}
+use Rattle.validity_rules.specs.Asked.{asked_at}
+use Rattle.validity_rules.specs.Valid.{ValidBy}
+use Rattle.validity_rules.specs.Faults.{Begins, At, front, FaultBy}
+use Rattle.validity_rules.specs.declared.why.InvalidWhy.{InvalidWhy}
+use Rattle.validity_rules.specs.declared.why.InvalidWhy.TheVariants.{TextNotAllowed, UnexpectedElement, MissingElement}
+use Rattle.validity_rules.proofs.Reading.{Fine, all_read, more_wanted, text_fault, unexpected, own_fault, text_read, element_read}
 use Rattle.validity_check.specs.declared.error.CheckError.{CheckError}
 use Rattle.validity_check.specs.declared.error.CheckError.TheVariants.{Invalid, Memory}
 use Rattle.validity_check.specs.Told.{AreNamed}

@@ -1,21 +1,21 @@
 -- What an answer says.
 use Rattle.std.specs.Prelude.{◌≡◌, ℕ, Bool, List, [], ◌⊎◌, Some, None}
-use Rattle.xa_base.specs.declared.texts.Name.{Name}
-use Rattle.label_tree.specs.Rose.{Rose, Roses, none}
+use Rattle.base_texts.specs.declared.texts.Name.{Name}
+use Rattle.base_trees.specs.Rose.{Rose, Roses, none}
 use Rattle.simple_types.specs.Space.{Space}
-use Rattle.simple_values.specs.Reading.{reads}
+use Rattle.simple_types.specs.Reading.{reads}
 use Rattle.content_models.specs.Particle.{Particle}
 use Rattle.content_models.specs.Language.{Leaf, names, Lang}
-use Rattle.item_tree.specs.declared.label.ItemLabel.{ItemLabel}
-use Rattle.plain_items.specs.Plain.{Plain}
-use Rattle.schema_parts.specs.Components.{Set}
-use Rattle.schema_parts.specs.SetParts.{parts_of}
-use Rattle.validity.specs.Asked.{Asked, Inside, nothing, simple, children, asked_at}
-use Rattle.validity.specs.Attributes.{nil_from, nil_of, xsi_type, text_of, left, Refuses, FirstWrong, AllRight, AllStand, OneMissing}
-use Rattle.validity.specs.Valid.{only_text, Spells, ValidBy, KidsValid, Valid}
-use Rattle.validity.specs.Faults.{Begins, Unfinished, front, Then, At, IsBad, FirstKid, why_kid, FirstElement, KidFault}
-use Rattle.validity.specs.declared.why.InvalidWhy.{InvalidWhy}
-use Rattle.validity.specs.declared.why.InvalidWhy.TheVariants.{XsiType, BadNil, MissingAttribute, BadText, MissingElement}
+use Rattle.xml_items.specs.declared.label.ItemLabel.{ItemLabel}
+use Rattle.xml_items.specs.Plain.{Plain}
+use Rattle.schema_components.specs.Components.{Set}
+use Rattle.schema_components.specs.SetParts.{parts_of}
+use Rattle.validity_rules.specs.Asked.{Asked, Inside, nothing, simple, children, asked_at}
+use Rattle.validity_rules.specs.Attributes.{nil_from, nil_of, xsi_type, text_of, left, Refuses, FirstWrong, AllRight, AllStand, OneMissing}
+use Rattle.validity_rules.specs.Valid.{only_text, Spells, ValidBy, KidsValid, Valid}
+use Rattle.validity_rules.specs.Faults.{Begins, Unfinished, front, Then, At, IsBad, FirstKid, why_kid, FirstElement, KidFault}
+use Rattle.validity_rules.specs.declared.why.InvalidWhy.{InvalidWhy}
+use Rattle.validity_rules.specs.declared.why.InvalidWhy.TheVariants.{XsiType, BadNil, MissingAttribute, BadText, MissingElement}
 use Rattle.validity_check.specs.declared.error.CheckError.{CheckError}
 use Rattle.validity_check.specs.declared.error.CheckError.TheVariants.{Invalid, Memory}
 

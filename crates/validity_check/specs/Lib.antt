@@ -2,3 +2,7 @@ pub mod Told
 pub mod Kept
 pub mod Answers
 pub mod Walked
+pub mod Ascending
+pub mod First
+pub mod Texts
+pub mod Uses

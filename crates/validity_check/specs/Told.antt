@@ -1,17 +1,17 @@
 -- What a set declares of an element, as the rules of validity ask it.
 use Rattle.std.specs.Prelude.{◌≡◌, ℕ, ◌<◌, map, length, All, Option, Some, None, slice_get}
-use Rattle.xa_base.specs.declared.texts.Name.{Name}
-use Rattle.label_tree.specs.Rose.{Rose}
+use Rattle.base_texts.specs.declared.texts.Name.{Name}
+use Rattle.base_trees.specs.Rose.{Rose}
 use Rattle.simple_types.specs.Seen.{space_of}
 use Rattle.simple_types.specs.Sound.{Sound}
 use Rattle.content_models.specs.declared.particles.ParticleLabel.{ParticleLabel}
 use Rattle.content_models.specs.Particle.{Particle}
 use Rattle.content_models.specs.Seen.{seen}
-use Rattle.schema_parts.specs.Components.{Set, model_of}
-use Rattle.schema_parts.specs.declared.components.ComplexDef.{ComplexDef}
-use Rattle.schema_parts.specs.Linked.{IsUse, IsModel, leaves}
-use Rattle.schema_parts.specs.SetParts.{SetParts}
-use Rattle.validity.specs.Asked as asked
+use Rattle.schema_components.specs.Components.{Set, model_of}
+use Rattle.schema_components.specs.declared.components.ComplexDef.{ComplexDef}
+use Rattle.schema_components.specs.Linked.{IsUse, IsModel, leaves}
+use Rattle.schema_components.specs.SetParts.{SetParts}
+use Rattle.validity_rules.specs.Asked as asked
 use Rattle.validity_check.specs.declared.declarations.Declared.{Declared}
 use Rattle.validity_check.specs.declared.declarations.Inside.{Inside}
 use Rattle.validity_check.specs.declared.declarations.Inside.TheVariants.{Nothing, Simple, Children}

@@ -1,14 +1,14 @@
 //! What a set of schemas declares of an element.
 ghost use Rattle.std.specs.Prelude.{◌≡◌, ◌<◌, length, slice_get};
-ghost use Rattle.schema_parts.specs.Components.{model_of};
-ghost use Rattle.schema_parts.specs.Linked.{IsContent, IsLinked};
-ghost use Rattle.schema_parts.specs.SetParts.{parts_of};
-ghost use Rattle.validity.specs.Asked.{inside_of, asked_by_complex, asked_at};
+ghost use Rattle.schema_components.specs.Components.{model_of};
+ghost use Rattle.schema_components.specs.Linked.{IsContent, IsLinked};
+ghost use Rattle.schema_components.specs.SetParts.{parts_of};
+ghost use Rattle.validity_rules.specs.Asked.{inside_of, asked_by_complex, asked_at};
 ghost use Rattle.validity_check.specs.Told.{inside_told, told, model_at, IsFittingInside, IsFitting};
 
-use attribute_faults::Uses;
+use crate::uses::Uses;
 use content_models::Particle;
-use schema_parts::{Content, SchemaSet, TypeOf};
+use schema_components::{Content, SchemaSet, TypeOf};
 use simple_types::Simple;
 
 /// What may stand in an element.

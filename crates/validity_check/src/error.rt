@@ -1,9 +1,9 @@
 //! Why a document isn't found valid.
 ghost use Rattle.std.specs.Prelude.{◌≡◌};
 
+use base_texts::Memory;
 use thiserror::Error;
-use validity::InvalidWhy;
-use xa_base::Memory;
+use validity_rules::InvalidWhy;
 
 /// The first fault: its place in bytes from 0, and its reason.
 #[derive(Clone, Copy, Debug, PartialEq, Eq, Error)]

@@ -1,15 +1,15 @@
 //! The kids of an element that has no content model.
 ghost use Rattle.std.specs.Prelude.{◌≡◌, true, Some, MatchResult};
-ghost use Rattle.label_tree.specs.Rose.{roses_of, none};
-ghost use Rattle.doc_text.specs.Sound.{are_sound};
-ghost use Rattle.item_tree.specs.Seen.{item_seen};
-ghost use Rattle.validity.specs.Valid as rule;
-ghost use Rattle.validity.specs.Faults.{why_kid, FirstKid, FirstElement};
+ghost use Rattle.base_trees.specs.Rose.{roses_of, none};
+ghost use Rattle.xml_read.specs.Sound.{are_sound};
+ghost use Rattle.xml_items.specs.Seen.{item_seen};
+ghost use Rattle.validity_rules.specs.Valid as rule;
+ghost use Rattle.validity_rules.specs.Faults.{why_kid, FirstKid, FirstElement};
 
 use crate::error::Fault;
-use item_tree::{Characters, ItemKids, ItemRef};
 use std::iter::Iterator;
-use validity::InvalidWhy;
+use validity_rules::InvalidWhy;
+use xml_items::{Characters, ItemKids, ItemRef};
 
 fn why_kid(label: &ItemRef<'_>) -> InvalidWhy
     ensures { result ≡ why_kid (item_seen label.now) }

@@ -1,19 +1,31 @@
-//! What a set of schemas declares of an element, the rules of its start tag, and its content where it has no content model.
+//! Checks the start tag of an element, its attributes, and its content where the type has no content model.
 //!
-//! The walk over a document stands above: it takes the declarations and the plans of content models from here, each compiled
-//! when it is first wanted.
+//! The traversal of a document is `xer_read`, above. It takes the declarations and the compiled content models from here; each
+//! model is compiled on first use.
 //!
-//! Read first: `specs/Told` and `specs/Answers`, then `check_tag` in `src/tags.rt`.
+//! Read first: `specs/Told` and `specs/Answers`, then `check_tag` in `src/tags.rt`; `specs/Attributes` of `validity_rules`,
+//! then `src/uses.rt` and `src/attributes.rt`.
 #![tactic(auto)]
 
+mod attributes;
 mod declarations;
 mod error;
+mod judging;
 mod kids;
+mod places;
 mod plans;
+mod standards;
 mod tags;
+mod texts;
+mod uses;
 
+pub use attributes::{is_special, text_fault, text_of};
 pub use declarations::{Declared, Inside, declared_of};
 pub use error::{CheckError, Fault};
+pub use judging::Judged;
 pub use kids::{check_empty, check_no_content, only_text};
 pub use plans::Plans;
+pub use standards::says_nothing;
 pub use tags::{check_tag, nil_of, special};
+pub use texts::are_few;
+pub use uses::Uses;

@@ -1,17 +1,17 @@
 //! The plans of a set's content models.
 ghost use Rattle.std.specs.Prelude.{◌≡◌, Some, IfOk, IfSome};
 ghost use Rattle.content_models.specs.Seen.{seen};
-ghost use Rattle.schema_parts.specs.Linked.{IsLinked};
+ghost use Rattle.schema_components.specs.Linked.{IsLinked};
 ghost use Rattle.validity_check.specs.Kept.{IsPlanAt};
 ghost use Rattle.validity_check.specs.Told.{model_at};
 
+use base_texts::Memory;
 use content_match::{Lists, Plan, compile};
 use content_models::Particle;
-use schema_parts::SchemaSet;
+use schema_components::SchemaSet;
 use std::alloc::Global;
 use std::marker::Model;
 use std::rc::Rc;
-use xa_base::Memory;
 
 /// The plans of a set's content models, each compiled when it is first wanted; seen as the set.
 #[derive(Drop)]
@@ -27,8 +27,8 @@ pub struct Plans<'a> {
 impl<'a> Model for Plans<'a> {
     ghost use Rattle.std.specs.Coded.{codes};
     ghost use Rattle.simple_types.specs.contracts.simples.Simple as simple;
-    ghost use Rattle.schema_parts.specs.contracts.components.ComplexDef as complex;
-    ghost use Rattle.schema_parts.specs.Components.{Set};
+    ghost use Rattle.schema_components.specs.contracts.components.ComplexDef as complex;
+    ghost use Rattle.schema_components.specs.Components.{Set};
     ghost use Rattle.validity_check.specs.Kept.{ArePlans};
 
     ghost Value = { Set };

@@ -1,24 +1,24 @@
 //! The rules of a start tag, in the order of their faults.
 ghost use Rattle.std.specs.Prelude.{◌≡◌, [], true, false, Some, None, All, map, MatchOption, MatchResult, IfOk, IsTrue, IsFalse};
-ghost use Rattle.xa_base.specs.Names.{name_eq};
-ghost use Rattle.xa_base.specs.WhiteSpace.{treated};
-ghost use Rattle.simple_values.specs.Lexical.{boolean_of};
-ghost use Rattle.schema_parts.specs.Linked.{IsUse, IsLinked};
-ghost use Rattle.schema_parts.specs.SetParts.{SetParts, parts_of};
-ghost use Rattle.validity.specs.Asked.{attribute_in};
-ghost use Rattle.validity.specs.Attributes as rule;
+ghost use Rattle.base_texts.specs.Names.{name_eq};
+ghost use Rattle.base_texts.specs.WhiteSpace.{treated};
+ghost use Rattle.simple_types.specs.Lexical.{boolean_of};
+ghost use Rattle.schema_components.specs.Linked.{IsUse, IsLinked};
+ghost use Rattle.schema_components.specs.SetParts.{SetParts, parts_of};
+ghost use Rattle.validity_rules.specs.Asked.{attribute_in};
+ghost use Rattle.validity_rules.specs.Attributes as rule;
 ghost use Rattle.validity_check.specs.Told.{told};
 ghost use Rattle.validity_check.specs.Answers.{Tells, TagFault, IsGoodTag};
 
 use crate::declarations::Declared;
 use crate::error::CheckError;
-use attribute_faults::{Judged, Uses};
-use schema_parts::SchemaSet;
-use simple_types::{Simple, ValueLabel};
-use simple_values::{SimpleError, accept};
+use crate::judging::Judged;
+use crate::uses::Uses;
+use base_texts::{Memory, Name, Text, WhiteSpace, XSI_SPACE};
+use schema_components::SchemaSet;
+use simple_types::{Simple, SimpleError, ValueLabel, accept};
 use std::alloc::Global;
-use validity::InvalidWhy;
-use xa_base::{Memory, Name, Text, WhiteSpace, XSI_SPACE};
+use validity_rules::InvalidWhy;
 
 const TYPE: &[u8] = b"type";
 

@@ -1,8 +1,8 @@
 -- How many nodes there are after each step.
 use Rattle.std.proofs.Common.{◌≡◌, ◌+◌, List, [], ◌∷◌, refl, arith, Bool}
-use Rattle.label_tree.specs.Rose.{Rose, node, roses_of, node_count, count_all}
-use Rattle.label_tree.proofs.Roses.{count_all-append, count_all-push}
-use Rattle.flat_tree.specs.Zips.{Above, Zip, above_count, zip_count, opened, added, added_all, closed, closed_in}
+use Rattle.base_trees.specs.Rose.{Rose, node, roses_of, node_count, count_all}
+use Rattle.base_trees.proofs.Roses.{count_all-append, count_all-push}
+use Rattle.base_flat_trees.specs.Zips.{Above, Zip, above_count, zip_count, opened, added, added_all, closed, closed_in}
 use Rattle.simple_types.specs.declared.labels.ValueLabel.{ValueLabel}
 use Rattle.value_builder.specs.Built.{flagged, flagged_above, with_parts, with_flags_above}
 

@@ -1,7 +1,7 @@
 -- Parts of the innermost open SEQUENCE, one after another.
 use Rattle.std.proofs.Common.{◌≡◌, List, [], ◌∷◌, ◌++◌, Bool, true, false, refl, sym, ◌∙◌, ap, append_assoc, append-nil}
-use Rattle.label_tree.specs.Rose.{Rose, node, roses_of}
-use Rattle.flat_tree.specs.Zips.{Above, Zip, opened, added, added_all, closed}
+use Rattle.base_trees.specs.Rose.{Rose, node, roses_of}
+use Rattle.base_flat_trees.specs.Zips.{Above, Zip, opened, added, added_all, closed}
 use Rattle.simple_types.specs.declared.labels.ValueLabel.{ValueLabel}
 use Rattle.simple_types.specs.declared.labels.ValueLabel.TheVariants as value
 use Rattle.value_builder.specs.Built.{flagged, flagged_label, flagged_above, with_flags, with_flags_above, with_parts}

@@ -1,7 +1,7 @@
 -- What is put down, step by step.
 use Rattle.std.proofs.Common.{◌≡◌, ℕ, List, [], ◌+◌, ◌-◌, ◌^◌, ◌≤◌, min, ◌∙◌, ap, arith, refl, sym, subst}
-use Rattle.label_tree.specs.Rose.{Rose, roses_of, node_count, count_all, shown_count}
-use Rattle.flat_tree.specs.Zips.{Zip, zip_count, added, added_all}
+use Rattle.base_trees.specs.Rose.{Rose, roses_of, node_count, count_all, shown_count}
+use Rattle.base_flat_trees.specs.Zips.{Zip, zip_count, added, added_all}
 use Rattle.simple_types.specs.declared.labels.ValueLabel.{ValueLabel}
 use Rattle.value_builder.specs.Built.{Built, nothing_of, Stands, Puts}
 use Rattle.value_builder.proofs.Counts.{count-added, count-added_all}

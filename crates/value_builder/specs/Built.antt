@@ -2,8 +2,8 @@
 -- alone. Where no node may be kept, nothing is counted either.
 use Rattle.std.specs.Prelude.{◌≡◌, ℕ, ◌-◌, ◌^◌, ◌≤◌, min, List, [], ◌∷◌, ◌++◌, Bool, refl}
 use Rattle.std.specs.Coded.{Coded, code_by, coded×, coded_ℕ}
-use Rattle.label_tree.specs.Rose.{Rose}
-use Rattle.flat_tree.specs.Zips.{Above, Zip, zip_count, coded_zip}
+use Rattle.base_trees.specs.Rose.{Rose}
+use Rattle.base_flat_trees.specs.Zips.{Above, Zip, zip_count, coded_zip}
 use Rattle.simple_types.specs.contracts.labels.ValueLabel as label
 use Rattle.simple_types.specs.declared.labels.ValueLabel.{ValueLabel}
 use Rattle.simple_types.specs.declared.labels.ValueLabel.TheVariants as value

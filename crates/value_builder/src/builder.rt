@@ -1,22 +1,21 @@
 //! What is put down of a value.
 ghost use Rattle.std.specs.Prelude.{◌≡◌, length, ◌<◌, ◌+◌, ◌-◌, ◌^◌, ◌≤◌, min, ◌↔◌, ℕ, Err, IsTrue, IsUtf8, IfOk, List, OnOk, MatchResult, take};
-ghost use Rattle.label_tree.specs.Rose.{Rose, node, none};
-ghost use Rattle.flat_tree.specs.Zips.{Zip, zip_count, opened, added, added_all, closed};
+ghost use Rattle.base_trees.specs.Rose.{Rose, node, none};
+ghost use Rattle.base_flat_trees.specs.Zips.{Zip, zip_count, opened, added, added_all, closed};
 ghost use Rattle.simple_types.specs.declared.labels.ValueLabel.{ValueLabel};
 ghost use Rattle.simple_types.specs.Seen.{space_of};
 ghost use Rattle.simple_types.specs.Sound.{Sound};
-ghost use Rattle.simple_values.specs.Answering.{AnswersReading};
-ghost use Rattle.simple_values.specs.Reading.{reads, Accepts};
+ghost use Rattle.simple_types.specs.Answering.{AnswersReading};
+ghost use Rattle.simple_types.specs.Reading.{reads, Accepts};
 ghost use Rattle.value_builder.specs.Built.{nothing_of, Stands, Puts, flagged, flagged_label};
 
-use flat_tree::{Builder, Flat};
-use item_tree::Characters;
-use simple_types::{Flags, Simple, ValueLabel};
-use simple_values::{SimpleError, accept_front_into, accept_into};
+use crate::counting::count;
+use base_flat_trees::{Builder, Flat};
+use base_texts::{Memory, Text};
+use simple_types::{Flags, Simple, SimpleError, ValueLabel, accept_front_into, accept_into};
 use std::alloc::Global;
 use std::marker::Model;
-use value_counts::count;
-use xa_base::{Memory, Text};
+use xml_items::Characters;
 
 // So many flags lie in their value.
 const FEW: usize = 22;

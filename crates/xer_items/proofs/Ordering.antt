@@ -3,10 +3,10 @@ use Rattle.std.proofs.Common.{◌≡◌, ℕ, zero, suc, ◌+◌, ◌-◌, ◌�
 use Rattle.std.specs.List.{AllByRecursion}
 use Rattle.std.proofs.lemmas.List.{take-append-drop}
 use Rattle.simple_types.specs.Labels.{count_set}
-use Rattle.label_tree.specs.Rose.{Rose, roses_of, node_count, count_all}
-use Rattle.label_tree.proofs.Roses.{count_all-append}
+use Rattle.base_trees.specs.Rose.{Rose, roses_of, node_count, count_all}
+use Rattle.base_trees.proofs.Roses.{count_all-append}
 use Rattle.asn_values.specs.Ordering.{slots, slot_at, emptied, put_some, taken, in_order}
-use Rattle.plain_items.specs.Plain.{Plain}
+use Rattle.xml_items.specs.Plain.{Plain}
 use Rattle.xer_items.specs.Items.{Given, given, nothing, with_order}
 
 -- ---- without USE-ORDER the order of items is as it was

@@ -3,13 +3,13 @@ use Rattle.std.proofs.Common.{◌≡◌, ℕ, ◌+◌, ◌-◌, ◌*◌, ◌<◌
 use Rattle.std.specs.Prelude.{slice_get, ◌&&◌}
 use Rattle.std.specs.Option.{option_map}
 use Rattle.std.proofs.lemmas.List.{length-map}
-use Rattle.label_tree.specs.Rose.{Rose, node, Roses, none, more, label_of, kids_of, list_of, length_all, node_count, count_all}
-use Rattle.label_tree.proofs.Roses.{length-list_of, roses_of-list_of}
+use Rattle.base_trees.specs.Rose.{Rose, node, Roses, none, more, label_of, kids_of, list_of, length_all, node_count, count_all}
+use Rattle.base_trees.proofs.Roses.{length-list_of, roses_of-list_of}
 use Rattle.simple_types.specs.declared.labels.ValueLabel.{ValueLabel}
 use Rattle.simple_types.specs.declared.labels.ValueLabel.TheVariants as value
-use Rattle.simple_values.specs.Reading.{spelled, spelled_text}
-use Rattle.plain_items.specs.Plain.{Plain, element, text}
-use Rattle.plain_items.specs.Mixing.{text_before, interleaved, child_elements}
+use Rattle.simple_types.specs.Reading.{spelled, spelled_text}
+use Rattle.xml_items.specs.Plain.{Plain, element, text}
+use Rattle.xml_items.specs.Mixing.{text_before, interleaved, child_elements}
 use Rattle.asn_types.specs.declared.modules.Assignment.{Assignment}
 use Rattle.asn_types.specs.declared.roles.Role.{Role}
 use Rattle.asn_types.specs.declared.roles.Role.TheVariants.{Attribute, Element, Group, Content, Embed, Order, Item, Alternative}

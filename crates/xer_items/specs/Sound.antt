@@ -3,12 +3,12 @@
 use Rattle.std.specs.Prelude.{◌≡◌, ℕ, Bool, true, false, ◌&&◌, List, [], ◌∷◌, IsUtf8}
 use Rattle.std.specs.List.{list_all}
 use Rattle.std.specs.Str.{chars}
-use Rattle.xa_base.specs.Characters.{is_xml_char}
-use Rattle.xa_base.specs.Limits.{is_empty, is_xmlns}
-use Rattle.xa_base.specs.declared.texts.Name.{Name}
-use Rattle.label_tree.specs.Rose.{Rose, node, Roses, none, more, label_of}
-use Rattle.doc_text.specs.Sound.{is_sound_name, has_name}
-use Rattle.plain_items.specs.Plain.{Plain, element, text}
+use Rattle.base_texts.specs.Characters.{is_xml_char}
+use Rattle.base_texts.specs.Limits.{is_empty, is_xmlns}
+use Rattle.base_texts.specs.declared.texts.Name.{Name}
+use Rattle.base_trees.specs.Rose.{Rose, node, Roses, none, more, label_of}
+use Rattle.xml_read.specs.Sound.{is_sound_name, has_name}
+use Rattle.xml_items.specs.Plain.{Plain, element, text}
 
 -- production [2] Char
 abbrev pub HasCharacters : List ℕ → Type 0

@@ -1,21 +1,21 @@
 -- A value is read back from its items.
 use Rattle.std.proofs.Common.{◌≡◌, ℕ, ◌<◌, ◌⊎◌, inl, inr, List, Some, refl, sym, ap, subst, ◌∙◌, arith}
 use Rattle.std.specs.Prelude.{Result, Ok, Err}
-use Rattle.label_tree.specs.Rose.{Rose, node_count}
+use Rattle.base_trees.specs.Rose.{Rose, node_count}
 use Rattle.simple_types.specs.declared.labels.ValueLabel.{ValueLabel}
-use Rattle.item_tree.specs.declared.label.ItemLabel.{ItemLabel}
-use Rattle.plain_items.specs.Plain.{plain_of}
-use Rattle.schema_parts.specs.Components.{Set}
-use Rattle.schema_parts.specs.Linked.{IsLinked}
-use Rattle.schema_parts.specs.SetParts.{parts_of}
+use Rattle.xml_items.specs.declared.label.ItemLabel.{ItemLabel}
+use Rattle.xml_items.specs.Plain.{plain_of}
+use Rattle.schema_components.specs.Components.{Set}
+use Rattle.schema_components.specs.Linked.{IsLinked}
+use Rattle.schema_components.specs.SetParts.{parts_of}
 use Rattle.asn_types.specs.declared.modules.Assignment.{Assignment}
 use Rattle.asn_values.specs.Values.{In}
 use Rattle.map_assignments.specs.Mapped.{IsMapOf, root_at}
 use Rattle.xer_items.specs.Items.{Xer}
-use Rattle.validity.specs.Laws.{AtMostOne}
-use Rattle.validity.specs.Valid.{Valid}
-use Rattle.schema_parts.specs.Small.{AreSmall}
-use Rattle.one_value.specs.Statements.{ItemsOfValues, OneValue}
+use Rattle.validity_rules.specs.Laws.{AtMostOne}
+use Rattle.validity_rules.specs.Valid.{Valid}
+use Rattle.schema_components.specs.Small.{AreSmall}
+use Rattle.value_laws.specs.Statements.{ItemsOfValues, OneValue}
 use Rattle.xer_read.specs.declared.error.ReadError.{ReadError}
 use Rattle.xer_read.specs.declared.error.ReadError.TheVariants.{Invalid, TooManyNodes, Memory}
 use Rattle.xer_read.specs.Answers.{IsValueOf, IsAnswer, ReadBack}

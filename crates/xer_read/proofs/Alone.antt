@@ -1,25 +1,25 @@
 -- Elements that have nothing but child elements, in the order of their content model.
 use Rattle.std.proofs.Common.{◌≡◌, ℕ, true, false, List, [], refl, sym, subst}
 use Rattle.std.specs.Prelude.{Result, MatchResult}
-use Rattle.xa_base.specs.declared.texts.Name.{Name}
-use Rattle.label_tree.specs.Rose.{Rose, node, roses_of, label_of, kids_of}
-use Rattle.flat_tree.specs.Zips.{Zip, opened}
+use Rattle.base_texts.specs.declared.texts.Name.{Name}
+use Rattle.base_trees.specs.Rose.{Rose, node, roses_of, label_of, kids_of}
+use Rattle.base_flat_trees.specs.Zips.{Zip, opened}
 use Rattle.simple_types.specs.declared.labels.ValueLabel.{ValueLabel}
 use Rattle.simple_types.specs.declared.labels.ValueLabel.TheVariants as value
 use Rattle.content_models.specs.declared.particles.ParticleLabel.{ParticleLabel}
 use Rattle.content_models.specs.Particle.{Particle}
 use Rattle.content_models.specs.Clear.{IsNoAll}
 use Rattle.content_models.specs.Seen.{seen}
-use Rattle.item_tree.specs.declared.label.ItemLabel.{ItemLabel}
-use Rattle.item_tree.specs.declared.label.ItemLabel.TheVariants.{Element}
-use Rattle.doc_text.specs.Sound.{is_sound}
+use Rattle.xml_items.specs.declared.label.ItemLabel.{ItemLabel}
+use Rattle.xml_items.specs.declared.label.ItemLabel.TheVariants.{Element}
+use Rattle.xml_read.specs.Sound.{is_sound}
 use Rattle.map_assignments.specs.Planning.{is_all}
-use Rattle.schema_parts.specs.Components.{Set}
-use Rattle.schema_parts.specs.Linked.{IsLinked}
-use Rattle.schema_parts.specs.SetParts.{parts_of}
-use Rattle.validity.specs.Asked.{Asked, children, asked, asked_at}
-use Rattle.validity.specs.Attributes.{left}
-use Rattle.validity.specs.Faults.{FaultBy}
+use Rattle.schema_components.specs.Components.{Set}
+use Rattle.schema_components.specs.Linked.{IsLinked}
+use Rattle.schema_components.specs.SetParts.{parts_of}
+use Rattle.validity_rules.specs.Asked.{Asked, children, asked, asked_at}
+use Rattle.validity_rules.specs.Attributes.{left}
+use Rattle.validity_rules.specs.Faults.{FaultBy}
 use Rattle.validity_check.specs.declared.error.CheckError.{CheckError}
 use Rattle.validity_check.specs.Answers.{Tells, InsideFault}
 use Rattle.validity_check.proofs.Tagging.{bare}

@@ -4,30 +4,30 @@ use Rattle.std.specs.Prelude.{All, Ok, Err, slice_get, not, ◌&&◌, if◌then�
 use Rattle.std.proofs.lemmas.List.{map-append, take_more}
 use Rattle.std.proofs.lemmas.List.Elements.{All-nil, All-cons, All-head, All-tail}
 use Rattle.std.proofs.lemmas.Slice.Eq.{bytes_eq-Decides}
-use Rattle.xa_base.specs.declared.texts.Name.{Name}
-use Rattle.label_tree.specs.Rose.{Rose}
+use Rattle.base_texts.specs.declared.texts.Name.{Name}
+use Rattle.base_trees.specs.Rose.{Rose}
 use Rattle.simple_types.specs.declared.labels.ValueLabel.{ValueLabel}
 use Rattle.simple_types.specs.Seen.{space_of}
 use Rattle.simple_types.specs.declared.standards.Standard.{Standard}
 use Rattle.simple_types.specs.declared.standards.Standard.TheVariants.{Free, Default, Fixed}
 use Rattle.simple_types.specs.Space.{Space, Booleans}
 use Rattle.simple_types.specs.Sound.{Sound}
-use Rattle.simple_values.specs.Reading.{Refusal, Reading, reads, spelled, Accepts}
-use Rattle.schema_parts.specs.declared.components.AttributeUse.{AttributeUse}
-use Rattle.schema_parts.specs.declared.components.SimpleDef.{SimpleDef}
-use Rattle.schema_parts.specs.Components.{Set}
-use Rattle.schema_parts.specs.Declarable.{is_declarable_attribute}
-use Rattle.schema_parts.specs.Linked.{IsSimpleType, MayBeFor, IsLinked}
-use Rattle.schema_parts.specs.SetParts.{parts_of}
-use Rattle.validity.specs.Asked.{Asked, Attribute, attribute_in, space_at, asked_at}
-use Rattle.validity.specs.Attributes.{text_of, left, declared, IsFixedTo, Takes, AllRight, spelled_read, treated_text, has_spelling, unless_standard, treated_attribute}
-use Rattle.validity.proofs.Again.{IsFair}
-use Rattle.validity.proofs.Fair.{fair_at}
-use Rattle.validity.proofs.Treated.{declared_each, text_right}
+use Rattle.simple_types.specs.Reading.{Refusal, Reading, reads, spelled, Accepts}
+use Rattle.schema_components.specs.declared.components.AttributeUse.{AttributeUse}
+use Rattle.schema_components.specs.declared.components.SimpleDef.{SimpleDef}
+use Rattle.schema_components.specs.Components.{Set}
+use Rattle.schema_components.specs.Declarable.{is_declarable_attribute}
+use Rattle.schema_components.specs.Linked.{IsSimpleType, MayBeFor, IsLinked}
+use Rattle.schema_components.specs.SetParts.{parts_of}
+use Rattle.validity_rules.specs.Asked.{Asked, Attribute, attribute_in, space_at, asked_at}
+use Rattle.validity_rules.specs.Attributes.{text_of, left, declared, IsFixedTo, Takes, AllRight, spelled_read, treated_text, has_spelling, unless_standard, treated_attribute}
+use Rattle.validity_rules.proofs.Again.{IsFair}
+use Rattle.validity_rules.proofs.Fair.{fair_at}
+use Rattle.validity_rules.proofs.Treated.{declared_each, text_right}
 use Rattle.validity_check.proofs.Tagging.{plain_name, text_left}
 use Rattle.map_subjects.proofs.Finding.{all-at}
-use Rattle.one_value.proofs.Simples.{found-in}
-use Rattle.one_value.proofs.Spelled.{KeptAs, IsKept}
+use Rattle.value_laws.proofs.Simples.{found-in}
+use Rattle.value_laws.proofs.Spelled.{KeptAs, IsKept}
 use Rattle.value_builder.specs.Built.{Built}
 use Rattle.xer_read.specs.Private.Contents.{IsTaken, AreTaken, IsLeftOut, IsPut, AttributesMade}
 use Rattle.xer_read.specs.Private.Putting.{PartsPut}

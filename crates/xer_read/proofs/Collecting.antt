@@ -1,42 +1,42 @@
 -- What is known behind some kids of an element whose child elements come in any order.
 use Rattle.std.proofs.Common.{◌≡◌, ℕ, zero, suc, ◌+◌, ◌≤◌, ◌<◌, ◌⊎◌, List, [], ◌∷◌, ◌++◌, Option, Some, None, Bool, true, false, ◌&&◌, cond, length, get_or, refl, sym, ◌∙◌, ap, subst, add-one, arith, length-append}
 use Rattle.std.specs.Prelude.{Result, Ok, Err, MatchResult, All, slice_get}
-use Rattle.xa_base.specs.declared.texts.Name.{Name}
-use Rattle.xa_base.specs.WhiteSpace.{is_blank}
-use Rattle.label_tree.specs.Rose.{Rose, Roses, roses_of, label_of}
-use Rattle.label_tree.specs.Rose as rose
+use Rattle.base_texts.specs.declared.texts.Name.{Name}
+use Rattle.base_texts.specs.WhiteSpace.{is_blank}
+use Rattle.base_trees.specs.Rose.{Rose, Roses, roses_of, label_of}
+use Rattle.base_trees.specs.Rose as rose
 use Rattle.simple_types.specs.declared.labels.ValueLabel.{ValueLabel}
 use Rattle.content_models.specs.Particle.{Particle, occurs, Term, element, sequence, choice, all, Particles, none, more}
 use Rattle.content_models.specs.Language.{Leaf, Turn, leaf_at, turn_of, size_of, names, Lang, Viable}
 use Rattle.content_models.specs.Clear.{is_zero, empties, IsSingle, AreSingle, Clear}
 use Rattle.content_models.specs.Occurring.{AllowOne, AllMayOccur}
-use Rattle.content_spots.specs.Spots.{Spot, at, among, over, Picked, picked, or_else, picked_later, pick, is_named, among_picked, unmarked, missing, enter_term, leaf_of_kid, leaf_picked, leaf_of}
-use Rattle.content_spots.specs.Laws as spots
-use Rattle.content_spots.specs.Laws.{EndsAt, step_from, may_end}
-use Rattle.content_spots.proofs.Options.{over_some}
+use Rattle.content_models.specs.Spots.{Spot, at, among, over, Picked, picked, or_else, picked_later, pick, is_named, among_picked, unmarked, missing, enter_term, leaf_of_kid, leaf_picked, leaf_of}
+use Rattle.content_models.specs.SpotLaws as spots
+use Rattle.content_models.specs.SpotLaws.{EndsAt, step_from, may_end}
+use Rattle.content_models.proofs.Options.{over_some}
 use Rattle.content_match.specs.Taking.{Matched, Took, TookMore, spot_of}
 use Rattle.content_match.specs.Private.Alls.{whole}
 use Rattle.content_match.specs.declared.places.Leaf as matched
 use Rattle.content_match.proofs.Picked.{end_by}
 use Rattle.content_match.specs.Private.Standing.{spot_among, spot_in}
-use Rattle.item_tree.specs.declared.label.ItemLabel.{ItemLabel}
-use Rattle.item_tree.specs.declared.label.ItemLabel.TheVariants.{Element, Text}
-use Rattle.doc_text.specs.Sound.{levels_all}
-use Rattle.plain_items.specs.Plain.{Plain}
+use Rattle.xml_items.specs.declared.label.ItemLabel.{ItemLabel}
+use Rattle.xml_items.specs.declared.label.ItemLabel.TheVariants.{Element, Text}
+use Rattle.xml_read.specs.Sound.{levels_all}
+use Rattle.xml_items.specs.Plain.{Plain}
 use Rattle.simple_types.specs.Labels.{count_set}
 use Rattle.asn_values.specs.Ordering.{taken, slots}
 use Rattle.asn_values.specs.Orders.{is_set, are_just_set}
 use Rattle.asn_values.proofs.JustSet.{just_set}
 use Rattle.map_assignments.specs.Planning.{is_all}
-use Rattle.schema_parts.specs.Components.{Set}
-use Rattle.schema_parts.specs.Linked.{leaves, IsNamed}
-use Rattle.schema_parts.specs.SetParts.{parts_of}
+use Rattle.schema_components.specs.Components.{Set}
+use Rattle.schema_components.specs.Linked.{leaves, IsNamed}
+use Rattle.schema_components.specs.SetParts.{parts_of}
 use Rattle.xer_items.specs.Items.{joined}
-use Rattle.validity.specs.Asked.{Asked, asked_at}
-use Rattle.validity.specs.Valid.{ValidBy, KidsValid}
-use Rattle.validity.specs.Faults.{Begins, At, FaultBy}
-use Rattle.validity.specs.declared.why.InvalidWhy.TheVariants.{TextNotAllowed, UnexpectedElement, MissingElement}
-use Rattle.validity.proofs.Reading.{kid_here, front_long, named}
+use Rattle.validity_rules.specs.Asked.{Asked, asked_at}
+use Rattle.validity_rules.specs.Valid.{ValidBy, KidsValid}
+use Rattle.validity_rules.specs.Faults.{Begins, At, FaultBy}
+use Rattle.validity_rules.specs.declared.why.InvalidWhy.TheVariants.{TextNotAllowed, UnexpectedElement, MissingElement}
+use Rattle.validity_rules.proofs.Reading.{kid_here, front_long, named}
 use Rattle.validity_check.specs.declared.error.CheckError.{CheckError}
 use Rattle.validity_check.specs.declared.error.CheckError.TheVariants.{Invalid, Memory}
 use Rattle.validity_check.specs.Walked.{Walked}
@@ -44,8 +44,8 @@ use Rattle.validity_check.specs.Answers.{Tells, KidsFault}
 use Rattle.validity_check.proofs.Leaves.{last_has}
 use Rattle.validity_check.proofs.Walking.{end_judged, text_judged, name_refused, kid_judged}
 use Rattle.value_builder.specs.Built.{Built}
-use Rattle.content_values.specs.Bounds.{is_single, is_optional}
-use Rattle.content_values.specs.Made.{Child, Several, Standing, TermMade, PartsMade, TopMade}
+use Rattle.value_contents.specs.Bounds.{is_single, is_optional}
+use Rattle.value_contents.specs.Made.{Child, Several, Standing, TermMade, PartsMade, TopMade}
 use Rattle.xer_read.specs.declared.gathering.Gathered.{Gathered}
 use Rattle.xer_read.specs.Private.Given.{IsElementOf, IsRead}
 use Rattle.xer_read.specs.Private.Keeping.{IsKept, AllKept, IsOf, SlotKept, SlotsKept, marks_at, Gathers}

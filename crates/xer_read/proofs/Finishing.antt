@@ -2,17 +2,17 @@
 use Rattle.std.proofs.Common.{◌≡◌, ℕ, ◌-◌, ◌^◌, ◌≤◌, ◌<◌, min, Some, refl, sym, ap, subst, arith}
 use Rattle.std.specs.Prelude.{slice_get, Result, Ok, Err, MatchResult}
 use Rattle.std.specs.Option.{option_map}
-use Rattle.label_tree.specs.Rose.{Rose, label_of, node_count, shown_count}
-use Rattle.flat_tree.specs.Zips.{Zip, added}
+use Rattle.base_trees.specs.Rose.{Rose, label_of, node_count, shown_count}
+use Rattle.base_flat_trees.specs.Zips.{Zip, added}
 use Rattle.simple_types.specs.declared.labels.ValueLabel.{ValueLabel}
-use Rattle.item_tree.specs.declared.label.ItemLabel.{ItemLabel}
-use Rattle.doc_text.specs.Sound.{levels}
-use Rattle.schema_parts.specs.declared.components.ElementDecl.{ElementDecl}
-use Rattle.schema_parts.specs.Components.{Set}
-use Rattle.schema_parts.specs.SetParts.{parts_of}
-use Rattle.validity.specs.Asked.{asked_at}
-use Rattle.validity.specs.Valid.{HasName}
-use Rattle.validity.specs.Faults.{FaultBy, FirstFault}
+use Rattle.xml_items.specs.declared.label.ItemLabel.{ItemLabel}
+use Rattle.xml_read.specs.Sound.{levels}
+use Rattle.schema_components.specs.declared.components.ElementDecl.{ElementDecl}
+use Rattle.schema_components.specs.Components.{Set}
+use Rattle.schema_components.specs.SetParts.{parts_of}
+use Rattle.validity_rules.specs.Asked.{asked_at}
+use Rattle.validity_rules.specs.Valid.{HasName}
+use Rattle.validity_rules.specs.Faults.{FaultBy, FirstFault}
 use Rattle.validity_check.specs.declared.error.CheckError.{CheckError}
 use Rattle.validity_check.specs.Answers.{Tells, IsValid}
 use Rattle.validity_check.proofs.Rooting.{root_judged}

@@ -4,32 +4,32 @@ use Rattle.std.specs.Prelude.{All, Ok, IsUtf8, slice_get, IsSomeAnd, MatchBool}
 use Rattle.std.specs.List.{AllByRecursion}
 use Rattle.std.proofs.lemmas.List.Sorted.{length_permutation}
 use Rattle.std.proofs.lemmas.List.Elements.{All-nil, All-head, All-tail}
-use Rattle.xa_base.specs.declared.texts.Name.{Name}
-use Rattle.label_tree.specs.Rose.{Rose, node, Roses, roses_of, length_all}
-use Rattle.label_tree.specs.Rose as rose
-use Rattle.label_tree.proofs.Roses.{length_all-roses_of}
+use Rattle.base_texts.specs.declared.texts.Name.{Name}
+use Rattle.base_trees.specs.Rose.{Rose, node, Roses, roses_of, length_all}
+use Rattle.base_trees.specs.Rose as rose
+use Rattle.base_trees.proofs.Roses.{length_all-roses_of}
 use Rattle.simple_types.specs.declared.labels.ValueLabel.{ValueLabel}
 use Rattle.simple_types.specs.declared.labels.ValueLabel.TheVariants as value
-use Rattle.simple_values.specs.Reading.{reads, spelled}
+use Rattle.simple_types.specs.Reading.{reads, spelled}
 use Rattle.content_models.specs.declared.particles.ParticleLabel.{ParticleLabel}
 use Rattle.content_models.specs.Particle.{Particle}
 use Rattle.content_models.specs.Clear.{IsNoAll}
 use Rattle.content_models.specs.Seen.{seen}
-use Rattle.item_tree.specs.declared.label.ItemLabel.{ItemLabel}
-use Rattle.doc_text.specs.Sound.{are_sound_attributes, are_sound, levels_all}
-use Rattle.plain_items.specs.Plain.{Plain}
-use Rattle.plain_items.specs.Mixing.{text_before, texts_between, interleaved, AllElements}
-use Rattle.plain_items.proofs.Mixing.{puts_together}
-use Rattle.schema_parts.specs.declared.components.AttributeUse.{AttributeUse}
-use Rattle.schema_parts.specs.declared.components.ElementDecl.{ElementDecl}
-use Rattle.schema_parts.specs.declared.components.ComplexDef.{ComplexDef}
-use Rattle.schema_parts.specs.declared.components.Content as schema
-use Rattle.schema_parts.specs.declared.components.Content.TheVariants as content_
-use Rattle.schema_parts.specs.declared.components.TypeOf.{TypeOf}
-use Rattle.schema_parts.specs.declared.components.TypeOf.TheVariants as kind
-use Rattle.schema_parts.specs.Components.{Set}
-use Rattle.schema_parts.specs.Linked.{leaves, IsNamed, HasStandard, IsContent, IsComplexType, IsLinked}
-use Rattle.schema_parts.specs.SetParts.{parts_of}
+use Rattle.xml_items.specs.declared.label.ItemLabel.{ItemLabel}
+use Rattle.xml_read.specs.Sound.{are_sound_attributes, are_sound, levels_all}
+use Rattle.xml_items.specs.Plain.{Plain}
+use Rattle.xml_items.specs.Mixing.{text_before, texts_between, interleaved, AllElements}
+use Rattle.xml_items.proofs.Mixing.{puts_together}
+use Rattle.schema_components.specs.declared.components.AttributeUse.{AttributeUse}
+use Rattle.schema_components.specs.declared.components.ElementDecl.{ElementDecl}
+use Rattle.schema_components.specs.declared.components.ComplexDef.{ComplexDef}
+use Rattle.schema_components.specs.declared.components.Content as schema
+use Rattle.schema_components.specs.declared.components.Content.TheVariants as content_
+use Rattle.schema_components.specs.declared.components.TypeOf.{TypeOf}
+use Rattle.schema_components.specs.declared.components.TypeOf.TheVariants as kind
+use Rattle.schema_components.specs.Components.{Set}
+use Rattle.schema_components.specs.Linked.{leaves, IsNamed, HasStandard, IsContent, IsComplexType, IsLinked}
+use Rattle.schema_components.specs.SetParts.{parts_of}
 use Rattle.asn_types.specs.declared.modules.Assignment.{Assignment}
 use Rattle.asn_types.specs.declared.types.TypeLabel.{TypeLabel}
 use Rattle.asn_types.specs.Refs.{resolve}
@@ -46,13 +46,13 @@ use Rattle.map_laws.specs.Statements.{IsTypeAt}
 use Rattle.map_laws.proofs.Leading.{types-lead}
 use Rattle.xer_items.specs.Items as items
 use Rattle.xer_items.specs.Items.{given, with_order, with_texts, element_of, inside}
-use Rattle.validity.specs.Asked.{Asked, Attribute, Inside, asked, space_at, attribute_in, inside_of, asked_by, asked_by_type, asked_by_complex, asked_at}
-use Rattle.validity.specs.Asked as ask
-use Rattle.validity.specs.Attributes.{Nil, not_nil, is_nil, bad_nil, nil_by, nil_of, xsi_nil, text_of, left, Stands, AllStand, put_attribute, treated_attribute, treated_attributes, with_nil}
-use Rattle.value_exists.proofs.Texts.{IsEncoded, left-encoded, text-encoded, text-given, never-true}
-use Rattle.value_exists.proofs.Kids.{IsXml, only-utf8, between-xml, kids-xml, texts_value, texts-fitting}
-use Rattle.value_exists.proofs.Elements.{nil-nillable, kids-text}
-use Rattle.content_values.specs.Made.{Child, TopMade}
+use Rattle.validity_rules.specs.Asked.{Asked, Attribute, Inside, asked, space_at, attribute_in, inside_of, asked_by, asked_by_type, asked_by_complex, asked_at}
+use Rattle.validity_rules.specs.Asked as ask
+use Rattle.validity_rules.specs.Attributes.{Nil, not_nil, is_nil, bad_nil, nil_by, nil_of, xsi_nil, text_of, left, Stands, AllStand, put_attribute, treated_attribute, treated_attributes, with_nil}
+use Rattle.value_laws.proofs.Texts.{IsEncoded, left-encoded, text-encoded, text-given, never-true}
+use Rattle.value_laws.proofs.Kids.{IsXml, only-utf8, between-xml, kids-xml, texts_value, texts-fitting}
+use Rattle.value_laws.proofs.Elements.{nil-nillable, kids-text}
+use Rattle.value_contents.specs.Made.{Child, TopMade}
 use Rattle.xer_read.specs.Private.Held.{Beside, Held, texts_of}
 use Rattle.xer_read.specs.Private.Held as held
 use Rattle.xer_read.specs.Private.Given.{IsTypeFor, Gives}

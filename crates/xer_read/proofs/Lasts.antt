@@ -1,7 +1,7 @@
 -- Whether child elements come in any order, and which particle took the last name.
 use Rattle.std.proofs.Common.{◌≡◌, ◌≤◌, ℕ, Bool, true, false, List, [], ◌∷◌, Some, refl, sym, ap, subst, ◌∙◌, arith}
-use Rattle.label_tree.specs.Rose.{Rose, node, Roses, label_of, length_all, Allowed}
-use Rattle.label_tree.specs.Rose as rose
+use Rattle.base_trees.specs.Rose.{Rose, node, Roses, label_of, length_all, Allowed}
+use Rattle.base_trees.specs.Rose as rose
 use Rattle.content_models.specs.Clear.{IsNoAll}
 use Rattle.content_models.specs.Kids.{KindMayHave, MayHave}
 use Rattle.content_models.specs.Particle.{Particles, occurs, all, none, more}
@@ -9,7 +9,7 @@ use Rattle.content_models.specs.Seen.{seen, all_seen, term_seen}
 use Rattle.content_models.specs.declared.particles.ParticleKind.{ParticleKind}
 use Rattle.content_models.specs.declared.particles.ParticleKind.TheVariants.{Element, Sequence, Choice, All}
 use Rattle.content_models.specs.declared.particles.ParticleLabel.{ParticleLabel}
-use Rattle.content_spots.specs.Spots.{at, among}
+use Rattle.content_models.specs.Spots.{at, among}
 use Rattle.content_match.specs.Private.Standing.{spot_in}
 use Rattle.content_match.specs.Taking.{Matched, spot_of}
 use Rattle.content_match.specs.declared.places.Turn.{Turn}

@@ -1,22 +1,22 @@
 -- The way to a leaf leads to the declaration of the leaf.
 use Rattle.std.proofs.Common.{◌≡◌, ℕ, zero, suc, ◌+◌, Bool, true, false, List, [], ◌∷◌, ◌++◌, Option, Some, None, length, refl, sym, ◌∙◌, ap, subst, arith, length-append}
-use Rattle.xa_base.specs.declared.texts.Name.{Name}
-use Rattle.label_tree.specs.Rose.{Rose}
-use Rattle.flat_tree.specs.Zips.{Zip, opened, added_all}
+use Rattle.base_texts.specs.declared.texts.Name.{Name}
+use Rattle.base_trees.specs.Rose.{Rose}
+use Rattle.base_flat_trees.specs.Zips.{Zip, opened, added_all}
 use Rattle.simple_types.specs.declared.labels.ValueLabel.{ValueLabel}
 use Rattle.simple_types.specs.declared.labels.ValueLabel.TheVariants as value
 use Rattle.content_models.specs.Particle.{Particle, occurs, Term, element, sequence, choice, all, Particles, none, more}
 use Rattle.content_models.specs.Language.{Turn, Leaf, turn_of, leaf_at, size_of}
 use Rattle.content_models.specs.Clear.{Clear, ClearInOrder, ClearOneOf, IsNoAll}
-use Rattle.content_spots.specs.Spots.{Spot, at, Inner, here, inside, among, leaf_of, leaf_of_term, leaf_in}
-use Rattle.content_spots.specs.Laws.{EndsAt, step_from}
+use Rattle.content_models.specs.Spots.{Spot, at, Inner, here, inside, among, leaf_of, leaf_of_term, leaf_in}
+use Rattle.content_models.specs.SpotLaws.{EndsAt, step_from}
 use Rattle.content_match.specs.Taking.{Matched, TookMore, spot_of}
 use Rattle.content_match.specs.declared.places.Leaf as matched
 use Rattle.value_builder.specs.Built.{Built, Stands, flagged, with_parts}
 use Rattle.xer_read.specs.Private.Putting.{OpenAt}
-use Rattle.content_values.specs.Bounds.{is_single, is_parted}
-use Rattle.content_values.specs.Made.{Child, TermMade}
-use Rattle.content_values.specs.Reached.{Before, Reached, TermReached, OrderReached, OneReached, PartedReached, TopReached, KeepsRule1, AllKeepRule1}
+use Rattle.value_contents.specs.Bounds.{is_single, is_parted}
+use Rattle.value_contents.specs.Made.{Child, TermMade}
+use Rattle.value_contents.specs.Reached.{Before, Reached, TermReached, OrderReached, OneReached, PartedReached, TopReached, KeepsRule1, AllKeepRule1}
 
 -- ---- the last leaf
 

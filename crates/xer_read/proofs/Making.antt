@@ -3,23 +3,23 @@ use Rattle.std.proofs.Common.{◌≡◌, ℕ, zero, suc, ◌+◌, ◌≤◌, ◌
 use Rattle.std.specs.Prelude.{slice_get}
 use Rattle.std.proofs.lemmas.List.{append-nil, map-append}
 use Rattle.std.proofs.lemmas.List.Elements.{All-head, All-tail, All-cons}
-use Rattle.xa_base.specs.declared.texts.Name.{Name}
-use Rattle.label_tree.specs.Rose.{Rose, node, list_of, roses_of, length_all}
-use Rattle.label_tree.specs.Rose as rose
-use Rattle.label_tree.proofs.Roses.{length_all-roses_of}
-use Rattle.simple_values.specs.Lexical.{is_at_most}
+use Rattle.base_texts.specs.declared.texts.Name.{Name}
+use Rattle.base_trees.specs.Rose.{Rose, node, list_of, roses_of, length_all}
+use Rattle.base_trees.specs.Rose as rose
+use Rattle.base_trees.proofs.Roses.{length_all-roses_of}
+use Rattle.simple_types.specs.Lexical.{is_at_most}
 use Rattle.simple_types.specs.declared.labels.ValueLabel.{ValueLabel}
 use Rattle.simple_types.specs.declared.labels.ValueLabel.TheVariants as value
 use Rattle.content_models.specs.Particle as model
 use Rattle.content_models.specs.Particle.{Particle, occurs, Term, Particles}
-use Rattle.plain_items.specs.Plain.{Plain}
+use Rattle.xml_items.specs.Plain.{Plain}
 use Rattle.asn_types.specs.declared.modules.Assignment.{Assignment}
 use Rattle.asn_types.specs.declared.roles.Role.TheVariants as role
 use Rattle.asn_types.specs.declared.types.Component.{Component}
 use Rattle.asn_types.specs.declared.types.Form.TheVariants as form
 use Rattle.asn_types.specs.declared.types.TypeLabel.{TypeLabel}
 use Rattle.asn_values.specs.Values.{below, FitsAt}
-use Rattle.schema_parts.specs.Linked.{leaves, leaves_of_term, all_leaves}
+use Rattle.schema_components.specs.Linked.{leaves, leaves_of_term, all_leaves}
 use Rattle.map_assignments.specs.Naming.{type_label}
 use Rattle.map_assignments.specs.Planning as planning
 use Rattle.map_laws.specs.Children.{Child, child_of, given_by, children}
@@ -27,15 +27,15 @@ use Rattle.map_laws.specs.Standing as standing
 use Rattle.map_laws.specs.Standing.{IsAs, StandsFor, IsPart, once, at_most_once, several, HasTerm, ArePartsOf, IsTop, parted, ordered, whole}
 use Rattle.map_laws.proofs.Values.{gives, present_children, FitsPart, PartsFit, sequence-value, choice-value, ItemsFit, item_children, list-value}
 use Rattle.map_subjects.proofs.Finding.{all-at}
-use Rattle.map_694.proofs.Free.{IsFree}
+use Rattle.map_assignments.proofs.Free.{IsFree}
 use Rattle.map_laws.proofs.Frees.{stands-free, parts-free}
 use Rattle.map_laws.proofs.Giving.{sequence-fits, sequence-gives, choice-fits, list-fits}
 use Rattle.map_laws.proofs.Following.{only-part}
 use Rattle.xer_items.specs.Items.{element_of, inside}
-use Rattle.one_value.proofs.Groups.{tell}
-use Rattle.content_values.specs.Bounds.{is_once, is_optional, is_parted}
-use Rattle.content_values.specs.Made as kept
-use Rattle.content_values.specs.Made.{Each, Several, Standing, TermMade, PartsMade, ChosenMade, PartedMade, TopMade}
+use Rattle.value_laws.proofs.Groups.{tell}
+use Rattle.value_contents.specs.Bounds.{is_once, is_optional, is_parted}
+use Rattle.value_contents.specs.Made as kept
+use Rattle.value_contents.specs.Made.{Each, Several, Standing, TermMade, PartsMade, ChosenMade, PartedMade, TopMade}
 
 -- ---- which value stands, by the bounds
 

@@ -1,21 +1,21 @@
 -- The strings of mixed content are the texts among its treated kids.
 use Rattle.std.proofs.Common.{◌≡◌, ℕ, suc, Bool, true, false, not, ◌&&◌, List, [], ◌∷◌, ◌++◌, length, map, refl, sym, ◌∙◌, ap, subst, arith, append_assoc}
 use Rattle.std.proofs.lemmas.List.{map-append}
-use Rattle.xa_base.specs.declared.texts.Name.{Name}
-use Rattle.xa_base.specs.Limits.{is_empty, has_xml_chars}
-use Rattle.label_tree.specs.Rose.{Rose, node, Roses, roses_of, label_of, length_all}
-use Rattle.label_tree.specs.Rose as rose
+use Rattle.base_texts.specs.declared.texts.Name.{Name}
+use Rattle.base_texts.specs.Limits.{is_empty, has_xml_chars}
+use Rattle.base_trees.specs.Rose.{Rose, node, Roses, roses_of, label_of, length_all}
+use Rattle.base_trees.specs.Rose as rose
 use Rattle.simple_types.specs.declared.labels.ValueLabel.{ValueLabel}
 use Rattle.content_models.specs.Language.{Leaf}
-use Rattle.item_tree.specs.declared.label.ItemLabel.{ItemLabel}
-use Rattle.item_tree.specs.declared.label.ItemLabel.TheVariants.{Element, Text}
-use Rattle.doc_text.specs.Sound.{is_text, begins_with_text, is_sound, are_sound}
-use Rattle.plain_items.specs.Plain.{Plain, text}
-use Rattle.plain_items.specs.Mixing.{text_before, interleaved, child_elements}
-use Rattle.schema_parts.proofs.Truths.{both}
-use Rattle.validity.specs.Asked.{Asked}
-use Rattle.validity.specs.Valid.{ValidBy, KidsValid}
-use Rattle.flat_tree.specs.Zips.{added, added_all}
+use Rattle.xml_items.specs.declared.label.ItemLabel.{ItemLabel}
+use Rattle.xml_items.specs.declared.label.ItemLabel.TheVariants.{Element, Text}
+use Rattle.xml_read.specs.Sound.{is_text, begins_with_text, is_sound, are_sound}
+use Rattle.xml_items.specs.Plain.{Plain, text}
+use Rattle.xml_items.specs.Mixing.{text_before, interleaved, child_elements}
+use Rattle.schema_components.proofs.Truths.{both}
+use Rattle.validity_rules.specs.Asked.{Asked}
+use Rattle.validity_rules.specs.Valid.{ValidBy, KidsValid}
+use Rattle.base_flat_trees.specs.Zips.{added, added_all}
 use Rattle.value_builder.specs.Built.{Built, Puts}
 use Rattle.xer_read.specs.Private.Keeping.{text_value, missing, strings_from}
 use Rattle.xer_read.proofs.Putting.{all-none, all-more, all-both}

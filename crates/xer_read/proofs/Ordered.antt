@@ -1,27 +1,27 @@
 -- What is gathered of an element whose child elements came in any order is its value.
 use Rattle.std.proofs.Common.{◌≡◌, ℕ, zero, suc, ◌≤◌, Bool, true, false, List, [], ◌∷◌, Option, refl, sym, ◌∙◌, ap, subst, arith}
 use Rattle.std.specs.Prelude.{All}
-use Rattle.xa_base.specs.declared.texts.Name.{Name}
-use Rattle.label_tree.specs.Rose.{Rose, node, Roses, roses_of, length_all}
-use Rattle.label_tree.proofs.Roses.{length_all-roses_of}
-use Rattle.flat_tree.specs.Zips.{Zip, opened, closed}
+use Rattle.base_texts.specs.declared.texts.Name.{Name}
+use Rattle.base_trees.specs.Rose.{Rose, node, Roses, roses_of, length_all}
+use Rattle.base_trees.proofs.Roses.{length_all-roses_of}
+use Rattle.base_flat_trees.specs.Zips.{Zip, opened, closed}
 use Rattle.simple_types.specs.declared.labels.ValueLabel.{ValueLabel}
 use Rattle.simple_types.specs.declared.labels.ValueLabel.TheVariants as value
 use Rattle.content_models.specs.declared.particles.ParticleLabel.{ParticleLabel}
 use Rattle.content_models.specs.Clear.{IsNoAll}
 use Rattle.content_models.specs.Particle.{Particle, occurs, element, sequence, choice, all}
 use Rattle.content_models.specs.Seen.{seen}
-use Rattle.item_tree.specs.declared.label.ItemLabel.{ItemLabel}
-use Rattle.doc_text.specs.Sound.{are_sound}
-use Rattle.plain_items.specs.Mixing.{interleaved}
+use Rattle.xml_items.specs.declared.label.ItemLabel.{ItemLabel}
+use Rattle.xml_read.specs.Sound.{are_sound}
+use Rattle.xml_items.specs.Mixing.{interleaved}
 use Rattle.asn_values.specs.Ordering.{slots, taken}
 use Rattle.map_assignments.specs.Planning.{is_all}
-use Rattle.schema_parts.specs.Components.{Set}
-use Rattle.schema_parts.specs.Linked.{leaves, IsNamed}
-use Rattle.schema_parts.specs.SetParts.{parts_of}
-use Rattle.validity.specs.Asked.{Asked, children, asked_at}
-use Rattle.validity.specs.Asked as asked
-use Rattle.validity.specs.Valid.{KidsValid}
+use Rattle.schema_components.specs.Components.{Set}
+use Rattle.schema_components.specs.Linked.{leaves, IsNamed}
+use Rattle.schema_components.specs.SetParts.{parts_of}
+use Rattle.validity_rules.specs.Asked.{Asked, children, asked_at}
+use Rattle.validity_rules.specs.Asked as asked
+use Rattle.validity_rules.specs.Valid.{KidsValid}
 use Rattle.validity_check.specs.declared.declarations.Inside.{Inside}
 use Rattle.validity_check.specs.declared.declarations.Inside.TheVariants.{Nothing, Simple, Children}
 use Rattle.validity_check.specs.Told.{inside_told}
@@ -29,7 +29,7 @@ use Rattle.value_builder.specs.Built.{Built, Stands, Puts, flagged, with_parts}
 use Rattle.value_builder.proofs.Counts.{count-opened, count-with_parts}
 use Rattle.value_builder.proofs.Parts.{part-present}
 use Rattle.value_builder.proofs.Putting.{puts-both, puts-as, stands-off}
-use Rattle.content_values.specs.Made.{Child, TopMade}
+use Rattle.value_contents.specs.Made.{Child, TopMade}
 use Rattle.xer_read.specs.declared.gathering.Gathered.{Gathered}
 use Rattle.xer_read.specs.Private.Held.{Held}
 use Rattle.xer_read.specs.Private.Held as held

@@ -3,16 +3,16 @@ use Rattle.std.proofs.Common.{◌≡◌, ℕ, ◌+◌, ◌≤◌, ◌<◌, ◌&&
 use Rattle.std.specs.Prelude.{if◌then◌else◌}
 use Rattle.std.specs.List.{AllByRecursion}
 use Rattle.std.proofs.lemmas.List.{length-map}
-use Rattle.xa_base.specs.declared.texts.Name.{Name}
-use Rattle.label_tree.specs.Rose.{Rose, node, Roses, list_of, roses_of, kids_of, length_all}
-use Rattle.label_tree.specs.Rose as rose
+use Rattle.base_texts.specs.declared.texts.Name.{Name}
+use Rattle.base_trees.specs.Rose.{Rose, node, Roses, list_of, roses_of, kids_of, length_all}
+use Rattle.base_trees.specs.Rose as rose
 use Rattle.simple_types.specs.declared.labels.ValueLabel.{ValueLabel}
 use Rattle.simple_types.specs.declared.labels.ValueLabel.TheVariants as value
 use Rattle.content_models.specs.declared.particles.ParticleLabel.{ParticleLabel}
 use Rattle.content_models.specs.Clear.{Clear}
 use Rattle.content_models.specs.Seen.{seen}
-use Rattle.plain_items.specs.Plain.{Plain}
-use Rattle.plain_items.specs.Mixing.{text_before}
+use Rattle.xml_items.specs.Plain.{Plain}
+use Rattle.xml_items.specs.Mixing.{text_before}
 use Rattle.asn_types.specs.declared.modules.Assignment.{Assignment}
 use Rattle.asn_types.specs.declared.types.Component.{Component}
 use Rattle.asn_types.specs.declared.types.Form.TheVariants as form
@@ -23,16 +23,16 @@ use Rattle.asn_types.specs.Marks.{has_embed_values, has_use_order}
 use Rattle.asn_types.specs.Refs.{resolve, is_element}
 use Rattle.asn_types.specs.Roles.{role_of}
 use Rattle.asn_values.specs.Values.{below, child_count, first_count, text_count, is_last_absent, is_order_role, item_number, flags_from, ordered_flags, order_of, AreJustSet, places, FitEach, FitsAt}
-use Rattle.schema_parts.specs.declared.components.AttributeUse.{AttributeUse}
-use Rattle.schema_parts.specs.declared.components.ComplexDef.{ComplexDef}
-use Rattle.schema_parts.specs.declared.components.Content.{Content}
-use Rattle.schema_parts.specs.declared.components.Content.TheVariants as content_
-use Rattle.schema_parts.specs.Components.{Set}
-use Rattle.schema_parts.specs.Linked.{IsContent, IsLinked}
+use Rattle.schema_components.specs.declared.components.AttributeUse.{AttributeUse}
+use Rattle.schema_components.specs.declared.components.ComplexDef.{ComplexDef}
+use Rattle.schema_components.specs.declared.components.Content.{Content}
+use Rattle.schema_components.specs.declared.components.Content.TheVariants as content_
+use Rattle.schema_components.specs.Components.{Set}
+use Rattle.schema_components.specs.Linked.{IsContent, IsLinked}
 use Rattle.map_assignments.specs.Planning.{is_mixed, is_all, is_ordered}
 use Rattle.map_assignments.specs.Naming.{type_label, sequence_marks}
-use Rattle.map_694.proofs.Marked.{sequence-nil, sequence-order, sequence-embeds}
-use Rattle.map_694.proofs.Resolving.{follow-none}
+use Rattle.map_assignments.proofs.Marked.{sequence-nil, sequence-order, sequence-embeds}
+use Rattle.map_assignments.proofs.Resolving.{follow-none}
 use Rattle.map_laws.specs.Children.{child_of, given_by, children}
 use Rattle.map_laws.specs.Standing.{Behind, IsOnly, AreTexts, WithTexts, WithOrder, order_count, WithAttributes, IsInner, IsTop, AreContent, HasParts, HasInner, AreRest, HasComplex}
 use Rattle.map_laws.proofs.Values.{present_children, PartsFit, PartsKept, sequence-value, sequence-unordered}
@@ -45,15 +45,15 @@ use Rattle.map_laws.proofs.Frees.{kept-free, free-kept, content-free}
 use Rattle.map_laws.proofs.Giving.{parts-fit-each, kept-fits, sequence-gives}
 use Rattle.asn_types.specs.Spaces.{spelling}
 use Rattle.xer_items.specs.Items.{Given, given, nothing, both, with_order, with_nil, with_texts, texts_of, placed, inside}
-use Rattle.one_value.proofs.Complexes.{not-textual}
-use Rattle.one_value.proofs.Groups.{tell, present_given, ordered-inside, sequence-inside, inside-found, top-shows}
-use Rattle.one_value.proofs.Attributes.{attribute-gives}
-use Rattle.one_value.proofs.Spelled.{IsKept, kept-part}
-use Rattle.one_value.proofs.Mixed.{text_in}
-use Rattle.value_exists.proofs.Texts.{IsText}
-use Rattle.value_exists.proofs.Filling.{both-nothing, Ends, ends-more, ends-last, told-roses, nil-is, texts-put}
-use Rattle.content_values.specs.Made as kept
-use Rattle.content_values.specs.Made.{TopMade}
+use Rattle.value_laws.proofs.Complexes.{not-textual}
+use Rattle.value_laws.proofs.Groups.{tell, present_given, ordered-inside, sequence-inside, inside-found, top-shows}
+use Rattle.value_laws.proofs.Attributes.{attribute-gives}
+use Rattle.value_laws.proofs.Spelled.{IsKept, kept-part}
+use Rattle.value_laws.proofs.Mixed.{text_in}
+use Rattle.value_laws.proofs.Texts.{IsText}
+use Rattle.value_laws.proofs.Filling.{both-nothing, Ends, ends-more, ends-last, told-roses, nil-is, texts-put}
+use Rattle.value_contents.specs.Made as kept
+use Rattle.value_contents.specs.Made.{TopMade}
 use Rattle.xer_read.specs.Private.Contents.{OrderMade}
 use Rattle.xer_read.proofs.Telling.{plain-told, nil-told, content-told}
 use Rattle.xer_read.proofs.Making.{NamedTop, AreGifts}

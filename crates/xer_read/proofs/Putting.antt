@@ -1,16 +1,16 @@
 -- Parts that are put down one behind the other.
 use Rattle.std.proofs.Common.{◌≡◌, ℕ, Bool, true, false, List, [], ◌∷◌, ◌++◌, refl, sym, ◌∙◌, ap, subst, append_assoc, append-nil}
 use Rattle.std.specs.Prelude.{Result, Ok, Err, MatchResult}
-use Rattle.xa_base.specs.declared.texts.Name.{Name}
-use Rattle.label_tree.specs.Rose.{Rose, node, roses_of}
-use Rattle.flat_tree.specs.Zips.{Zip, opened, added, added_all, closed}
+use Rattle.base_texts.specs.declared.texts.Name.{Name}
+use Rattle.base_trees.specs.Rose.{Rose, node, roses_of}
+use Rattle.base_flat_trees.specs.Zips.{Zip, opened, added, added_all, closed}
 use Rattle.simple_types.specs.declared.labels.ValueLabel.{ValueLabel}
 use Rattle.simple_types.specs.declared.labels.ValueLabel.TheVariants as value
 use Rattle.value_builder.specs.Built.{Built, Stands, Puts, flagged, with_parts}
 use Rattle.value_builder.proofs.Parts.{parts-none, parts-more, part-absent, part-present, items-more}
 use Rattle.value_builder.proofs.Putting.{puts-both}
-use Rattle.validity.specs.Asked.{Asked}
-use Rattle.validity.specs.Attributes.{left}
+use Rattle.validity_rules.specs.Asked.{Asked}
+use Rattle.validity_rules.specs.Attributes.{left}
 use Rattle.xer_read.specs.Private.Putting.{PartsPut}
 use Rattle.xer_read.specs.Private.Contents.{is_ordered, TextsMade, OrderMade, AttributesMade, Begins}
 

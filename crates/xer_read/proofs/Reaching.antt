@@ -1,31 +1,31 @@
 -- What is known behind some kids of an element, whose values were put down.
 use Rattle.std.proofs.Common.{◌≡◌, ℕ, zero, suc, ◌+◌, ◌≤◌, ◌<◌, ◌⊎◌, inl, inr, List, [], ◌∷◌, ◌++◌, Some, None, Bool, true, false, length, get_or, refl, sym, ◌∙◌, ap, subst, add-one, arith, length-append}
 use Rattle.std.specs.Prelude.{Result, Ok, Err, MatchResult, All}
-use Rattle.xa_base.specs.declared.texts.Name.{Name}
-use Rattle.xa_base.specs.WhiteSpace.{is_blank}
-use Rattle.label_tree.specs.Rose.{Rose, node, Roses, roses_of, label_of}
-use Rattle.label_tree.specs.Rose as rose
-use Rattle.flat_tree.specs.Zips.{Zip, added}
+use Rattle.base_texts.specs.declared.texts.Name.{Name}
+use Rattle.base_texts.specs.WhiteSpace.{is_blank}
+use Rattle.base_trees.specs.Rose.{Rose, node, Roses, roses_of, label_of}
+use Rattle.base_trees.specs.Rose as rose
+use Rattle.base_flat_trees.specs.Zips.{Zip, added}
 use Rattle.simple_types.specs.declared.labels.ValueLabel.{ValueLabel}
 use Rattle.content_models.specs.Particle.{Particle}
 use Rattle.content_models.specs.Language.{Leaf, names, Lang, Viable}
-use Rattle.content_spots.specs.Laws as spots
+use Rattle.content_models.specs.SpotLaws as spots
 use Rattle.content_match.specs.Taking.{Matched, Took, TookMore, spot_of}
 use Rattle.content_match.specs.declared.places.Leaf as matched
-use Rattle.item_tree.specs.declared.label.ItemLabel.{ItemLabel}
-use Rattle.item_tree.specs.declared.label.ItemLabel.TheVariants.{Element, Text}
-use Rattle.doc_text.specs.Sound.{levels, levels_all}
-use Rattle.plain_items.specs.Plain.{Plain, element, text}
-use Rattle.plain_items.specs.Mixing.{child_elements}
-use Rattle.schema_parts.specs.Components.{Set}
-use Rattle.schema_parts.specs.Linked.{leaves, IsNamed}
-use Rattle.schema_parts.specs.SetParts.{parts_of}
+use Rattle.xml_items.specs.declared.label.ItemLabel.{ItemLabel}
+use Rattle.xml_items.specs.declared.label.ItemLabel.TheVariants.{Element, Text}
+use Rattle.xml_read.specs.Sound.{levels, levels_all}
+use Rattle.xml_items.specs.Plain.{Plain, element, text}
+use Rattle.xml_items.specs.Mixing.{child_elements}
+use Rattle.schema_components.specs.Components.{Set}
+use Rattle.schema_components.specs.Linked.{leaves, IsNamed}
+use Rattle.schema_components.specs.SetParts.{parts_of}
 use Rattle.xer_items.specs.Items.{Given, joined, element_of}
-use Rattle.validity.specs.Asked.{Asked, asked_at}
-use Rattle.validity.specs.Valid.{Between, ValidBy, KidsValid}
-use Rattle.validity.specs.Faults.{Begins, At, FaultBy, front}
-use Rattle.validity.specs.declared.why.InvalidWhy.TheVariants.{TextNotAllowed, UnexpectedElement, MissingElement}
-use Rattle.validity.proofs.Reading.{kid_at, kid_here, front_long, IsElementNamed, named}
+use Rattle.validity_rules.specs.Asked.{Asked, asked_at}
+use Rattle.validity_rules.specs.Valid.{Between, ValidBy, KidsValid}
+use Rattle.validity_rules.specs.Faults.{Begins, At, FaultBy, front}
+use Rattle.validity_rules.specs.declared.why.InvalidWhy.TheVariants.{TextNotAllowed, UnexpectedElement, MissingElement}
+use Rattle.validity_rules.proofs.Reading.{kid_at, kid_here, front_long, IsElementNamed, named}
 use Rattle.validity_check.specs.declared.error.CheckError.{CheckError}
 use Rattle.validity_check.specs.declared.error.CheckError.TheVariants.{Invalid, Memory}
 use Rattle.validity_check.specs.Walked.{Walked}
@@ -33,8 +33,8 @@ use Rattle.validity_check.specs.Answers.{Tells, KidsFault}
 use Rattle.validity_check.proofs.Leaves.{last_has}
 use Rattle.validity_check.proofs.Walking.{end_judged, text_judged, name_refused, kid_judged}
 use Rattle.value_builder.specs.Built.{Built, Stands, with_parts}
-use Rattle.content_values.specs.Made.{Child, TopMade}
-use Rattle.content_values.specs.Reached.{Put}
+use Rattle.value_contents.specs.Made.{Child, TopMade}
+use Rattle.value_contents.specs.Reached.{Put}
 use Rattle.xer_read.specs.Private.Given.{IsElementOf, IsRead}
 use Rattle.xer_read.specs.Private.Keeping.{IsKept, AllKept, Reached}
 use Rattle.xer_read.specs.Private.Contents.{ChildrenPut}

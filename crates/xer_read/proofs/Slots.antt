@@ -2,9 +2,9 @@
 use Rattle.std.proofs.Common.{◌≡◌, ℕ, zero, suc, ◌+◌, ◌≤◌, ◌<◌, ◌-◌, ◌^◌, min, Bool, true, false, not, ◌&&◌, List, [], ◌∷◌, ◌++◌, length, set, replicate, Option, Some, None, refl, sym, ◌∙◌, ap, subst, arith}
 use Rattle.std.specs.Prelude.{slice_get}
 use Rattle.std.specs.List.{list_any}
-use Rattle.label_tree.specs.Rose.{Rose, node, Roses, list_of, roses_of, kids_of, count_all}
-use Rattle.label_tree.specs.Rose as rose
-use Rattle.flat_tree.specs.Zips.{added, added_all}
+use Rattle.base_trees.specs.Rose.{Rose, node, Roses, list_of, roses_of, kids_of, count_all}
+use Rattle.base_trees.specs.Rose as rose
+use Rattle.base_flat_trees.specs.Zips.{added, added_all}
 use Rattle.simple_types.specs.declared.labels.ValueLabel.{ValueLabel}
 use Rattle.std.proofs.lemmas.List.Sums.{sum_by-cons}
 use Rattle.simple_types.specs.Labels.{flag_count, count_set}
@@ -19,7 +19,7 @@ use Rattle.asn_values.specs.Orders.{is_set, cleared, are_just_set}
 use Rattle.value_builder.specs.Built.{Built, nothing_of, Stands, Puts, flagged, with_parts}
 use Rattle.value_builder.proofs.Parts.{parts-none, parts-more, part-absent, part-present}
 use Rattle.value_builder.proofs.Putting.{puts-nothing, puts-as, puts-then}
-use Rattle.content_values.specs.Made.{Child}
+use Rattle.value_contents.specs.Made.{Child}
 use Rattle.value_builder.proofs.Counts.{count-added}
 use Rattle.xer_read.specs.declared.gathering.Gathered.{Gathered}
 use Rattle.xer_read.specs.Private.Slots.{none_for, no_slots, filled_at, flags_of, all_of, values_of, AreSlots, AllFit, nodes_in, Keeps}

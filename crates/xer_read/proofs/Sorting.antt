@@ -1,28 +1,28 @@
 -- Child elements in the order that numbers tell, and the elements of an all.
 use Rattle.std.proofs.Common.{◌≡◌, ℕ, zero, suc, ◌+◌, ◌<◌, Bool, true, false, ◌&&◌, List, [], ◌∷◌, length, true≢false, refl, sym, ap, subst, ◌∙◌, arith}
 use Rattle.std.specs.List.{AllByRecursion}
-use Rattle.label_tree.specs.Rose.{Rose, node, roses_of, list_of}
-use Rattle.label_tree.specs.Rose as rose
-use Rattle.label_tree.proofs.Roses.{list_of-roses_of}
+use Rattle.base_trees.specs.Rose.{Rose, node, roses_of, list_of}
+use Rattle.base_trees.specs.Rose as rose
+use Rattle.base_trees.proofs.Roses.{list_of-roses_of}
 use Rattle.simple_types.specs.declared.labels.ValueLabel.{ValueLabel}
 use Rattle.content_models.specs.Particle.{Particle, occurs, element, sequence, choice, all, Particles, none, more}
 use Rattle.content_models.specs.Clear.{IsNoAll}
-use Rattle.plain_items.specs.Plain.{Plain}
-use Rattle.plain_items.specs.Plain as plain
-use Rattle.plain_items.specs.Mixing.{child_elements, AllElements}
+use Rattle.xml_items.specs.Plain.{Plain}
+use Rattle.xml_items.specs.Plain as plain
+use Rattle.xml_items.specs.Mixing.{child_elements, AllElements}
 use Rattle.asn_values.specs.Ordering.{in_order}
 use Rattle.asn_values.specs.Orders.{is_set, cleared, are_just_set}
 use Rattle.asn_values.specs.Values.{AreJustSet}
 use Rattle.asn_values.proofs.JustSet.{just_set}
-use Rattle.schema_parts.specs.SetParts.{SetParts}
-use Rattle.schema_parts.specs.declared.components.Content.{Content}
-use Rattle.schema_parts.specs.declared.components.Content.TheVariants as content_
+use Rattle.schema_components.specs.SetParts.{SetParts}
+use Rattle.schema_components.specs.declared.components.Content.{Content}
+use Rattle.schema_components.specs.declared.components.Content.TheVariants as content_
 use Rattle.map_assignments.specs.Planning as planning
 use Rattle.map_assignments.specs.Planning.{is_all}
 use Rattle.map_laws.specs.Standing.{count_particles, count_elements}
-use Rattle.validity.specs.Asked.{inside_of}
+use Rattle.validity_rules.specs.Asked.{inside_of}
 use Rattle.xer_items.proofs.Ordering.{in_order-all}
-use Rattle.content_values.specs.Made.{Child, PartsMade, TopMade}
+use Rattle.value_contents.specs.Made.{Child, PartsMade, TopMade}
 use Rattle.xer_read.specs.Private.Contents.{is_ordered, OrderMade}
 
 -- ---- an all

@@ -2,8 +2,8 @@
 use Rattle.std.proofs.Common.{◌≡◌, ℕ, zero, suc, ◌+◌, ◌-◌, Bool, true, false, Option, Some, None, List, [], ◌∷◌, ◌++◌, length, length-append, refl, ap, ◌∙◌, arith}
 use Rattle.std.specs.Prelude.{slice_get, if◌then◌else◌}
 use Rattle.std.specs.Option.{option_map}
-use Rattle.label_tree.specs.Rose.{Rose, node, Roses, list_of, roses_of, label_of}
-use Rattle.label_tree.proofs.Roses.{list_of-roses_of}
+use Rattle.base_trees.specs.Rose.{Rose, node, Roses, list_of, roses_of, label_of}
+use Rattle.base_trees.proofs.Roses.{list_of-roses_of}
 use Rattle.simple_types.specs.declared.labels.ValueLabel.{ValueLabel}
 use Rattle.simple_types.specs.declared.labels.ValueLabel.TheVariants as value
 use Rattle.asn_types.specs.declared.modules.Assignment.{Assignment}
@@ -12,10 +12,10 @@ use Rattle.asn_types.specs.declared.types.Form.TheVariants as form
 use Rattle.asn_types.specs.declared.types.TypeLabel.{TypeLabel}
 use Rattle.asn_types.specs.Refs.{resolve}
 use Rattle.asn_values.specs.Values.{flags_from, element_flags, ordered_flags, is_last_absent}
-use Rattle.schema_parts.specs.Components.{Set}
+use Rattle.schema_components.specs.Components.{Set}
 use Rattle.map_assignments.specs.Naming.{type_label, sequence_marks}
-use Rattle.map_694.proofs.Marked.{sequence-nil}
-use Rattle.map_694.proofs.Resolving.{follow-none}
+use Rattle.map_assignments.proofs.Marked.{sequence-nil}
+use Rattle.map_assignments.proofs.Resolving.{follow-none}
 
 -- ---- lists
 

@@ -1,15 +1,15 @@
 -- Where no value is kept, nothing is put down, whatever was to be.
 use Rattle.std.proofs.Common.{◌≡◌, ℕ, zero, suc, ◌≤◌, Bool, true, false, Option, Some, None, refl, arith}
 use Rattle.std.specs.Prelude.{IsTrue, ◌↔◌}
-use Rattle.xa_base.specs.declared.texts.Name.{Name}
+use Rattle.base_texts.specs.declared.texts.Name.{Name}
 use Rattle.content_models.specs.Particle.{Particle}
-use Rattle.content_spots.specs.Spots.{Spot}
-use Rattle.content_spots.specs.Laws.{step_from}
+use Rattle.content_models.specs.Spots.{Spot}
+use Rattle.content_models.specs.SpotLaws.{step_from}
 use Rattle.value_builder.specs.Built.{Built}
 use Rattle.value_builder.proofs.Putting.{puts-off}
-use Rattle.content_values.specs.Reached.{IsFillable}
-use Rattle.content_values.specs.Private.Moves.{top_entered, top_moved}
-use Rattle.content_values.proofs.Tops.{Promised, first-promised, next-promised}
+use Rattle.value_contents.specs.Reached.{IsFillable}
+use Rattle.value_contents.specs.Private.Moves.{top_entered, top_moved}
+use Rattle.value_contents.proofs.Tops.{Promised, first-promised, next-promised}
 
 -- the way to the next leaf
 pub unkept-step : (p : Particle) (o q : Option Spot) (u : Spot) (a : Name) (b : Built) → b.most ≡ 0 → IsFillable p → q ≡ Some u → step_from p o a ≡ Some u → Promised p o q b b

@@ -2,15 +2,15 @@
 use Rattle.std.proofs.Common.{◌≡◌, ℕ, ◌<◌, ◌≤◌, Option, Some, None, List, refl, sym, ap, subst, ◌∙◌, arith}
 use Rattle.std.specs.Prelude.{slice_get, IsSomeAnd, Result, Ok, Err, MatchResult, IfOk}
 use Rattle.std.specs.Option.{option_map}
-use Rattle.label_tree.specs.Rose.{Rose, label_of, node_count, shown_count, Allowed}
+use Rattle.base_trees.specs.Rose.{Rose, label_of, node_count, shown_count, Allowed}
 use Rattle.simple_types.specs.declared.labels.ValueLabel.{ValueLabel}
 use Rattle.simple_types.specs.Labels.{MayHave}
-use Rattle.item_tree.specs.declared.label.ItemLabel.{ItemLabel}
-use Rattle.item_tree.specs.declared.label.ItemLabel.TheVariants.{Element, Text}
-use Rattle.schema_parts.specs.declared.components.ElementDecl.{ElementDecl}
-use Rattle.schema_parts.specs.Components.{Set}
-use Rattle.schema_parts.specs.Linked.{IsLinked}
-use Rattle.schema_parts.specs.SetParts.{parts_of}
+use Rattle.xml_items.specs.declared.label.ItemLabel.{ItemLabel}
+use Rattle.xml_items.specs.declared.label.ItemLabel.TheVariants.{Element, Text}
+use Rattle.schema_components.specs.declared.components.ElementDecl.{ElementDecl}
+use Rattle.schema_components.specs.Components.{Set}
+use Rattle.schema_components.specs.Linked.{IsLinked}
+use Rattle.schema_components.specs.SetParts.{parts_of}
 use Rattle.asn_types.specs.declared.modules.Assignment.{Assignment}
 use Rattle.asn_types.specs.Names.{name_told}
 use Rattle.asn_types.specs.Refs.{resolve}
@@ -22,11 +22,11 @@ use Rattle.map_laws.specs.Statements.{IsTypeAt}
 use Rattle.map_laws.proofs.Existence.{maps-exist}
 use Rattle.map_laws.proofs.Roots.{roots-lead}
 use Rattle.xer_items.specs.Items.{element_of, inside, root_of}
-use Rattle.validity.specs.Asked.{name_at}
-use Rattle.validity.specs.Valid.{HasName}
-use Rattle.validity.specs.declared.why.InvalidWhy.{InvalidWhy}
-use Rattle.schema_parts.specs.Small.{AreSmall}
-use Rattle.one_value.proofs.Declarations.{none-at, one-value}
+use Rattle.validity_rules.specs.Asked.{name_at}
+use Rattle.validity_rules.specs.Valid.{HasName}
+use Rattle.validity_rules.specs.declared.why.InvalidWhy.{InvalidWhy}
+use Rattle.schema_components.specs.Small.{AreSmall}
+use Rattle.value_laws.proofs.Declarations.{none-at, one-value}
 use Rattle.xer_read.specs.declared.error.ReadError.{ReadError}
 use Rattle.xer_read.specs.declared.error.ReadError.TheVariants.{Invalid, TooManyNodes, Memory}
 use Rattle.xer_read.specs.Answers.{IsValueOf, IsTooLarge, IsOnlyValue, ReadTells}

@@ -1,42 +1,42 @@
 -- What is walked of an element is its value.
 use Rattle.std.proofs.Common.{◌≡◌, ℕ, suc, ◌≤◌, Bool, true, false, List, [], ◌∷◌, ◌++◌, Option, Some, length, length-append, refl, sym, ◌∙◌, ap, subst, arith}
 use Rattle.std.specs.Prelude.{Result, Ok, Err, MatchResult, MatchBool, All}
-use Rattle.xa_base.specs.declared.texts.Name.{Name}
-use Rattle.label_tree.specs.Rose.{Rose, node, Roses, roses_of, label_of, kids_of, length_all}
-use Rattle.label_tree.specs.Rose as rose
-use Rattle.label_tree.proofs.Roses.{length_all-roses_of}
-use Rattle.flat_tree.specs.Zips.{Zip, opened, added, closed}
+use Rattle.base_texts.specs.declared.texts.Name.{Name}
+use Rattle.base_trees.specs.Rose.{Rose, node, Roses, roses_of, label_of, kids_of, length_all}
+use Rattle.base_trees.specs.Rose as rose
+use Rattle.base_trees.proofs.Roses.{length_all-roses_of}
+use Rattle.base_flat_trees.specs.Zips.{Zip, opened, added, closed}
 use Rattle.simple_types.specs.Space.{Space}
 use Rattle.simple_types.specs.declared.labels.ValueLabel.{ValueLabel}
 use Rattle.simple_types.specs.declared.labels.ValueLabel.TheVariants as value
-use Rattle.simple_values.specs.Reading.{spelled}
+use Rattle.simple_types.specs.Reading.{spelled}
 use Rattle.content_models.specs.declared.particles.ParticleLabel.{ParticleLabel}
 use Rattle.content_models.specs.Particle.{Particle}
 use Rattle.content_models.specs.Clear.{IsNoAll}
 use Rattle.content_models.specs.Seen.{seen}
-use Rattle.content_spots.specs.Spots.{Spot}
-use Rattle.content_spots.specs.Laws.{may_end}
-use Rattle.item_tree.specs.declared.label.ItemLabel.{ItemLabel}
-use Rattle.item_tree.specs.declared.label.ItemLabel.TheVariants.{Element, Text}
-use Rattle.doc_text.specs.Sound.{is_sound, are_sound_attributes, are_sound, levels, levels_all}
-use Rattle.plain_items.specs.Plain.{Plain}
-use Rattle.plain_items.specs.Mixing.{interleaved}
-use Rattle.schema_parts.specs.Components.{Set}
-use Rattle.schema_parts.specs.Linked.{leaves, IsNamed, IsLinked}
-use Rattle.schema_parts.specs.SetParts.{parts_of}
+use Rattle.content_models.specs.Spots.{Spot}
+use Rattle.content_models.specs.SpotLaws.{may_end}
+use Rattle.xml_items.specs.declared.label.ItemLabel.{ItemLabel}
+use Rattle.xml_items.specs.declared.label.ItemLabel.TheVariants.{Element, Text}
+use Rattle.xml_read.specs.Sound.{is_sound, are_sound_attributes, are_sound, levels, levels_all}
+use Rattle.xml_items.specs.Plain.{Plain}
+use Rattle.xml_items.specs.Mixing.{interleaved}
+use Rattle.schema_components.specs.Components.{Set}
+use Rattle.schema_components.specs.Linked.{leaves, IsNamed, IsLinked}
+use Rattle.schema_components.specs.SetParts.{parts_of}
 use Rattle.xer_items.specs.Items.{given}
-use Rattle.validity.specs.Asked.{Asked, Inside, nothing, simple, children, asked, asked_at}
-use Rattle.validity.specs.Attributes.{nil_from, nil_of, left, treated_attributes, with_nil}
-use Rattle.validity.specs.Valid.{only_text, text_kids, Spells, treated_element, KidsValid}
-use Rattle.validity.specs.Faults.{IsBad, FirstKid, FaultBy}
-use Rattle.validity.specs.declared.why.InvalidWhy.TheVariants.{NilWithContent}
-use Rattle.validity.proofs.Reading.{roses_of-list_of, all_kept}
-use Rattle.validity.proofs.Unique.{ContentValid, NilValid}
+use Rattle.validity_rules.specs.Asked.{Asked, Inside, nothing, simple, children, asked, asked_at}
+use Rattle.validity_rules.specs.Attributes.{nil_from, nil_of, left, treated_attributes, with_nil}
+use Rattle.validity_rules.specs.Valid.{only_text, text_kids, Spells, treated_element, KidsValid}
+use Rattle.validity_rules.specs.Faults.{IsBad, FirstKid, FaultBy}
+use Rattle.validity_rules.specs.declared.why.InvalidWhy.TheVariants.{NilWithContent}
+use Rattle.validity_rules.proofs.Reading.{roses_of-list_of, all_kept}
+use Rattle.validity_rules.proofs.Unique.{ContentValid, NilValid}
 use Rattle.validity_check.specs.declared.error.CheckError.{CheckError}
 use Rattle.validity_check.specs.declared.error.CheckError.TheVariants as check
 use Rattle.validity_check.specs.Answers.{Tells, IsGoodTag, TextFault, InsideFault}
 use Rattle.validity_check.proofs.Tagging.{bare, nil_refused, inside_judged}
-use Rattle.value_exists.proofs.Elements.{attributes-sound}
+use Rattle.value_laws.proofs.Elements.{attributes-sound}
 use Rattle.value_builder.specs.Built.{Built, Stands, Puts, flagged, with_parts}
 use Rattle.value_builder.proofs.Parts.{part-absent, part-present}
 use Rattle.xer_read.specs.Private.Held.{Beside, Held, texts_of}

@@ -1,20 +1,20 @@
 -- What an answer says.
 use Rattle.std.specs.Prelude.{◌≡◌, ◌⊎◌, ℕ, ◌<◌, ◌≤◌, List, Some, Result, Ok, Err, MatchResult}
-use Rattle.label_tree.specs.Rose.{Rose, node_count, shown_count}
+use Rattle.base_trees.specs.Rose.{Rose, node_count, shown_count}
 use Rattle.simple_types.specs.declared.labels.ValueLabel.{ValueLabel}
-use Rattle.item_tree.specs.declared.label.ItemLabel.{ItemLabel}
-use Rattle.plain_items.specs.Plain.{Plain, plain_of}
-use Rattle.schema_parts.specs.Components.{Set}
-use Rattle.schema_parts.specs.Linked.{IsLinked}
-use Rattle.schema_parts.specs.SetParts.{parts_of}
+use Rattle.xml_items.specs.declared.label.ItemLabel.{ItemLabel}
+use Rattle.xml_items.specs.Plain.{Plain, plain_of}
+use Rattle.schema_components.specs.Components.{Set}
+use Rattle.schema_components.specs.Linked.{IsLinked}
+use Rattle.schema_components.specs.SetParts.{parts_of}
 use Rattle.asn_types.specs.declared.modules.Assignment.{Assignment}
 use Rattle.asn_values.specs.Values.{Fits, In}
 use Rattle.map_assignments.specs.Mapped.{IsMapOf, root_at}
-use Rattle.schema_parts.specs.Small.{AreSmall}
+use Rattle.schema_components.specs.Small.{AreSmall}
 use Rattle.xer_items.specs.Items.{Xer}
-use Rattle.validity.specs.Valid.{Valid}
-use Rattle.validity.specs.Faults.{FirstFault}
-use Rattle.validity.specs.declared.why.InvalidWhy.{InvalidWhy}
+use Rattle.validity_rules.specs.Valid.{Valid}
+use Rattle.validity_rules.specs.Faults.{FirstFault}
+use Rattle.validity_rules.specs.declared.why.InvalidWhy.{InvalidWhy}
 use Rattle.xer_read.specs.declared.error.ReadError.{ReadError}
 use Rattle.xer_read.specs.declared.error.ReadError.TheVariants.{Invalid, TooManyNodes, Memory}
 

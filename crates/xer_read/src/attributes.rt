@@ -1,21 +1,21 @@
 //! The parts that stand for attributes.
 ghost use Rattle.std.specs.Prelude.{◌≡◌, ◌∷◌, [], true, Some, None, ◌<◌, length, map, All, OnOk, MatchOption};
-ghost use Rattle.schema_parts.specs.Declarable.{is_declarable_attribute};
-ghost use Rattle.schema_parts.specs.Linked.{IsUse, IsLinked};
-ghost use Rattle.schema_parts.specs.SetParts.{parts_of};
-ghost use Rattle.validity.specs.Asked.{attribute_in};
-ghost use Rattle.validity.specs.Attributes as rule;
-ghost use Rattle.validity.specs.Attributes.{left};
-ghost use Rattle.attribute_faults.specs.Texts.{AreTexts};
+ghost use Rattle.schema_components.specs.Declarable.{is_declarable_attribute};
+ghost use Rattle.schema_components.specs.Linked.{IsUse, IsLinked};
+ghost use Rattle.schema_components.specs.SetParts.{parts_of};
+ghost use Rattle.validity_rules.specs.Asked.{attribute_in};
+ghost use Rattle.validity_rules.specs.Attributes as rule;
+ghost use Rattle.validity_rules.specs.Attributes.{left};
+ghost use Rattle.validity_check.specs.Texts.{AreTexts};
 ghost use Rattle.xer_read.specs.Private.Contents.{IsTaken, AreTaken, AttributesMade};
 ghost use Rattle.xer_read.specs.Private.Putting.{PartsPut};
 
-use attribute_faults::{Uses, are_few, says_nothing, text_of};
-use schema_parts::{AttributeUse, SchemaSet};
-use simple_values::SimpleError;
+use base_texts::{Memory, Name, Text};
+use schema_components::{AttributeUse, SchemaSet};
+use simple_types::SimpleError;
 use std::alloc::Global;
+use validity_check::{Uses, are_few, says_nothing, text_of};
 use value_builder::ValueBuilder;
-use xa_base::{Memory, Name, Text};
 
 // The part for an attribute use, whose text is this if it stands. A default or fixed value of what may be absent is no part.
 fn put_attribute(

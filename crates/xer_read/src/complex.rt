@@ -1,21 +1,21 @@
 //! The value of an element whose type is complex, or which may be nil: all of it but its child elements.
 ghost use Rattle.std.specs.Prelude.{◌≡◌, ◌<◌, ◌≤◌, ◌∷◌, [], true, false, length, ℕ, List, Option, All, OnOk, MatchOption, MatchResult};
-ghost use Rattle.label_tree.specs.Rose.{Rose, roses_of, none};
-ghost use Rattle.flat_tree.specs.Zips.{Zip, opened, added};
+ghost use Rattle.base_trees.specs.Rose.{Rose, roses_of, none};
+ghost use Rattle.base_flat_trees.specs.Zips.{Zip, opened, added};
 ghost use Rattle.simple_types.specs.declared.labels.ValueLabel.{ValueLabel};
 ghost use Rattle.simple_types.specs.Seen.{space_of};
 ghost use Rattle.simple_types.specs.Space.{Space};
 ghost use Rattle.simple_types.specs.Sound.{Sound};
-ghost use Rattle.doc_text.specs.Sound.{are_sound};
+ghost use Rattle.xml_read.specs.Sound.{are_sound};
 ghost use Rattle.xer_read.specs.Private.Given.{IsReadAs};
-ghost use Rattle.schema_parts.specs.Linked.{IsUse, IsLinked};
-ghost use Rattle.schema_parts.specs.SetParts.{parts_of};
-ghost use Rattle.validity.specs.Asked as asked;
-ghost use Rattle.validity.specs.Faults.{FirstKid, why_kid};
+ghost use Rattle.schema_components.specs.Linked.{IsUse, IsLinked};
+ghost use Rattle.schema_components.specs.SetParts.{parts_of};
+ghost use Rattle.validity_rules.specs.Asked as asked;
+ghost use Rattle.validity_rules.specs.Faults.{FirstKid, why_kid};
 ghost use Rattle.validity_check.specs.Answers.{Tells, TextFault};
 ghost use Rattle.validity_check.specs.Told.{inside_told, told};
 ghost use Rattle.value_builder.specs.Built.{Stands, Puts, flagged, with_parts};
-ghost use Rattle.content_values.specs.Made.{Child};
+ghost use Rattle.value_contents.specs.Made.{Child};
 ghost use Rattle.xer_read.specs.Private.Slots.{Keeps, part_flags, part_values, order_value};
 ghost use Rattle.xer_read.specs.Private.Keeping.{strings_put};
 ghost use Rattle.xer_read.specs.Private.Contents.{AreTaken, is_plain_at, is_ordered, OrderMade, NothingMade, IsNilFilled, Begins, IsGathered, ComplexPut};
@@ -26,14 +26,14 @@ use crate::gathering::Gathered;
 use crate::orders::any_order;
 use crate::strings::put_texts;
 use crate::texts::put_text;
-use item_tree::ItemKids;
-use schema_parts::{SchemaSet, TypeOf};
+use base_texts::{Memory, Name, Text};
+use schema_components::{SchemaSet, TypeOf};
 use simple_types::{Flags, Simple, ValueLabel};
 use std::alloc::Global;
-use validity::InvalidWhy;
 use validity_check::{CheckError, Declared, Inside, check_empty, check_no_content};
+use validity_rules::InvalidWhy;
 use value_builder::ValueBuilder;
-use xa_base::{Memory, Name, Text};
+use xml_items::ItemKids;
 
 /// The type whose value is that of the element, which has a simple type and can't be nil.
 pub(crate) fn plain_type<'a>(set: &SchemaSet, decl: u32, inside: Inside<'a>) -> Option<&'a Simple>

@@ -1,10 +1,10 @@
 //! The walk over an element and its kids, one by one.
 ghost use Rattle.std.specs.Prelude.{◌≡◌, ◌⊎◌, ℕ, ◌+◌, ◌-◌, ◌*◌, ◌^◌, ◌<◌, ◌≤◌, true, false, List, [], length, slice_index_or, All, Some, MatchResult, OnOk, IfOk};
-ghost use Rattle.label_tree.specs.Rose.{Rose, label_of, roses_of, node_count, count_all};
-ghost use Rattle.xa_base.specs.WhiteSpace.{is_blank};
-ghost use Rattle.item_tree.specs.declared.label.ItemLabel.{ItemLabel};
-ghost use Rattle.doc_text.specs.Sound.{is_text, is_sound, are_sound};
-ghost use Rattle.flat_tree.specs.Zips.{Zip, added};
+ghost use Rattle.base_trees.specs.Rose.{Rose, label_of, roses_of, node_count, count_all};
+ghost use Rattle.base_texts.specs.WhiteSpace.{is_blank};
+ghost use Rattle.xml_items.specs.declared.label.ItemLabel.{ItemLabel};
+ghost use Rattle.xml_read.specs.Sound.{is_text, is_sound, are_sound};
+ghost use Rattle.base_flat_trees.specs.Zips.{Zip, added};
 ghost use Rattle.simple_types.specs.declared.labels.ValueLabel.{ValueLabel};
 ghost use Rattle.content_models.specs.Particle.{Particle, Particles, occurs, all};
 ghost use Rattle.content_models.specs.Clear.{IsNoAll};
@@ -12,13 +12,13 @@ ghost use Rattle.content_models.specs.declared.particles.ParticleLabel.{Particle
 ghost use Rattle.map_assignments.specs.Planning.{is_all};
 ghost use Rattle.content_models.specs.Seen.{seen};
 ghost use Rattle.content_match.specs.Taking.{levels};
-ghost use Rattle.schema_parts.specs.Linked.{IsUse, IsModel, IsLinked};
-ghost use Rattle.schema_parts.specs.SetParts.{parts_of};
-ghost use Rattle.validity.specs.Asked as asked;
-ghost use Rattle.validity.specs.Asked.{asked_at};
-ghost use Rattle.validity.specs.Faults.{At, FaultBy};
+ghost use Rattle.schema_components.specs.Linked.{IsUse, IsModel, IsLinked};
+ghost use Rattle.schema_components.specs.SetParts.{parts_of};
+ghost use Rattle.validity_rules.specs.Asked as asked;
+ghost use Rattle.validity_rules.specs.Asked.{asked_at};
+ghost use Rattle.validity_rules.specs.Faults.{At, FaultBy};
 ghost use Rattle.validity_check.specs.Answers.{Tells, KidsFault, InsideFault};
-ghost use Rattle.item_tree.specs.Counts.{element_count, elements_in};
+ghost use Rattle.xml_items.specs.Counts.{element_count, elements_in};
 ghost use Rattle.validity_check.specs.Told.{inside_told, told, model_at, IsFittingInside};
 ghost use Rattle.value_builder.specs.Built.{Stands};
 ghost use Rattle.xer_read.specs.Private.Given.{IsRead};
@@ -35,17 +35,17 @@ use crate::orders::{AnyOrder, any_order, last_number, take_name};
 use crate::plain::{PlainModel, plain_model, plain_text};
 use crate::texts::{put_text, put_words};
 use crate::ways::{Way, finish, open_way};
+use base_texts::{Name, Steps, Text, is_blank};
 use content_match::{Matcher, Plan};
 use content_models::Particle;
-use content_values::{Path, put_end};
-use item_tree::{Characters, ItemKids, ItemNode, ItemRef};
-use schema_parts::SchemaSet;
+use schema_components::SchemaSet;
 use std::iter::Iterator;
 use std::sync::ledger::Ledger;
-use validity::InvalidWhy;
 use validity_check::{CheckError, Declared, Inside, Plans, check_tag, declared_of};
+use validity_rules::InvalidWhy;
 use value_builder::ValueBuilder;
-use xa_base::{Name, Steps, Text, is_blank};
+use value_contents::{Path, put_end};
+use xml_items::{Characters, ItemKids, ItemNode, ItemRef};
 
 // A text at this place may stand among child elements: their content is mixed, or it is white space.
 fn check_between(mixed: bool, text: &Characters<'_>, at: u64) -> Result<(), CheckError>

@@ -1,9 +1,9 @@
 //! Why a document gives no value.
 ghost use Rattle.std.specs.Prelude.{◌≡◌};
 
+use base_texts::Memory;
 use thiserror::Error;
-use validity::InvalidWhy;
-use xa_base::Memory;
+use validity_rules::InvalidWhy;
 
 /// Why a document gives no value.
 #[derive(Clone, Copy, Debug, PartialEq, Eq, Error)]

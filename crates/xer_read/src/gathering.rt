@@ -1,18 +1,18 @@
 //! The values of child elements that come in any order, until all have come.
 ghost use Rattle.std.specs.Prelude.{◌≡◌, ◌∷◌, ◌++◌, ◌+◌, [], ◌≤◌, ℕ, List, Option, None, Some, true, OnOk, IfOk, slice_get};
-ghost use Rattle.label_tree.specs.Rose.{Rose};
-ghost use Rattle.flat_tree.specs.Zips.{added};
+ghost use Rattle.base_trees.specs.Rose.{Rose};
+ghost use Rattle.base_flat_trees.specs.Zips.{added};
 ghost use Rattle.simple_types.specs.declared.labels.ValueLabel.{ValueLabel};
 ghost use Rattle.content_models.specs.Seen.{seen};
 ghost use Rattle.map_assignments.specs.Planning.{is_all};
-ghost use Rattle.content_values.specs.Made.{Child};
+ghost use Rattle.value_contents.specs.Made.{Child};
 ghost use Rattle.value_builder.specs.Built.{nothing_of, Stands, Puts, with_parts};
 ghost use Rattle.xer_read.specs.Private.Slots.{no_slots, filled_at, flags_of, values_of, Keeps, AreSlots, AllFit};
 
+use base_texts::Memory;
 use content_models::Particle;
 use std::alloc::Global;
 use value_builder::ValueBuilder;
-use xa_base::Memory;
 
 /// A slot for each particle of an all, with the value of its child element if one came; and the numbers of the particles in the
 /// order in which child elements came. Where no node may be kept there is neither. All values together keep no more nodes than

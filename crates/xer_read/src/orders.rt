@@ -5,23 +5,23 @@ ghost use Rattle.content_models.specs.Seen.{seen};
 ghost use Rattle.content_models.specs.Language as language;
 ghost use Rattle.content_models.specs.Particle.{Particles, occurs, all};
 ghost use Rattle.content_models.specs.Language.{names, Viable};
-ghost use Rattle.content_spots.specs.Laws.{step_from};
-ghost use Rattle.content_spots.specs.Spots.{at, among};
+ghost use Rattle.content_models.specs.SpotLaws.{step_from};
+ghost use Rattle.content_models.specs.Spots.{at, among};
 ghost use Rattle.content_match.specs.Taking.{levels, Took, TookMore, spot_of};
-ghost use Rattle.flat_tree.specs.Zips.{added};
+ghost use Rattle.base_flat_trees.specs.Zips.{added};
 ghost use Rattle.simple_types.specs.declared.labels.ValueLabel.{ValueLabel};
 ghost use Rattle.map_assignments.specs.Planning.{is_all};
-ghost use Rattle.validity.specs.Faults.{At};
+ghost use Rattle.validity_rules.specs.Faults.{At};
 ghost use Rattle.validity_check.specs.Answers.{Tells};
 ghost use Rattle.validity_check.specs.Told.{inside_told};
 ghost use Rattle.xer_read.specs.Private.Contents.{is_ordered, HasNoAll};
 
+use base_texts::{Name, Steps};
 use content_match::{Leaf, Matcher};
 use content_models::{Particle, ParticleKind};
 use std::sync::ledger::Ledger;
-use validity::InvalidWhy;
 use validity_check::{CheckError, Inside};
-use xa_base::{Name, Steps};
+use validity_rules::InvalidWhy;
 
 /// The content of an element whose child elements come in any order.
 #[derive(Clone, Copy)]

@@ -1,20 +1,20 @@
 //! Elements that have nothing but a text, or nothing but child elements in the order of their content model: they are never nil,
 //! and without attributes.
 ghost use Rattle.std.specs.Prelude.{◌≡◌, ◌<◌, [], length, Some, IfSome};
-ghost use Rattle.label_tree.specs.Rose.{roses_of, kids_of};
+ghost use Rattle.base_trees.specs.Rose.{roses_of, kids_of};
 ghost use Rattle.simple_types.specs.Seen.{space_of};
-ghost use Rattle.schema_parts.specs.Linked.{IsLinked};
-ghost use Rattle.validity.specs.Valid.{only_text};
+ghost use Rattle.schema_components.specs.Linked.{IsLinked};
+ghost use Rattle.validity_rules.specs.Valid.{only_text};
 ghost use Rattle.xer_read.specs.Private.Contents.{IsPlainType, IsPlainModel};
 
 use crate::orders::any_order;
+use base_texts::{Name, Text};
 use content_models::Particle;
-use item_tree::{Characters, ItemNode, ItemRef};
-use schema_parts::{SchemaSet, TypeOf};
+use schema_components::{SchemaSet, TypeOf};
 use simple_types::Simple;
 use std::iter::Iterator;
 use validity_check::{Inside, declared_of};
-use xa_base::{Name, Text};
+use xml_items::{Characters, ItemNode, ItemRef};
 
 /// Child elements by the content model of the complex type with this number, and nothing else.
 #[derive(Clone, Copy)]

@@ -1,30 +1,30 @@
 //! The value of a document, and whether it is valid.
 ghost use Rattle.std.specs.Prelude.{◌≡◌, ◌+◌, ◌*◌, ◌<◌, ◌≤◌, List, MatchResult, OnOk, IfOk};
-ghost use Rattle.label_tree.specs.Rose.{Rose, node_count, shown_count, Allowed};
-ghost use Rattle.flat_tree.specs.Zips.{added};
+ghost use Rattle.base_trees.specs.Rose.{Rose, node_count, shown_count, Allowed};
+ghost use Rattle.base_flat_trees.specs.Zips.{added};
 ghost use Rattle.simple_types.specs.declared.labels.ValueLabel.{ValueLabel};
 ghost use Rattle.simple_types.specs.Labels.{MayHave};
-ghost use Rattle.schema_parts.specs.SetParts.{parts_of};
+ghost use Rattle.schema_components.specs.SetParts.{parts_of};
 ghost use Rattle.asn_types.specs.declared.modules.Assignment.{Assignment};
 ghost use Rattle.map_assignments.specs.Mapped.{IsMapOf, root_at};
-ghost use Rattle.validity.specs.Faults.{FirstFault};
+ghost use Rattle.validity_rules.specs.Faults.{FirstFault};
 ghost use Rattle.validity_check.specs.Answers.{Tells, IsValid};
-ghost use Rattle.item_tree.specs.Counts.{element_count};
+ghost use Rattle.xml_items.specs.Counts.{element_count};
 ghost use Rattle.value_builder.specs.Built.{nothing_of, Stands};
 ghost use Rattle.xer_read.specs.Answers.{IsValueOf, IsTooLarge, IsOnlyValue, ReadTells};
 
 use crate::error::ReadError;
 use crate::root::walk_root;
 use crate::small::see_simples;
-use doc_text::Items;
-use flat_tree::Whole;
-use schema_parts::SchemaSet;
+use base_flat_trees::Whole;
+use base_texts::Steps;
+use schema_components::SchemaSet;
 use simple_types::Value;
 use std::alloc::Global;
 use std::sync::ledger::Ledger;
 use validity_check::CheckError;
 use value_builder::ValueBuilder;
-use xa_base::Steps;
+use xml_read::Items;
 
 /// How many nodes a value may have.
 const MOST_NODES: u32 = 1_048_576;

@@ -1,30 +1,30 @@
 //! The root of a document.
 ghost use Rattle.std.specs.Prelude.{◌≡◌, ◌+◌, ◌*◌, ◌<◌, ◌≤◌, Some, MatchResult, OnOk};
-ghost use Rattle.label_tree.specs.Rose.{Rose};
-ghost use Rattle.flat_tree.specs.Zips.{Zip};
+ghost use Rattle.base_trees.specs.Rose.{Rose};
+ghost use Rattle.base_flat_trees.specs.Zips.{Zip};
 ghost use Rattle.simple_types.specs.declared.labels.ValueLabel.{ValueLabel};
-ghost use Rattle.item_tree.specs.Labels.{item_place};
-ghost use Rattle.item_tree.specs.Seen.{item_seen};
-ghost use Rattle.schema_parts.specs.Linked.{IsLinked};
-ghost use Rattle.schema_parts.specs.SetParts.{parts_of};
-ghost use Rattle.validity.specs.Valid.{HasName};
-ghost use Rattle.validity.specs.Faults.{At, FirstFault};
+ghost use Rattle.xml_items.specs.Labels.{item_place};
+ghost use Rattle.xml_items.specs.Seen.{item_seen};
+ghost use Rattle.schema_components.specs.Linked.{IsLinked};
+ghost use Rattle.schema_components.specs.SetParts.{parts_of};
+ghost use Rattle.validity_rules.specs.Valid.{HasName};
+ghost use Rattle.validity_rules.specs.Faults.{At, FirstFault};
 ghost use Rattle.validity_check.specs.Answers.{Tells};
-ghost use Rattle.item_tree.specs.Counts.{element_count};
+ghost use Rattle.xml_items.specs.Counts.{element_count};
 ghost use Rattle.value_builder.specs.Built.{Stands};
 ghost use Rattle.xer_read.specs.Private.Given.{IsRootRead};
 ghost use Rattle.xer_read.specs.Private.Putting.{ValuePut};
 
 use crate::elements::walk_element;
-use doc_text::Items;
-use item_tree::ItemRef;
-use schema_parts::SchemaSet;
+use base_texts::{Name, Steps};
+use schema_components::SchemaSet;
 use std::alloc::Global;
 use std::sync::ledger::Ledger;
-use validity::InvalidWhy;
 use validity_check::{CheckError, Plans};
+use validity_rules::InvalidWhy;
 use value_builder::ValueBuilder;
-use xa_base::{Name, Steps};
+use xml_items::ItemRef;
+use xml_read::Items;
 
 // The root has the name that is declared.
 fn check_name(label: ItemRef<'_>, name: &Name) -> Result<(), CheckError>

@@ -1,11 +1,11 @@
 //! The numbers of a set have 128 bits: their type says so, and here it becomes a fact on the set.
 ghost use Rattle.std.specs.Prelude.{◌≡◌, true, All};
 ghost use Rattle.simple_types.specs.Seen.{space_of};
-ghost use Rattle.simple_values.specs.Lexical.{is_128_bits};
-ghost use Rattle.simple_values.specs.Small.{IsSmall};
-ghost use Rattle.schema_parts.specs.Small.{AreSmall};
+ghost use Rattle.simple_types.specs.Lexical.{is_128_bits};
+ghost use Rattle.simple_types.specs.Small.{IsSmall};
+ghost use Rattle.schema_components.specs.Small.{AreSmall};
 
-use schema_parts::SchemaSet;
+use schema_components::SchemaSet;
 use simple_types::Simple;
 
 fn see_number(number: i128)

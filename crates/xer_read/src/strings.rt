@@ -1,7 +1,7 @@
 //! The texts of mixed content: one string before, between and behind the child elements each.
 ghost use Rattle.std.specs.Prelude.{◌≡◌, OnOk, false, map};
-ghost use Rattle.label_tree.specs.Rose.{node, roses_of};
-ghost use Rattle.flat_tree.specs.Zips.{added, added_all};
+ghost use Rattle.base_trees.specs.Rose.{node, roses_of};
+ghost use Rattle.base_flat_trees.specs.Zips.{added, added_all};
 ghost use Rattle.simple_types.specs.declared.labels.ValueLabel.TheVariants as label;
 ghost use Rattle.validity_check.specs.Told.{inside_told};
 ghost use Rattle.value_builder.specs.Built.{Puts};
@@ -9,13 +9,13 @@ ghost use Rattle.xer_read.specs.Private.Keeping.{text_value, missing, strings_fr
 ghost use Rattle.xer_read.specs.Private.Contents.{TextsMade};
 ghost use Rattle.xer_read.specs.Private.Putting.{PartsPut};
 
-use item_tree::{Characters, ItemKids, ItemRef};
+use base_texts::{Memory, Text};
 use simple_types::ValueLabel;
 use std::alloc::Global;
 use std::iter::Iterator;
 use validity_check::Inside;
 use value_builder::ValueBuilder;
-use xa_base::{Memory, Text};
+use xml_items::{Characters, ItemKids, ItemRef};
 
 // A string with these words.
 fn put_string(

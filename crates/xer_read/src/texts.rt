@@ -1,23 +1,22 @@
 //! The text of an element of a simple type.
 ghost use Rattle.std.specs.Prelude.{◌≡◌, true, Some, MatchResult};
-ghost use Rattle.label_tree.specs.Rose.{Rose, Roses, roses_of};
-ghost use Rattle.item_tree.specs.declared.label.ItemLabel.{ItemLabel};
-ghost use Rattle.doc_text.specs.Sound.{are_sound};
-ghost use Rattle.flat_tree.specs.Zips.{added};
+ghost use Rattle.base_trees.specs.Rose.{Rose, Roses, roses_of};
+ghost use Rattle.xml_items.specs.declared.label.ItemLabel.{ItemLabel};
+ghost use Rattle.xml_read.specs.Sound.{are_sound};
+ghost use Rattle.base_flat_trees.specs.Zips.{added};
 ghost use Rattle.simple_types.specs.declared.labels.ValueLabel.{ValueLabel};
 ghost use Rattle.simple_types.specs.Seen.{space_of};
 ghost use Rattle.simple_types.specs.Sound.{Sound};
-ghost use Rattle.validity.specs.Valid as valid;
+ghost use Rattle.validity_rules.specs.Valid as valid;
 ghost use Rattle.validity_check.specs.Answers.{Tells, TextFault};
 ghost use Rattle.value_builder.specs.Built.{Puts};
 ghost use Rattle.xer_read.specs.Private.Given.{IsReadAs};
 
-use item_tree::{Characters, ItemKids};
-use simple_types::Simple;
-use simple_values::SimpleError;
-use validity::InvalidWhy;
+use simple_types::{Simple, SimpleError};
 use validity_check::{CheckError, only_text};
+use validity_rules::InvalidWhy;
 use value_builder::ValueBuilder;
+use xml_items::{Characters, ItemKids};
 
 /// The value that the simple type gives to the characters of an element at this place.
 #[inline(always)]

@@ -1,29 +1,29 @@
 //! The way to the last leaf of a content model, and from there to the next.
 ghost use Rattle.std.specs.Prelude.{◌≡◌, [], ◌∷◌, ◌++◌, ◌+◌, ◌-◌, ◌*◌, ◌^◌, ◌<◌, ◌≤◌, ℕ, List, Some, true, false, length, IsTrue, OnOk, MatchResult, IfOk};
-ghost use Rattle.label_tree.specs.Rose.{node_count};
+ghost use Rattle.base_trees.specs.Rose.{node_count};
 ghost use Rattle.simple_types.specs.declared.labels.ValueLabel.{ValueLabel};
 ghost use Rattle.content_models.specs.Clear.{IsNoAll};
 ghost use Rattle.content_models.specs.Seen.{seen};
 ghost use Rattle.content_models.specs.Language as language;
 ghost use Rattle.content_models.specs.Language.{names, Lang, Viable};
-ghost use Rattle.content_spots.specs.Laws.{IsNamed, may_end};
+ghost use Rattle.content_models.specs.SpotLaws.{IsNamed, may_end};
 ghost use Rattle.content_match.specs.Taking.{levels, Took, TookMore, spot_of};
-ghost use Rattle.flat_tree.specs.Zips.{Zip};
-ghost use Rattle.validity.specs.Faults.{At};
+ghost use Rattle.base_flat_trees.specs.Zips.{Zip};
+ghost use Rattle.validity_rules.specs.Faults.{At};
 ghost use Rattle.validity_check.specs.Answers.{Tells};
 ghost use Rattle.value_builder.specs.Built.{Stands};
-ghost use Rattle.content_values.specs.Made.{Child};
-ghost use Rattle.content_values.specs.Reached.{IsFillable, Put};
+ghost use Rattle.value_contents.specs.Made.{Child};
+ghost use Rattle.value_contents.specs.Reached.{IsFillable, Put};
 ghost use Rattle.xer_read.specs.Private.Putting.{way_turns, way_kids, LeadsTo, IsWay, Opens};
 
+use base_texts::{Memory, Name, Steps};
 use content_match::{Leaf, Lists, Matcher, Turn};
 use content_models::Particle;
-use content_values::{Path, put_step};
 use std::sync::ledger::Ledger;
-use validity::InvalidWhy;
 use validity_check::{CheckError, Plans};
+use validity_rules::InvalidWhy;
 use value_builder::ValueBuilder;
-use xa_base::{Memory, Name, Steps};
+use value_contents::{Path, put_step};
 
 /// The way to the last leaf, which is kept while a matcher goes on to the next. Before the first leaf its lists are those of
 /// another way.

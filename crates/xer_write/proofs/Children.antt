@@ -5,10 +5,10 @@ use Rattle.std.specs.List.{range_with_len}
 use Rattle.std.specs.Option.{option_map}
 use Rattle.std.proofs.lemmas.Bool.Decides.{eqb_tells}
 use Rattle.std.proofs.lemmas.List.{length-map}
-use Rattle.label_tree.proofs.Roses.{roses_of-list_of}
-use Rattle.label_tree.specs.Rose.{Rose, Roses, node, none, more, label_of, kids_of, list_of, roses_of, node_count}
-use Rattle.plain_items.specs.Plain.{Plain}
-use Rattle.plain_items.specs.Mixing.{child_elements}
+use Rattle.base_trees.proofs.Roses.{roses_of-list_of}
+use Rattle.base_trees.specs.Rose.{Rose, Roses, node, none, more, label_of, kids_of, list_of, roses_of, node_count}
+use Rattle.xml_items.specs.Plain.{Plain}
+use Rattle.xml_items.specs.Mixing.{child_elements}
 use Rattle.simple_types.specs.declared.labels.ValueLabel.{ValueLabel}
 use Rattle.asn_types.specs.declared.modules.Assignment.{Assignment}
 use Rattle.asn_types.specs.declared.roles.Role.TheVariants.{Attribute, Element, Group, Content, Embed, Order, Item, Alternative}

@@ -5,22 +5,22 @@ use Rattle.std.specs.Prelude.{◌==◌, map, codes, Result, Ok, Err, OnOk, IfOk}
 use Rattle.std.specs.Bool.{OnTrue}
 use Rattle.std.proofs.lemmas.Bool.{eqb-true}
 use Rattle.std.proofs.lemmas.List.{append-nil, drop-map, length-map, length_push, same_from_push}
-use Rattle.xa_base.specs.declared.texts.Name.{Name}
-use Rattle.label_tree.specs.Rose.{Rose, node, Roses, none, more, roses_of}
-use Rattle.label_tree.proofs.Roses.{roses_of-list_of}
+use Rattle.base_texts.specs.declared.texts.Name.{Name}
+use Rattle.base_trees.specs.Rose.{Rose, node, Roses, none, more, roses_of}
+use Rattle.base_trees.proofs.Roses.{roses_of-list_of}
 use Rattle.simple_types.specs.declared.labels.ValueLabel.{ValueLabel}
-use Rattle.item_tree.specs.declared.label.ItemLabel.{ItemLabel}
-use Rattle.item_tree.specs.declared.label.ItemLabel.TheVariants.{Element, Text}
-use Rattle.plain_items.specs.Plain.{Plain}
-use Rattle.plain_items.specs.Mixing.{text_before, interleaved}
+use Rattle.xml_items.specs.declared.label.ItemLabel.{ItemLabel}
+use Rattle.xml_items.specs.declared.label.ItemLabel.TheVariants.{Element, Text}
+use Rattle.xml_items.specs.Plain.{Plain}
+use Rattle.xml_items.specs.Mixing.{text_before, interleaved}
 use Rattle.xer_items.specs.Items.{Given, given, nothing, joined, both, element_of, with_nil}
 use Rattle.xer_write.specs.declared.contents.Contents.{Contents}
 use Rattle.xer_write.specs.declared.contents.Outer.{Outer}
-use Rattle.plain_items.specs.Unplaced.{unplaced, all_unplaced}
+use Rattle.xml_items.specs.Unplaced.{unplaced, all_unplaced}
 use Rattle.xer_write.specs.Private.Utf8.{AreUtf8, ItemIsUtf8, ItemsAreUtf8}
 use Rattle.xer_write.specs.declared.receiver.Receiver.{Receiver}
 use Rattle.xer_write.specs.declared.receiver.Open.TheVariants as open_element
-use Rattle.doc_write.specs.declared.builder.OpenTag.{OpenTag}
+use Rattle.xml_write.specs.declared.builder.OpenTag.{OpenTag}
 use Rattle.xer_write.specs.Private.Receiving.{Tells, Opens, IsOpen, Closes}
 use Rattle.xer_write.proofs.Receiving.{tells-none, tells-both, tells-element, still-open}
 use Rattle.xer_write.specs.Private.Gaining.{items_in, value_text, levels, Puts, GainsIn, Gains, MakesRoom, TakesElement, Begins, IsPlain, outer_of, text_item, text_at, first_text, with_texts_before, through, left_behind}

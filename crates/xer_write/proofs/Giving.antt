@@ -2,14 +2,14 @@
 use Rattle.std.proofs.Common.{◌≡◌, ℕ, suc, ◌+◌, ◌<◌, ◌≤◌, Bool, true, false, cond, Option, Some, None, List, [], ◌∷◌, length, get_or, drop, refl, sym, ◌∙◌, ap, subst, arith}
 use Rattle.std.specs.Prelude.{◌||◌, ◌&&◌, replicate, slice_get, nat_le, nat_lt}
 use Rattle.std.specs.Option.{is_some}
-use Rattle.label_tree.specs.Rose.{Rose, node, Roses, none, more, roses_of, list_of, label_of, kids_of, length_all, Allowed, AllowedAll}
+use Rattle.base_trees.specs.Rose.{Rose, node, Roses, none, more, roses_of, list_of, label_of, kids_of, length_all, Allowed, AllowedAll}
 use Rattle.std.proofs.lemmas.List.{drop_more, length-drop}
 use Rattle.std.proofs.lemmas.Option.{get_or_from_slice_get}
-use Rattle.label_tree.proofs.Roses.{roses_of-list_of, length-list_of}
+use Rattle.base_trees.proofs.Roses.{roses_of-list_of, length-list_of}
 use Rattle.simple_types.specs.declared.labels.ValueLabel.{ValueLabel}
 use Rattle.simple_types.specs.declared.labels.ValueLabel.TheVariants as value
-use Rattle.simple_values.specs.Lexical.{is_at_most}
-use Rattle.simple_values.specs.Reading.{spelled}
+use Rattle.simple_types.specs.Lexical.{is_at_most}
+use Rattle.simple_types.specs.Reading.{spelled}
 use Rattle.asn_types.specs.declared.modules.Assignment.{Assignment}
 use Rattle.asn_types.specs.declared.roles.Role.{Role}
 use Rattle.asn_types.specs.declared.roles.Role.TheVariants.{Attribute, Element, Group, Content, Embed, Order, Item, Alternative}
@@ -26,8 +26,8 @@ use Rattle.asn_values.specs.Values.{ComponentPlace, place_of, put_first, present
 use Rattle.asn_types.proofs.Chaining.{well-formed, parts-of-module, have-parts, resolved-of-module}
 use Rattle.asn_types.proofs.Inside.{body-of}
 use Rattle.asn_values.proofs.Counting.{drop-past}
-use Rattle.plain_items.specs.Mixing.{text_before}
-use Rattle.xa_base.specs.declared.texts.Name.{Name}
+use Rattle.xml_items.specs.Mixing.{text_before}
+use Rattle.base_texts.specs.declared.texts.Name.{Name}
 use Rattle.asn_types.specs.Names.{name_of_part}
 use Rattle.xer_items.specs.Spelling.{is_leaf, is_textual}
 use Rattle.xer_items.specs.Items.{Given, given, nothing, both, element_of, with_order, completed, placed, inside, gathered}

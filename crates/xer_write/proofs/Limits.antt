@@ -6,18 +6,18 @@ use Rattle.std.specs.Option.{option_map}
 use Rattle.std.proofs.lemmas.Str.{is_utf8-from_IsUtf8}
 use Rattle.std.specs.List.{list_all, AllByRecursion}
 use Rattle.std.specs.Str.{chars, is_utf8}
-use Rattle.xa_base.specs.Characters.{is_xml_char}
-use Rattle.xa_base.specs.Limits.{is_empty, is_xmlns, has_xml_chars}
-use Rattle.xa_base.specs.declared.texts.Name.{Name}
-use Rattle.label_tree.specs.Rose.{Rose, node, Roses, none, more, label_of, list_of, roses_of, length_all, node_count, count_all, AllowedAll}
+use Rattle.base_texts.specs.Characters.{is_xml_char}
+use Rattle.base_texts.specs.Limits.{is_empty, is_xmlns, has_xml_chars}
+use Rattle.base_texts.specs.declared.texts.Name.{Name}
+use Rattle.base_trees.specs.Rose.{Rose, node, Roses, none, more, label_of, list_of, roses_of, length_all, node_count, count_all, AllowedAll}
 use Rattle.simple_types.specs.declared.labels.ValueLabel.{ValueLabel}
-use Rattle.simple_values.specs.Reading.{spelled}
-use Rattle.item_tree.specs.declared.label.ItemLabel.{ItemLabel}
-use Rattle.item_tree.specs.Labels.{MayHave}
-use Rattle.doc_text.specs.Sound.{AreItems, is_sound_name, has_name, is_sound_attribute, are_sound_attributes, is_sound_label, is_sound, are_sound, levels_all}
-use Rattle.doc_text.specs.Sound as document
-use Rattle.plain_items.specs.Plain.{Plain, element, text}
-use Rattle.plain_items.specs.Mixing.{text_before, interleaved, child_elements}
+use Rattle.simple_types.specs.Reading.{spelled}
+use Rattle.xml_items.specs.declared.label.ItemLabel.{ItemLabel}
+use Rattle.xml_items.specs.Labels.{MayHave}
+use Rattle.xml_read.specs.Sound.{AreItems, is_sound_name, has_name, is_sound_attribute, are_sound_attributes, is_sound_label, is_sound, are_sound, levels_all}
+use Rattle.xml_read.specs.Sound as document
+use Rattle.xml_items.specs.Plain.{Plain, element, text}
+use Rattle.xml_items.specs.Mixing.{text_before, interleaved, child_elements}
 use Rattle.asn_types.specs.declared.modules.Assignment.{Assignment}
 use Rattle.asn_types.specs.declared.roles.Role.{Role}
 use Rattle.asn_types.specs.declared.roles.Role.TheVariants.{Attribute, Element, Group, Content, Embed, Order, Item, Alternative}
@@ -31,19 +31,19 @@ use Rattle.xer_items.specs.Spelling.{is_textual}
 use Rattle.asn_types.specs.Names.{name_told, name_of_part}
 use Rattle.xer_items.specs.Items.{Given, given, nothing, joined, element_of, with_order, texts_of, with_texts, completed, placed, inside, gathered, root_of, Xer}
 use Rattle.xer_write.specs.declared.contents.Contents.{Contents}
-use Rattle.flat_tree.specs.Zips.{added_all}
+use Rattle.base_flat_trees.specs.Zips.{added_all}
 use Rattle.xer_write.specs.declared.receiver.Receiver.{Receiver}
 use Rattle.xer_write.specs.declared.receiver.Receiver.TheVariants as receiver
 use Rattle.xer_write.specs.Private.Receiving.{IsBuilder, IsBegun, IsTree, IsWholeOf, items_built, Tells}
 use Rattle.std.specs.Global.{Vec}
-use Rattle.doc_written.specs.Written.{written}
+use Rattle.xml_write.specs.Written.{written}
 use Rattle.xer_write.specs.Private.Giving.{HasTold}
 use Rattle.xer_write.specs.Private.Gaining.{levels, value_text, Puts, Gains}
 use Rattle.asn_values.specs.Ordering.{in_order}
 use Rattle.xer_items.proofs.Ordering.{in_order-all}
 use Rattle.xer_items.proofs.Sizes.{nil-kids, inside-size}
 use Rattle.xer_items.specs.Sound.{HasCharacters, AreSoundAttributes, IsSoundLabel, is_text, begins_with_text, IsSound, AreSound}
-use Rattle.plain_items.specs.Unplaced.{unplaced_label, unplaced, all_unplaced}
+use Rattle.xml_items.specs.Unplaced.{unplaced_label, unplaced, all_unplaced}
 use Rattle.xer_write.specs.Private.Utf8.{AreUtf8, LabelIsUtf8, ItemIsUtf8, ItemsAreUtf8}
 
 -- ---- how many items, which is not changed by places

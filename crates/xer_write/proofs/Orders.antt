@@ -4,8 +4,8 @@ use Rattle.std.specs.Prelude.{slice_get, ◌==◌}
 use Rattle.std.specs.Option.{is_some, option_map}
 use Rattle.std.proofs.lemmas.Bool.Decides.{eqb_tells}
 use Rattle.std.proofs.lemmas.List.{drop_more}
-use Rattle.label_tree.specs.Rose.{Rose, node, label_of, kids_of, list_of, roses_of}
-use Rattle.label_tree.proofs.Roses.{list_of-roses_of}
+use Rattle.base_trees.specs.Rose.{Rose, node, label_of, kids_of, list_of, roses_of}
+use Rattle.base_trees.proofs.Roses.{list_of-roses_of}
 use Rattle.simple_types.specs.declared.labels.ValueLabel.{ValueLabel}
 use Rattle.simple_types.specs.declared.labels.ValueLabel.TheVariants as value
 use Rattle.asn_types.specs.declared.modules.Assignment.{Assignment}

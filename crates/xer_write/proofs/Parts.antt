@@ -4,10 +4,10 @@ use Rattle.std.specs.Prelude.{◌||◌, ◌&&◌, slice_get, replicate, nat_le, 
 use Rattle.std.specs.Option.{is_some}
 use Rattle.std.proofs.lemmas.Bool.{le-leb, lt-leb}
 use Rattle.std.proofs.lemmas.List.{drop_more, append-nil}
-use Rattle.label_tree.specs.Rose.{Rose, Roses, none, more, label_of, kids_of, roses_of, node_count, count_all}
+use Rattle.base_trees.specs.Rose.{Rose, Roses, none, more, label_of, kids_of, roses_of, node_count, count_all}
 use Rattle.simple_types.specs.declared.labels.ValueLabel.{ValueLabel}
 use Rattle.simple_types.specs.declared.labels.ValueLabel.TheVariants as value
-use Rattle.simple_values.specs.Lexical.{is_at_most}
+use Rattle.simple_types.specs.Lexical.{is_at_most}
 use Rattle.asn_types.specs.declared.modules.Assignment.{Assignment}
 use Rattle.asn_types.specs.declared.roles.Role.{Role}
 use Rattle.asn_types.specs.declared.types.Component.{Component}
@@ -17,7 +17,7 @@ use Rattle.asn_types.specs.Marks.{has_embed_values, has_use_nil}
 use Rattle.asn_types.specs.Parts.{parts_of}
 use Rattle.asn_types.specs.Roles.{role_of}
 use Rattle.asn_values.specs.Values.{ComponentPlace, place_of, place_at, alone, repeated, is_last_absent}
-use Rattle.plain_items.specs.Plain.{Plain}
+use Rattle.xml_items.specs.Plain.{Plain}
 use Rattle.xer_items.specs.Items.{Given, given, nothing, joined, both, gathered, texts_of, with_texts, with_nil}
 use Rattle.xer_write.specs.declared.contents.Contents.{Contents}
 use Rattle.xer_write.specs.Private.Gaining.{Gains}

@@ -1,17 +1,17 @@
 -- What is told to a receiver one after another is told at once.
 use Rattle.std.proofs.Common.{◌≡◌, ◌<◌, ◌++◌, ◌∷◌, [], List, ℕ, length, refl, sym, ap, subst, ◌∙◌, append_assoc, arith}
 use Rattle.std.proofs.lemmas.List.{append-nil}
-use Rattle.xa_base.specs.declared.texts.Name.{Name}
-use Rattle.label_tree.specs.Rose.{Rose, node, roses_of}
-use Rattle.flat_tree.specs.Zips.{Above, Zip, added_all, closed}
-use Rattle.item_tree.specs.declared.label.ItemLabel.{ItemLabel}
-use Rattle.item_tree.specs.declared.label.ItemLabel.TheVariants.{Element}
-use Rattle.item_tree.specs.Building.{listed, listed_in}
-use Rattle.doc_write.specs.Telling.{words_in}
-use Rattle.doc_write.proofs.Telling as told
+use Rattle.base_texts.specs.declared.texts.Name.{Name}
+use Rattle.base_trees.specs.Rose.{Rose, node, roses_of}
+use Rattle.base_flat_trees.specs.Zips.{Above, Zip, added_all, closed}
+use Rattle.xml_items.specs.declared.label.ItemLabel.{ItemLabel}
+use Rattle.xml_items.specs.declared.label.ItemLabel.TheVariants.{Element}
+use Rattle.xml_items.specs.Building.{listed, listed_in}
+use Rattle.xml_write.specs.Telling.{words_in}
+use Rattle.xml_write.proofs.Telling as told
 use Rattle.std.specs.Prelude.{codes}
 use Rattle.std.specs.Global.{Vec}
-use Rattle.xa_base.specs.Namespaces.{xsi_space}
+use Rattle.base_texts.specs.Namespaces.{xsi_space}
 use Rattle.xer_items.specs.Items.{nil_name}
 use Rattle.xer_write.specs.declared.receiver.Built.{Built}
 use Rattle.xer_write.specs.declared.receiver.Receiver.{Receiver}

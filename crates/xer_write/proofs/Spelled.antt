@@ -1,15 +1,15 @@
 -- How a UTF8String and an INTEGER are spelled, and elements with their texts.
 use Rattle.std.proofs.Common.{◌≡◌, List, ℕ, [], refl, sym, subst}
 use Rattle.std.specs.Prelude.{Result, OnOk}
-use Rattle.label_tree.specs.Rose.{Rose, node, none, more, label_of}
-use Rattle.xa_base.specs.declared.texts.Name.{Name}
+use Rattle.base_trees.specs.Rose.{Rose, node, none, more, label_of}
+use Rattle.base_texts.specs.declared.texts.Name.{Name}
 use Rattle.simple_types.specs.declared.labels.ValueLabel.{ValueLabel}
-use Rattle.simple_values.specs.Reading.{spelled, spelled_whole, spelled_text}
+use Rattle.simple_types.specs.Reading.{spelled, spelled_whole, spelled_text}
 use Rattle.asn_types.specs.declared.types.Form.{Form}
 use Rattle.asn_types.specs.declared.types.Form.TheVariants as form
 use Rattle.asn_types.specs.declared.types.TypeLabel.{TypeLabel}
 use Rattle.asn_types.specs.Spaces.{space_at}
-use Rattle.plain_items.specs.Mixing.{text_before}
+use Rattle.xml_items.specs.Mixing.{text_before}
 use Rattle.xer_items.specs.Items.{given, element_of}
 use Rattle.xer_write.specs.declared.contents.Contents.{Contents}
 use Rattle.xer_write.specs.Private.Gaining.{Gains}

@@ -1,8 +1,8 @@
 //! Items as they are told, and what stands in the innermost element so far.
 ghost use Rattle.std.specs.Prelude.{◌≡◌, ◌∷◌, [], ◌++◌, ℕ, List, IfOk, OnOk, codes, drop, map};
 ghost use Rattle.std.specs.Bool.{OnTrue};
-ghost use Rattle.label_tree.specs.Rose.{none, more, roses_of};
-ghost use Rattle.plain_items.specs.Mixing.{text_before};
+ghost use Rattle.base_trees.specs.Rose.{none, more, roses_of};
+ghost use Rattle.xml_items.specs.Mixing.{text_before};
 ghost use Rattle.xer_items.specs.Items.{given, nil_name, element_of};
 ghost use Rattle.xer_write.specs.declared.receiver.Open.TheVariants as open_element;
 ghost use Rattle.xer_write.specs.Private.Receiving.{name_seen, IsBegun, IsTree, items_built, IsWholeOf, IsOpen, Tells, Closes};
@@ -10,14 +10,14 @@ ghost use Rattle.xer_write.specs.Private.Gaining.{Gains, GainsIn, MakesRoom, Beg
 
 use crate::receiver::{NameRef, Open, Receiver};
 use crate::spelling::value_text;
-use doc_write::OpenTag;
-use flat_tree::Kids;
-use item_tree::ItemTree;
+use base_flat_trees::Kids;
+use base_texts::{Memory, Text};
 use simple_types::ValueLabel;
 use std::alloc::Global;
 use std::iter::Iterator;
 use std::mem;
-use xa_base::{Memory, Text};
+use xml_items::ItemTree;
+use xml_write::OpenTag;
 
 /// What takes the items so far, and the texts that are to stand before the next of them.
 #[derive(Drop)]

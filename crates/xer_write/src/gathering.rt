@@ -1,6 +1,6 @@
 //! What a value gives to the element that it stands in.
 ghost use Rattle.std.specs.Prelude.{◌≡◌, ◌&&◌, List, [], Some, true, false, OnOk, MatchOption, length, map, replicate, slice_get};
-ghost use Rattle.label_tree.specs.Rose.{none, more, label_of, kids_of, roses_of, count_all, Allowed};
+ghost use Rattle.base_trees.specs.Rose.{none, more, label_of, kids_of, roses_of, count_all, Allowed};
 ghost use Rattle.asn_types.specs.Marks.{has_use_nil, has_use_order};
 ghost use Rattle.asn_types.specs.Parts.{MayHave};
 ghost use Rattle.asn_types.specs.Spaces.{space_at};
@@ -8,8 +8,8 @@ ghost use Rattle.asn_types.specs.declared.roles.Role.TheVariants as role;
 ghost use Rattle.asn_values.specs.Values as rule;
 ghost use Rattle.asn_types.specs.declared.types.Form.TheVariants as form;
 ghost use Rattle.simple_types.specs.declared.labels.ValueLabel.TheVariants as label;
-ghost use Rattle.simple_values.specs.Reading.{spelled, spelled_whole};
-ghost use Rattle.plain_items.specs.Mixing.{text_before};
+ghost use Rattle.simple_types.specs.Reading.{spelled, spelled_whole};
+ghost use Rattle.xml_items.specs.Mixing.{text_before};
 ghost use Rattle.xer_items.specs.Items.{given, nothing, with_nil, element_of, inside, gathered, texts_of};
 ghost use Rattle.xer_items.specs.Children.{Child, elements_of};
 ghost use Rattle.xer_items.specs.Spelling.{is_textual};
@@ -26,14 +26,13 @@ use crate::receiver::NameRef;
 use crate::spelling::is_textual;
 use asn_types::{Component, Form, Module, Role, TypeLabel, resolve, role};
 use asn_values::{ordered_flags, spelling};
-use flat_tree::{Kids, Node};
+use base_flat_trees::{Kids, Node};
+use base_texts::Memory;
+use base_trees::Tree;
 use itoa::Buffer;
-use label_tree::Tree;
-use simple_types::{Integer, ValueLabel};
-use simple_values::is_at_most;
+use simple_types::{Integer, ValueLabel, is_at_most};
 use std::alloc::Global;
 use std::iter::Iterator;
-use xa_base::Memory;
 
 // The texts of the first part, where it is present.
 fn texts_of<'a>(value: &Node<'a, ValueLabel>) -> Option<Kids<'a, ValueLabel>>

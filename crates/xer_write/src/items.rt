@@ -1,10 +1,10 @@
 //! The items of a value, and their text.
 ghost use Rattle.std.specs.Prelude.{◌≡◌, IfOk, IsSomeAnd, Some};
-ghost use Rattle.label_tree.specs.Rose.{Rose};
-ghost use Rattle.plain_items.specs.Plain.{Plain};
-ghost use Rattle.plain_items.specs.Unplaced.{unplaced};
-ghost use Rattle.doc_written.specs.Written.{written};
-ghost use Rattle.doc_written.specs.ReadBack.{ReadsAs};
+ghost use Rattle.base_trees.specs.Rose.{Rose};
+ghost use Rattle.xml_items.specs.Plain.{Plain};
+ghost use Rattle.xml_items.specs.Unplaced.{unplaced};
+ghost use Rattle.xml_write.specs.Written.{written};
+ghost use Rattle.xml_write.specs.ReadBack.{ReadsAs};
 ghost use Rattle.xer_items.specs.Items.{Xer};
 ghost use Rattle.asn_values.specs.Values.{In};
 ghost use Rattle.xer_items.specs.Sound.{IsSound};
@@ -14,11 +14,11 @@ use crate::contents::Contents;
 use crate::gathering::gather_element;
 use crate::receiver::{NameRef, Receiver};
 use asn_types::{Assignment, Module};
-use doc_text::Items;
-use doc_write::write_document;
+use base_texts::Memory;
 use simple_types::Value;
 use std::alloc::Global;
-use xa_base::Memory;
+use xml_read::Items;
+use xml_write::write_document;
 
 // Tells the items of a value of the assignment with this number.
 fn told<'a>(

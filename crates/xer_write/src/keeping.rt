@@ -1,6 +1,6 @@
 //! What a value of a USE-ORDER type gives: its attributes are told at once, its child elements are kept.
 ghost use Rattle.std.specs.Prelude.{◌≡◌, true, OnOk};
-ghost use Rattle.label_tree.specs.Rose.{label_of, kids_of, roses_of, node_count, count_all};
+ghost use Rattle.base_trees.specs.Rose.{label_of, kids_of, roses_of, node_count, count_all};
 ghost use Rattle.asn_types.specs.declared.types.Form.TheVariants as form;
 ghost use Rattle.asn_types.specs.Refs.{resolve as resolved};
 ghost use Rattle.asn_values.specs.Values as rule;
@@ -13,12 +13,12 @@ use crate::presence::{Place, may_be_present};
 use crate::receiver::NameRef;
 use asn_types::{Component, Form, Module, Role, TypeLabel, resolve};
 use asn_values::spelling;
-use flat_tree::{Kids, Node};
-use label_tree::Tree;
+use base_flat_trees::{Kids, Node};
+use base_texts::Memory;
+use base_trees::Tree;
 use simple_types::ValueLabel;
 use std::alloc::Global;
 use std::iter::Iterator;
-use xa_base::Memory;
 
 /// A child element that is told later.
 #[derive(Drop)]

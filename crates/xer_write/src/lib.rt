@@ -1,4 +1,4 @@
-//! The items of a value, by the encoding instructions of X.693, and their text.
+//! Writes the items of a value, as items or as XML text.
 //!
 //! Read first: `specs/Items` of `xer_items`, then `items_of` in `src/items.rt`.
 #![tactic(auto)]

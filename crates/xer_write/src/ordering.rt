@@ -1,7 +1,7 @@
 //! The order of child elements that a value of a USE-ORDER type tells.
 ghost use Rattle.std.specs.Prelude.{◌≡◌, ◌-◌, ◌≤◌, ◌<◌, ◌^◌, true, IfOk, length, map};
 ghost use Rattle.std.specs.List.{range_with_len};
-ghost use Rattle.label_tree.specs.Rose.{label_of, kids_of};
+ghost use Rattle.base_trees.specs.Rose.{label_of, kids_of};
 ghost use Rattle.simple_types.specs.Labels.{count_set};
 ghost use Rattle.simple_types.specs.declared.labels.ValueLabel.TheVariants as label;
 ghost use Rattle.asn_types.specs.declared.types.Form.TheVariants as form;
@@ -10,12 +10,12 @@ ghost use Rattle.asn_values.specs.Ordering as ordered;
 ghost use Rattle.xer_write.specs.Private.Giving.{may_be_present};
 
 use asn_types::{Component, Role, TypeLabel};
-use flat_tree::{Kids, Node};
-use label_tree::Tree;
+use base_flat_trees::{Kids, Node};
+use base_texts::Memory;
+use base_trees::Tree;
 use simple_types::ValueLabel;
 use std::alloc::Global;
 use std::iter::Iterator;
-use xa_base::Memory;
 
 // The number of an item of an ENUMERATED.
 fn item_number(value: &Node<'_, ValueLabel>) -> u32

@@ -4,7 +4,7 @@ ghost use Rattle.asn_values.specs.Values as rule;
 ghost use Rattle.xer_write.specs.Private.Giving.{may_be_present};
 
 use asn_types::{Component, Role, TypeLabel};
-use label_tree::Tree;
+use base_trees::Tree;
 use simple_types::ValueLabel;
 
 /// Where a kid of a value stands: the part, its role, and its type.

@@ -1,17 +1,17 @@
 //! What takes the items of a value as they are told: they are built, or written as text at once.
 ghost use Rattle.std.specs.Prelude.{◌≡◌, ◌∷◌, [], codes, IfOk, OnOk, IfSome};
 ghost use Rattle.std.specs.Bool.{OnTrue};
-ghost use Rattle.label_tree.specs.Rose.{node, none};
-ghost use Rattle.item_tree.specs.declared.label.ItemLabel.TheVariants as item;
+ghost use Rattle.base_trees.specs.Rose.{node, none};
+ghost use Rattle.xml_items.specs.declared.label.ItemLabel.TheVariants as item;
 ghost use Rattle.asn_types.specs.Names as names;
 ghost use Rattle.xer_items.specs.Items.{nil_name};
 
 use asn_types::{Assignment, Component};
-use doc_write::{OpenTag, TextBuilder};
-use item_tree::{ItemBuilder, ItemTree};
+use base_texts::{Memory, Name, Text, XSI_SPACE};
 use std::alloc::Global;
 use std::mem;
-use xa_base::{Memory, Name, Text, XSI_SPACE};
+use xml_items::{ItemBuilder, ItemTree};
+use xml_write::{OpenTag, TextBuilder};
 
 /// A name of XML where it stands in a module. Without a namespace it is in none.
 #[derive(Clone, Copy)]

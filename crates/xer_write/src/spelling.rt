@@ -4,10 +4,10 @@ ghost use Rattle.xer_items.specs.Spelling as textual;
 ghost use Rattle.xer_write.specs.Private.Gaining.{value_text};
 
 use asn_types::{Form, TypeLabel};
-use flat_tree::Node;
+use base_flat_trees::Node;
+use base_texts::{Memory, Text};
 use simple_types::ValueLabel;
 use std::alloc::Global;
-use xa_base::{Memory, Text};
 
 // Whether the type has no parts.
 #[inline(always)]

@@ -1,6 +1,6 @@
 -- What the code keeps of the places below a value.
 use Rattle.std.specs.Prelude.{◌≡◌, ℕ, length, List, [], ◌∷◌, map, replicate, Option, Some, None}
-use Rattle.label_tree.specs.Rose.{Rose, Roses, roses_of, label_of, kids_of}
+use Rattle.base_trees.specs.Rose.{Rose, Roses, roses_of, label_of, kids_of}
 use Rattle.simple_types.specs.declared.labels.ValueLabel.{ValueLabel}
 use Rattle.asn_types.specs.declared.types.TypeLabel.{TypeLabel}
 use Rattle.asn_values.specs.declared.places.ComponentPlace.{ComponentPlace}

@@ -1,10 +1,10 @@
 -- What a plan and a matcher keep of an all.
 use Rattle.std.specs.Prelude.{◌≡◌, ℕ, suc, ◌^◌, ◌<◌, List, [], ◌∷◌, length, Option, Some, None, MatchOption, Bool, true, false, not}
-use Rattle.label_tree.specs.Rose.{Rose, roses_of, label_of, depth_all}
-use Rattle.xa_base.specs.declared.texts.Name.{Name}
+use Rattle.base_trees.specs.Rose.{Rose, roses_of, label_of, depth_all}
+use Rattle.base_texts.specs.declared.texts.Name.{Name}
 use Rattle.content_models.specs.Particle.{Particle, occurs, all, Particles, none, more}
 use Rattle.content_models.specs.Clear.{empties}
-use Rattle.content_spots.specs.Spots.{picked, pick, missing, unmarked}
+use Rattle.content_models.specs.Spots.{picked, pick, missing, unmarked}
 use Rattle.content_match.specs.Private.Plans.{count_of, pick_one, is_needed, TellsOne, ArePlans, particles_of}
 use Rattle.content_match.specs.Private.Standing.{spot_among, IsLeafAt, SamePlace}
 use Rattle.content_match.specs.declared.places.Leaf.{Leaf}

@@ -1,10 +1,10 @@
 -- The leaf beside the last one, where that is a kid of the top.
 use Rattle.std.specs.Prelude.{◌≡◌, ℕ, suc, ◌+◌, ◌≤◌, List, Some, true, slice_get}
-use Rattle.label_tree.specs.Rose.{Rose, label_of, kids_of}
-use Rattle.xa_base.specs.declared.texts.Name.{Name}
-use Rattle.xa_base.specs.Names.{name_eq}
+use Rattle.base_trees.specs.Rose.{Rose, label_of, kids_of}
+use Rattle.base_texts.specs.declared.texts.Name.{Name}
+use Rattle.base_texts.specs.Names.{name_eq}
 use Rattle.content_models.specs.Particle.{Particle}
-use Rattle.content_spots.specs.Spots.{at, here, inside, next}
+use Rattle.content_models.specs.Spots.{at, here, inside, next}
 use Rattle.content_match.specs.Private.Plans.{IsPlan}
 use Rattle.content_match.specs.Private.Standing.{IsLeaf}
 use Rattle.content_match.specs.declared.beside.Beside.{Beside}

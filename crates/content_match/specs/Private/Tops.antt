@@ -1,11 +1,11 @@
 -- What a plan and a matcher keep of a content model, whether it is an all or not.
 use Rattle.std.specs.Prelude.{◌≡◌, ℕ, ◌≤◌, List, [], Option, None, MatchOption, Bool, true, false}
 use Rattle.std.specs.Vec.{vec_capacity}
-use Rattle.label_tree.specs.Rose.{height}
-use Rattle.xa_base.specs.declared.texts.Name.{Name}
+use Rattle.base_trees.specs.Rose.{height}
+use Rattle.base_texts.specs.declared.texts.Name.{Name}
 use Rattle.content_models.specs.Particle.{Particle, occurs, Term, element, sequence, choice, all}
-use Rattle.content_spots.specs.Spots.{Spot}
-use Rattle.content_spots.specs.Laws.{step_from}
+use Rattle.content_models.specs.Spots.{Spot}
+use Rattle.content_models.specs.SpotLaws.{step_from}
 use Rattle.content_match.specs.Private.Alls.{whole, kids_in, levels_in, needed, no_marks, IsAllPlan, IsMarked, AreMarks}
 use Rattle.content_match.specs.Private.Plans.{IsPlan, particle_of}
 use Rattle.content_match.specs.Private.Standing.{OnWay, spot_in, IsLeafAt, SamePlace}

@@ -1,7 +1,7 @@
 -- Parts of the reading of a node, as the code has them.
 use Rattle.std.specs.Prelude.{ℕ, Option, Some, None, List, slice_get}
 use Rattle.std.specs.List.{position_from}
-use Rattle.label_tree.specs.Rose.{Rose, label_of, kids_of}
+use Rattle.base_trees.specs.Rose.{Rose, label_of, kids_of}
 use Rattle.simple_types.specs.declared.labels.ValueLabel.{ValueLabel}
 use Rattle.asn_types.specs.declared.modules.Assignment.{Assignment}
 use Rattle.asn_types.specs.declared.roles.Role.{Role}
@@ -11,10 +11,10 @@ use Rattle.asn_types.specs.declared.types.Form.TheVariants as form
 use Rattle.asn_types.specs.declared.types.TypeLabel.{TypeLabel}
 use Rattle.asn_values.specs.Values as values
 use Rattle.asn_values.specs.Values.{ComponentPlace, place_at}
-use Rattle.codecs.specs.Reading.{◌>>=◌, with_spot, entered_at}
-use Rattle.der_fields.specs.Reading.{Octets}
-use Rattle.der_form.specs.Encoding.{TaggedPlace, tagged_place}
-use Rattle.der_form.specs.Reading.{starts, parts_from, choice_of, nothing_at, contents_at, is_over, over, headed_at, kept_at, part_at, node_read}
+use Rattle.base_codecs.specs.Reading.{◌>>=◌, with_spot, entered_at}
+use Rattle.der_fields.specs.FieldsReading.{Octets}
+use Rattle.der_fields.specs.Encoding.{TaggedPlace, tagged_place}
+use Rattle.der_fields.specs.Reading.{starts, parts_from, choice_of, nothing_at, contents_at, is_over, over, headed_at, kept_at, part_at, node_read}
 
 abbrev pub below : Role → ℕ → ℕ
 below role depth = values.below role depth

@@ -2,19 +2,19 @@
 use Rattle.std.specs.Prelude.{◌≡◌, ℕ, List, length, Result, Ok, Err}
 use Rattle.std.specs.List.Sorted.{IsStrictlySortedBy}
 use Rattle.std.specs.Ordering.{int_cmp}
-use Rattle.label_tree.specs.Rose.{Rose}
+use Rattle.base_trees.specs.Rose.{Rose}
 use Rattle.simple_types.specs.declared.labels.ValueLabel.{ValueLabel}
 use Rattle.simple_types.specs.Sound.{IsCounted}
 use Rattle.asn_types.specs.declared.modules.Assignment.{Assignment}
 use Rattle.asn_types.specs.declared.types.Form.{Form}
 use Rattle.asn_types.specs.declared.types.Form.TheVariants as form
 use Rattle.asn_types.specs.declared.types.TypeLabel.{TypeLabel}
-use Rattle.codecs.specs.declared.spots.Spot.{Spot}
-use Rattle.codecs.specs.Reading.{◌>>=◌}
+use Rattle.base_codecs.specs.declared.spots.Spot.{Spot}
+use Rattle.base_codecs.specs.Reading.{◌>>=◌}
 use Rattle.der_fields.specs.declared.stops.Stop.{Stop}
-use Rattle.der_fields.specs.Reading.{Octets}
-use Rattle.der_form.specs.Encoding.{TaggedPlace}
-use Rattle.der_form.specs.Reading.{leaf_of, contents_at, owned_at}
+use Rattle.der_fields.specs.FieldsReading.{Octets}
+use Rattle.der_fields.specs.Encoding.{TaggedPlace}
+use Rattle.der_fields.specs.Reading.{leaf_of, contents_at, owned_at}
 use Rattle.der_decode.specs.declared.faults.Fault.{Fault}
 use Rattle.der_decode.specs.declared.faults.Fault.TheVariants as fault
 

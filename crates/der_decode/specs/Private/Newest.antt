@@ -1,6 +1,6 @@
 -- The value that was read behind others.
 use Rattle.std.specs.Prelude.{List, [], ◌∷◌, false}
-use Rattle.label_tree.specs.Rose.{Rose, node, none}
+use Rattle.base_trees.specs.Rose.{Rose, node, none}
 use Rattle.simple_types.specs.declared.labels.ValueLabel.{ValueLabel}
 use Rattle.simple_types.specs.declared.labels.ValueLabel.TheVariants as value
 

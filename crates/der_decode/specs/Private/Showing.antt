@@ -1,12 +1,12 @@
 -- Reading octets, beside what the definitions read of them.
 use Rattle.std.specs.Prelude.{◌≡◌, ℕ, ◌+◌, Bool, Option, List, take, Result, Ok, Err}
-use Rattle.label_tree.specs.Rose.{Rose}
+use Rattle.base_trees.specs.Rose.{Rose}
 use Rattle.simple_types.specs.declared.labels.ValueLabel.{ValueLabel}
-use Rattle.codecs.specs.declared.spots.Spot.{Spot}
-use Rattle.codecs.specs.Reading.{entered_at}
+use Rattle.base_codecs.specs.declared.spots.Spot.{Spot}
+use Rattle.base_codecs.specs.Reading.{entered_at}
 use Rattle.der_fields.specs.declared.stops.Stop.{Stop}
-use Rattle.der_fields.specs.Reading.{Octets, sized_at, tagged_at, expected_at}
-use Rattle.der_form.specs.Reading.{is_over, over, flags_of, those_of}
+use Rattle.der_fields.specs.FieldsReading.{Octets, sized_at, tagged_at, expected_at}
+use Rattle.der_fields.specs.Reading.{is_over, over, flags_of, those_of}
 use Rattle.der_decode.specs.declared.errors.DecodeError.{DecodeError}
 use Rattle.der_decode.specs.declared.errors.DecodeError.TheVariants as error
 use Rattle.der_decode.specs.declared.faults.Fault.{Fault}

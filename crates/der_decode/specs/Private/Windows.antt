@@ -1,10 +1,10 @@
 -- Contents of a definite length, where they are told by where they begin and end.
 use Rattle.std.specs.Prelude.{◌≡◌, ℕ, List, take, Err}
-use Rattle.label_tree.specs.Rose.{Rose}
+use Rattle.base_trees.specs.Rose.{Rose}
 use Rattle.simple_types.specs.declared.labels.ValueLabel.{ValueLabel}
-use Rattle.codecs.specs.declared.spots.Spot.{Spot}
+use Rattle.base_codecs.specs.declared.spots.Spot.{Spot}
 use Rattle.der_fields.specs.declared.stops.Stop.{Stop}
-use Rattle.der_fields.specs.Reading.{Octets, sized_at}
+use Rattle.der_fields.specs.FieldsReading.{Octets, sized_at}
 
 -- behind the length at a spot stand contents from one octet to another
 abbrev pub IsWindow : List ℕ → Spot → ℕ → ℕ → Type 0

@@ -1,13 +1,13 @@
 -- Values and the kids of values, with their types alone.
 use Rattle.std.specs.Prelude.{ℕ, ◌+◌, ◌<◌, Bool, true, false, Option, Some, None, List, [], ◌∷◌, ◌++◌, length}
-use Rattle.label_tree.specs.Rose.{Rose, roses_of, label_of, kids_of}
+use Rattle.base_trees.specs.Rose.{Rose, roses_of, label_of, kids_of}
 use Rattle.simple_types.specs.declared.labels.ValueLabel.{ValueLabel}
 use Rattle.asn_types.specs.declared.modules.Assignment.{Assignment}
 use Rattle.asn_types.specs.declared.types.Form.{Form}
 use Rattle.asn_types.specs.declared.types.Form.TheVariants as form
 use Rattle.asn_types.specs.declared.types.TypeLabel.{TypeLabel}
 use Rattle.asn_values.specs.Values.{ComponentPlace, places, FitsAt, FitEach}
-use Rattle.der_form.specs.Encoding.{tags_of, tagged, contents, der, each_der}
+use Rattle.der_fields.specs.Encoding.{tags_of, tagged, contents, der, each_der}
 
 -- the item with this number is among those of the type
 abbrev pub HasItem : Form → ℕ → Type 0

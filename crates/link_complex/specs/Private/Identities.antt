@@ -3,10 +3,10 @@ use Rattle.std.specs.Prelude.{ℕ, List, map, Option}
 use Rattle.std.specs.Borrow.{Bor}
 use Rattle.std.specs.BTreeMap.{BTreeMap, get_by}
 use Rattle.std.specs.Option.{option_map}
-use Rattle.xa_base.specs.declared.texts.Name.{Name}
-use Rattle.xa_base.specs.Names.{name_cmp}
-use Rattle.schema_parts.specs.Documents.{doc_of}
-use Rattle.schema_parts.specs.declared.documents.RawDoc.{RawDoc}
+use Rattle.base_texts.specs.declared.texts.Name.{Name}
+use Rattle.base_texts.specs.Names.{name_cmp}
+use Rattle.schema_components.specs.Documents.{doc_of}
+use Rattle.schema_components.specs.declared.documents.RawDoc.{RawDoc}
 use Rattle.link_complex.specs.ElementTypes.{TypeIdentity, BuiltIn, ByName, InPlace, TypedElement, TypedParticle, type_at}
 use Rattle.link_complex.specs.Private.Leading.{Leader}
 use Rattle.link_complex.specs.declared.identities.TypeIdentity.{TypeIdentity as KeptType}

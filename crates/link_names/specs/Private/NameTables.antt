@@ -1,6 +1,6 @@
 -- What the tables of names tell.
 use Rattle.std.specs.Prelude.{◌≡◌}
-use Rattle.xa_base.specs.declared.texts.Name.{Name}
+use Rattle.base_texts.specs.declared.texts.Name.{Name}
 use Rattle.link_names.specs.declared.name_tables.NameTable.{NameTable}
 use Rattle.link_names.specs.Private.Tables.{holds}
 use Rattle.link_names.specs.Resolution.{Names}

@@ -3,8 +3,8 @@ use Rattle.std.specs.Prelude.{Bool, false, List, [], ◌∷◌, Option, Some, No
 use Rattle.std.specs.Borrow.{Bor}
 use Rattle.std.specs.BTreeMap.{BTreeMap, get_by}
 use Rattle.std.specs.BTreeSet.{BTreeSet, contains_by}
-use Rattle.xa_base.specs.declared.texts.Name.{Name}
-use Rattle.xa_base.specs.Names.{name_eq, name_cmp}
+use Rattle.base_texts.specs.declared.texts.Name.{Name}
+use Rattle.base_texts.specs.Names.{name_eq, name_cmp}
 use Rattle.link_names.specs.declared.places.Place.{Place}
 use Rattle.link_names.specs.Order.{is_before}
 use Rattle.link_names.specs.Globals.{GlobalComponent}

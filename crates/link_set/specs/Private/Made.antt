@@ -1,7 +1,7 @@
 -- What the simple types of the code stand for with their spaces, for private contracts only.
 use Rattle.std.specs.Prelude.{List, map}
 use Rattle.simple_types.specs.Seen.{space_of}
-use Rattle.link_cycles.specs.Seen.{definition_of}
+use Rattle.link_names.specs.CyclesSeen.{definition_of}
 use Rattle.link_set.specs.Sets.{MadeType, made_type}
 use Rattle.link_set.specs.declared.simples.MadeType.{MadeType as KeptType}
 

@@ -1,6 +1,6 @@
 -- What the lists of the code stand for.
 use Rattle.std.specs.Prelude.{List, map}
-use Rattle.schema_parts.specs.Seen.{element_of, attribute_of}
+use Rattle.schema_components.specs.Seen.{element_of, attribute_of}
 use Rattle.link_set.specs.Written.{WrittenElement, WrittenAttribute, written_element, written_attribute}
 use Rattle.link_set.specs.declared.written.WrittenElement.{WrittenElement as KeptElement}
 use Rattle.link_set.specs.declared.written.WrittenAttribute.{WrittenAttribute as KeptAttribute}

@@ -4,16 +4,16 @@ use Rattle.std.specs.Borrow.{Bor}
 use Rattle.std.specs.BTreeMap.{BTreeMap, get_by}
 use Rattle.std.specs.Option.{option_map}
 use Rattle.std.specs.Ordering.{nat_cmp}
-use Rattle.xa_base.specs.declared.texts.Name.{Name}
-use Rattle.xa_base.specs.Names.{name_cmp}
+use Rattle.base_texts.specs.declared.texts.Name.{Name}
+use Rattle.base_texts.specs.Names.{name_cmp}
 use Rattle.simple_types.specs.declared.simples.Builtin.{Builtin}
-use Rattle.schema_parts.specs.declared.components.GlobalAttribute.{GlobalAttribute}
+use Rattle.schema_components.specs.declared.components.GlobalAttribute.{GlobalAttribute}
 use Rattle.link_set.specs.Builtins.{rank}
 use Rattle.link_set.specs.Numbering.{NamedPlace, entry, ComponentNumbers, TypeNumbers}
 use Rattle.link_set.specs.Private.Seen.{elements_of, attributes_of}
 use Rattle.link_set.specs.Written.{Lists}
-use Rattle.link_cycles.specs.Seen.{definitions_of as simples_of}
-use Rattle.link_cycles.specs.Tables.{named_in, placed_in}
+use Rattle.link_names.specs.CyclesSeen.{definitions_of as simples_of}
+use Rattle.link_names.specs.Tables.{named_in, placed_in}
 use Rattle.link_complex.specs.Seen.{definitions_of as complexes_of}
 use Rattle.link_set.specs.declared.elements.AttributeNames.{AttributeNames}
 use Rattle.link_set.specs.declared.listing.Listed.{Listed}

@@ -1,8 +1,8 @@
 -- What only private contracts need: an order of the nodes of a graph, and the walk that finds it.
 use Rattle.std.specs.Prelude.{◌≡◌, ◌<◌, ◌+◌, ℕ, Bool, true, false, ◌⊎◌, List, [], ◌∷◌, length, replicate, set, take, Option, slice_index, MatchOption}
-use Rattle.xa_base.specs.Lists.{HasItem}
-use Rattle.link_cycles.specs.Graphs.{row, IsEdge, Leads, IsOnCycle}
-use Rattle.link_cycles.specs.Private.Searching.{mark, unseen}
+use Rattle.base_texts.specs.Lists.{HasItem}
+use Rattle.link_names.specs.Graphs.{row, IsEdge, Leads, IsOnCycle}
+use Rattle.link_names.specs.Private.Searching.{mark, unseen}
 use Rattle.link_simple.specs.declared.orders.Step.{Step}
 
 abbrev pub IsAcyclic : List (List ℕ) → Type 0

@@ -1,10 +1,10 @@
 -- What only private contracts need: types of which each part has a number.
 use Rattle.std.specs.Prelude.{◌≡◌, ℕ, List, Some, IsSome, slice_get}
-use Rattle.schema_parts.specs.declared.simple_definitions.RawRef.TheVariants as reference
-use Rattle.schema_parts.specs.Raw.{Base, Named, Inner, Bases, none, more, How, Restrict, ListOf, UnionOf}
+use Rattle.schema_components.specs.declared.simple_definitions.RawRef.TheVariants as reference
+use Rattle.schema_components.specs.Raw.{Base, Named, Inner, Bases, none, more, How, Restrict, ListOf, UnionOf}
 use Rattle.link_names.specs.Order.{place}
-use Rattle.link_cycles.specs.Cycles.{SimpleNumbers, numbers_in}
-use Rattle.link_cycles.specs.SimpleTypes.{SimpleDefinition}
+use Rattle.link_names.specs.Cycles.{SimpleNumbers, numbers_in}
+use Rattle.link_names.specs.SimpleTypes.{SimpleDefinition}
 
 -- a built-in type needs none
 abbrev pub IsPartTold : SimpleNumbers → ℕ → Base → Type 0

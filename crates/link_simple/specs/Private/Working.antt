@@ -6,10 +6,10 @@ use Rattle.simple_types.specs.Space.{Space}
 use Rattle.link_names.specs.declared.places.Place.{Place}
 use Rattle.link_names.specs.declared.faults.LinkingFault.{LinkingFault}
 use Rattle.link_names.specs.Order.{fault, IsFirstSuch}
-use Rattle.link_cycles.specs.Cycles.{numbers_in, edges}
-use Rattle.link_cycles.specs.Graphs.{IsEdge}
-use Rattle.link_cycles.specs.Private.Searching.{mark}
-use Rattle.link_cycles.specs.SimpleTypes.{SimpleDefinition}
+use Rattle.link_names.specs.Cycles.{numbers_in, edges}
+use Rattle.link_names.specs.Graphs.{IsEdge}
+use Rattle.link_names.specs.Private.Searching.{mark}
+use Rattle.link_names.specs.SimpleTypes.{SimpleDefinition}
 use Rattle.link_simple.specs.declared.leaving.Left.{Left}
 use Rattle.link_simple.specs.declared.leaving.Left.TheVariants as left
 use Rattle.link_simple.specs.declared.working.Work.{Work}

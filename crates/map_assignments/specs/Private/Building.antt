@@ -1,18 +1,18 @@
 -- How the parts of a type are made one after another; for private contracts.
 use Rattle.std.specs.Prelude.{◌≡◌, ℕ, Bool, true, false, Option, None, List, [], ◌∷◌, ◌++◌}
 use Rattle.std.specs.List.{All}
-use Rattle.label_tree.specs.Rose.{Rose, node, roses_of}
-use Rattle.label_tree.specs.Rose as rose
+use Rattle.base_trees.specs.Rose.{Rose, node, roses_of}
+use Rattle.base_trees.specs.Rose as rose
 use Rattle.content_models.specs.declared.particles.ParticleLabel.{ParticleLabel}
 use Rattle.content_models.specs.declared.particles.ParticleKind.{ParticleKind}
 use Rattle.content_models.specs.declared.particles.ParticleKind.TheVariants.{Sequence, All as AllKind}
 use Rattle.content_models.specs.Particle.{Term}
 use Rattle.content_models.specs.Seen.{term_seen, seen, all_seen}
 use Rattle.simple_types.specs.declared.standards.Standard.{Standard}
-use Rattle.schema_parts.specs.Components.{Set}
-use Rattle.schema_parts.specs.Linked as linked
-use Rattle.name_map.specs.declared.conversion.NameKind.TheVariants.{Identifier}
-use Rattle.name_map.specs.Taking.{IsTaken}
+use Rattle.schema_components.specs.Components.{Set}
+use Rattle.schema_components.specs.Linked as linked
+use Rattle.asn_names.specs.declared.conversion.NameKind.TheVariants.{Identifier}
+use Rattle.asn_names.specs.Taking.{IsTaken}
 use Rattle.asn_types.specs.declared.marks.Instruction.{Instruction}
 use Rattle.asn_types.specs.declared.types.Component.{Component}
 use Rattle.asn_types.specs.declared.types.Form.TheVariants as form

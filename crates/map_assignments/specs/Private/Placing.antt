@@ -1,7 +1,7 @@
 -- The numbers of assignments as the code keeps them; for private contracts.
 use Rattle.std.specs.Prelude.{◌≡◌, ℕ, ◌<◌, List, map, length, slice_get, unwrap_or}
 use Rattle.asn_types.specs.declared.modules.Assignment.{Assignment}
-use Rattle.schema_parts.specs.Components.{Set}
+use Rattle.schema_components.specs.Components.{Set}
 use Rattle.map_assignments.specs.declared.places.Places.{Places}
 use Rattle.map_subjects.specs.declared.subjects.Subject.{Subject}
 use Rattle.map_subjects.specs.declared.subjects.Subject.TheVariants.{Element, Attribute, Simple, Complex, Nillable}

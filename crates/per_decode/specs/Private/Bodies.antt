@@ -1,6 +1,6 @@
 -- Parts of the reading of a node, as the code has them.
 use Rattle.std.specs.Prelude.{ℕ, Bool, true, false, Result, Option, Some, None, List, [], ◌∷◌, ◌++◌, slice_get, replicate, Ok}
-use Rattle.label_tree.specs.Rose.{Rose, Roses, label_of, kids_of, node, none}
+use Rattle.base_trees.specs.Rose.{Rose, Roses, label_of, kids_of, node, none}
 use Rattle.simple_types.specs.declared.labels.ValueLabel.{ValueLabel}
 use Rattle.simple_types.specs.declared.labels.ValueLabel.TheVariants as value
 use Rattle.asn_types.specs.declared.modules.Assignment.{Assignment}
@@ -13,7 +13,7 @@ use Rattle.asn_types.specs.Bounds.{IsBounded}
 use Rattle.asn_types.specs.Modules.{IsModule}
 use Rattle.asn_values.specs.Values as values
 use Rattle.asn_values.specs.Values.{ComponentPlace, FitEach, FitsAt, place_at}
-use Rattle.codecs.specs.declared.spots.Spot.{Spot}
+use Rattle.base_codecs.specs.declared.spots.Spot.{Spot}
 use Rattle.per_fields.specs.declared.stops.Stop.{Stop}
 use Rattle.per_fields.specs.Reading.{◌>>=◌, Reader, each_at}
 use Rattle.per_fields.specs.Nodes.{content_at, kept_at, part_at, owned_at, node_read, nothing_at, last_at}

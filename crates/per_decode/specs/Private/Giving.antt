@@ -1,7 +1,7 @@
 -- Reading a source of bits, beside reading the bits that it began with.
 use Rattle.std.specs.Prelude.{◌≡◌, ℕ, ◌+◌, ◌*◌, ◌<◌, ◌≤◌, Bool, false, Option, Some, List, length, take, drop, Result, Ok, Err, IfOk}
-use Rattle.bit_cursor.specs.Bits.{octet_bits}
-use Rattle.codecs.specs.declared.spots.Spot.{Spot}
+use Rattle.base_codecs.specs.Bits.{octet_bits}
+use Rattle.base_codecs.specs.declared.spots.Spot.{Spot}
 use Rattle.per_fields.specs.declared.stops.Stop.{Stop}
 use Rattle.per_fields.specs.declared.stops.Why.TheVariants as reasons
 use Rattle.per_fields.specs.Reading.{Reader, stop_at}

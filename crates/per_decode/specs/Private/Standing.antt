@@ -1,7 +1,7 @@
 -- What it is for a source of bits to stand at a position of the octets that it began with.
 use Rattle.std.specs.Prelude.{◌≡◌, ℕ, ◌≤◌, Option, Some, List, length, take, drop}
-use Rattle.bit_cursor.specs.Bits.{octet_bits}
-use Rattle.bit_cursor.specs.Cursors.{IsInStep, ahead}
+use Rattle.base_codecs.specs.Bits.{octet_bits}
+use Rattle.base_codecs.specs.Cursors.{IsInStep, ahead}
 
 -- Of these octets so many were taken, and those behind them are left. Where just the octets with a bit before the position were
 -- taken, the bits ahead are those behind the position, of the octets up to the limit.

@@ -1,6 +1,6 @@
 -- Values and the kids of values, with their types alone.
 use Rattle.std.specs.Prelude.{ℕ, Bool, true, false, Option, Some, None, List, [], ◌∷◌, length, map}
-use Rattle.label_tree.specs.Rose.{Rose, label_of, kids_of}
+use Rattle.base_trees.specs.Rose.{Rose, label_of, kids_of}
 use Rattle.simple_types.specs.declared.labels.ValueLabel.{ValueLabel}
 use Rattle.asn_types.specs.declared.modules.Assignment.{Assignment}
 use Rattle.asn_types.specs.declared.types.TypeLabel.{TypeLabel}

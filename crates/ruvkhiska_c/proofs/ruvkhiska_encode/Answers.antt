@@ -1,6 +1,6 @@
 use Rattle.std.proofs.Common.{rules, ◌≡◌, ℕ, length, take, Box, Global, Some}
-use Rattle.messages.specs.declared.converting.Message.{Message}
-use Rattle.messages.specs.Messages.{IsLine}
+use Rattle.transcode_messages.specs.declared.converting.Message.{Message}
+use Rattle.transcode_messages.specs.Messages.{IsLine}
 use Rattle.transcode_core.specs.Preparing.{prepared_seen}
 use Rattle.ruvkhiska_c.specs.Statuses.{EncodedBy}
 use Rattle.ruvkhiska_c.proofs.Refusals.{answer_told, answer_given}

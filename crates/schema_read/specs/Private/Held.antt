@@ -1,12 +1,12 @@
 -- For private contracts alone: what the values of the code can hold of the components of a document.
 use Rattle.std.specs.Prelude.{◌+◌, ◌<◌, ◌≤◌, ◌^◌, List, [], ◌∷◌, ◌++◌, length, map, Option, Some, None}
-use Rattle.label_tree.specs.Rose.{Allowed}
+use Rattle.base_trees.specs.Rose.{Allowed}
 use Rattle.content_models.specs.Kids.{MayHave}
-use Rattle.schema_parts.specs.declared.declarations.RawContent.{RawContent}
-use Rattle.schema_parts.specs.declared.declarations.RawContent.TheVariants as content
-use Rattle.schema_parts.specs.declared.declarations.RawLocal.{RawLocal}
-use Rattle.schema_parts.specs.Raw.{Complex, Kind, NamedKind, SimpleKind, ComplexKind, Element, Local, Reference, Own, TypeDefinition, SimpleType, ComplexType}
-use Rattle.schema_parts.specs.Seen.{local_of}
+use Rattle.schema_components.specs.declared.declarations.RawContent.{RawContent}
+use Rattle.schema_components.specs.declared.declarations.RawContent.TheVariants as content
+use Rattle.schema_components.specs.declared.declarations.RawLocal.{RawLocal}
+use Rattle.schema_components.specs.Raw.{Complex, Kind, NamedKind, SimpleKind, ComplexKind, Element, Local, Reference, Own, TypeDefinition, SimpleType, ComplexType}
+use Rattle.schema_components.specs.Seen.{local_of}
 use Rattle.schema_read.specs.Particles.{Made}
 use Rattle.schema_read.specs.Raw.{Parts}
 

@@ -1,7 +1,7 @@
 -- What is due before it is written: the result, or the first refusal.
 use Rattle.std.specs.Prelude.{ℕ, List, Option, Result}
-use Rattle.command_line.specs.declared.outcome.Outcome.{Outcome}
-use Rattle.command_line.specs.Order.{Then}
+use Rattle.transcode_words.specs.declared.outcome.Outcome.{Outcome}
+use Rattle.transcode_words.specs.Order.{Then}
 use Rattle.transcode_core.specs.Due.{Requested, Answered}
 
 abbrev pub Decided : List (List ℕ) → Option (List (List ℕ × List ℕ)) → Option (List ℕ) → Result (List ℕ) Outcome → Type 0

@@ -1,6 +1,6 @@
 -- The set that the code opens, and the map of this.
 use Rattle.std.specs.Prelude.{ℕ}
-use Rattle.schema_parts.specs.SetParts.{SetParts, parts_of}
+use Rattle.schema_components.specs.SetParts.{SetParts, parts_of}
 use Rattle.transcode_core.specs.declared.opened.Opened.{Opened}
 use Rattle.transcode_core.specs.declared.opened.RootModule.{RootModule}
 use Rattle.transcode_core.specs.Steps.{RootType}

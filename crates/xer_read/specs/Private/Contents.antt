@@ -1,12 +1,12 @@
 -- What is read of the content of an element, and how its value is made of it.
 use Rattle.std.specs.Prelude.{◌≡◌, ℕ, suc, Bool, true, false, not, List, [], ◌∷◌, ◌++◌, length, map, All, Option, Some, None, slice_get, MatchBool}
-use Rattle.xa_base.specs.declared.texts.Name.{Name}
-use Rattle.label_tree.specs.Rose.{Rose, node, Roses, roses_of}
-use Rattle.label_tree.specs.Rose as rose
-use Rattle.flat_tree.specs.Zips.{Zip, opened, added}
+use Rattle.base_texts.specs.declared.texts.Name.{Name}
+use Rattle.base_trees.specs.Rose.{Rose, node, Roses, roses_of}
+use Rattle.base_trees.specs.Rose as rose
+use Rattle.base_flat_trees.specs.Zips.{Zip, opened, added}
 use Rattle.simple_types.specs.declared.labels.ValueLabel.{ValueLabel}
 use Rattle.simple_types.specs.declared.labels.ValueLabel.TheVariants as value
-use Rattle.simple_values.specs.Reading.{Accepts, spelled}
+use Rattle.simple_types.specs.Reading.{Accepts, spelled}
 use Rattle.simple_types.specs.Labels.{count_set}
 use Rattle.simple_types.specs.Sound.{Sound}
 use Rattle.simple_types.specs.Space.{Space}
@@ -18,22 +18,22 @@ use Rattle.content_models.specs.Particle.{Particle}
 use Rattle.content_models.specs.Clear.{IsNoAll}
 use Rattle.content_models.specs.Language.{Leaf, Lang}
 use Rattle.content_models.specs.Seen.{seen}
-use Rattle.item_tree.specs.declared.label.ItemLabel.{ItemLabel}
-use Rattle.doc_text.specs.Sound.{levels_all}
-use Rattle.plain_items.specs.Plain.{Plain}
-use Rattle.plain_items.specs.Mixing.{interleaved, child_elements}
-use Rattle.schema_parts.specs.declared.components.AttributeUse.{AttributeUse}
-use Rattle.schema_parts.specs.declared.components.ElementDecl.{ElementDecl}
-use Rattle.schema_parts.specs.declared.components.TypeOf.TheVariants as kind
-use Rattle.schema_parts.specs.Components.{Set}
-use Rattle.schema_parts.specs.Linked.{leaves, IsNamed, IsModel}
-use Rattle.schema_parts.specs.SetParts.{parts_of}
-use Rattle.validity.specs.Asked.{Asked, Attribute, Inside, nothing, simple, children, asked, attribute_in, asked_at}
-use Rattle.validity.specs.Attributes.{text_of, left, IsFixedTo, Takes, treated_attribute}
-use Rattle.validity.specs.Valid.{only_text, text_kids, KidsValid}
+use Rattle.xml_items.specs.declared.label.ItemLabel.{ItemLabel}
+use Rattle.xml_read.specs.Sound.{levels_all}
+use Rattle.xml_items.specs.Plain.{Plain}
+use Rattle.xml_items.specs.Mixing.{interleaved, child_elements}
+use Rattle.schema_components.specs.declared.components.AttributeUse.{AttributeUse}
+use Rattle.schema_components.specs.declared.components.ElementDecl.{ElementDecl}
+use Rattle.schema_components.specs.declared.components.TypeOf.TheVariants as kind
+use Rattle.schema_components.specs.Components.{Set}
+use Rattle.schema_components.specs.Linked.{leaves, IsNamed, IsModel}
+use Rattle.schema_components.specs.SetParts.{parts_of}
+use Rattle.validity_rules.specs.Asked.{Asked, Attribute, Inside, nothing, simple, children, asked, attribute_in, asked_at}
+use Rattle.validity_rules.specs.Attributes.{text_of, left, IsFixedTo, Takes, treated_attribute}
+use Rattle.validity_rules.specs.Valid.{only_text, text_kids, KidsValid}
 use Rattle.validity_check.specs.Told.{model_at}
 use Rattle.value_builder.specs.Built.{Built, Stands, Puts, with_parts}
-use Rattle.content_values.specs.Made.{Child, TopMade}
+use Rattle.value_contents.specs.Made.{Child, TopMade}
 use Rattle.xer_read.specs.Private.Held.{Beside, Held, texts_of}
 use Rattle.xer_read.specs.Private.Held as held
 use Rattle.xer_read.specs.declared.gathering.Gathered.{Gathered}

@@ -1,16 +1,16 @@
 -- What a value gives to the element that it stands for: in each map of the set, and wherever it stands.
 use Rattle.std.specs.Prelude.{◌≡◌, ℕ, ◌+◌, ◌≤◌, List, Some, slice_get, IsSomeAnd}
-use Rattle.label_tree.specs.Rose.{Rose, Roses, label_of}
+use Rattle.base_trees.specs.Rose.{Rose, Roses, label_of}
 use Rattle.simple_types.specs.declared.labels.ValueLabel.{ValueLabel}
 use Rattle.simple_types.specs.Space.{Space}
-use Rattle.simple_values.specs.Reading.{Accepts}
-use Rattle.item_tree.specs.declared.label.ItemLabel.{ItemLabel}
-use Rattle.item_tree.specs.declared.label.ItemLabel.TheVariants.{Element, Text}
-use Rattle.doc_text.specs.Sound.{levels}
-use Rattle.plain_items.specs.Plain.{Plain}
-use Rattle.schema_parts.specs.declared.components.ElementDecl.{ElementDecl}
-use Rattle.schema_parts.specs.Components.{Set}
-use Rattle.schema_parts.specs.SetParts.{parts_of}
+use Rattle.simple_types.specs.Reading.{Accepts}
+use Rattle.xml_items.specs.declared.label.ItemLabel.{ItemLabel}
+use Rattle.xml_items.specs.declared.label.ItemLabel.TheVariants.{Element, Text}
+use Rattle.xml_read.specs.Sound.{levels}
+use Rattle.xml_items.specs.Plain.{Plain}
+use Rattle.schema_components.specs.declared.components.ElementDecl.{ElementDecl}
+use Rattle.schema_components.specs.Components.{Set}
+use Rattle.schema_components.specs.SetParts.{parts_of}
 use Rattle.asn_types.specs.declared.modules.Assignment.{Assignment}
 use Rattle.asn_types.specs.declared.types.TypeLabel.{TypeLabel}
 use Rattle.asn_types.specs.Refs.{resolve}
@@ -20,8 +20,8 @@ use Rattle.map_assignments.specs.Mapped.{IsMapOf}
 use Rattle.map_laws.specs.Standing.{HasContent}
 use Rattle.map_laws.specs.Statements.{IsTypeAt}
 use Rattle.xer_items.specs.Items.{Given, element_of, inside}
-use Rattle.validity.specs.Asked.{asked_at, name_at}
-use Rattle.validity.specs.Valid.{only_text, HasName, ValidBy}
+use Rattle.validity_rules.specs.Asked.{asked_at, name_at}
+use Rattle.validity_rules.specs.Valid.{only_text, HasName, ValidBy}
 
 -- the kids are a text alone, which has this value
 abbrev pub IsReadAs : Space → Roses ItemLabel → Rose ValueLabel → Type 0

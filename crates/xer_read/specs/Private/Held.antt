@@ -1,10 +1,10 @@
 -- The content of an element by its values.
 use Rattle.std.specs.Prelude.{ℕ, Bool, List}
-use Rattle.label_tree.specs.Rose.{Rose, node, roses_of}
+use Rattle.base_trees.specs.Rose.{Rose, node, roses_of}
 use Rattle.simple_types.specs.declared.labels.ValueLabel.{ValueLabel}
 use Rattle.simple_types.specs.declared.labels.ValueLabel.TheVariants as value
 use Rattle.content_models.specs.declared.particles.ParticleLabel.{ParticleLabel}
-use Rattle.content_values.specs.Made.{Child}
+use Rattle.value_contents.specs.Made.{Child}
 
 -- what stands in an element beside the texts of mixed content
 pub data Beside : Type 0 where

@@ -1,32 +1,32 @@
 -- The kids of an element as they are walked, one by one: child elements by their values, and the texts between them.
 use Rattle.std.specs.Prelude.{◌≡◌, ℕ, ◌≤◌, Bool, true, false, List, [], ◌∷◌, ◌++◌, length, map, Option, Some, None}
-use Rattle.xa_base.specs.declared.texts.Name.{Name}
-use Rattle.label_tree.specs.Rose.{Rose, node, Roses, roses_of, label_of}
-use Rattle.label_tree.specs.Rose as rose
-use Rattle.flat_tree.specs.Zips.{Zip}
+use Rattle.base_texts.specs.declared.texts.Name.{Name}
+use Rattle.base_trees.specs.Rose.{Rose, node, Roses, roses_of, label_of}
+use Rattle.base_trees.specs.Rose as rose
+use Rattle.base_flat_trees.specs.Zips.{Zip}
 use Rattle.simple_types.specs.declared.labels.ValueLabel.{ValueLabel}
 use Rattle.simple_types.specs.declared.labels.ValueLabel.TheVariants as value
 use Rattle.content_models.specs.Particle.{Particle, occurs, Term, element, Particles, none, more}
 use Rattle.content_models.specs.Language.{Leaf}
-use Rattle.content_spots.specs.Spots.{Spot, at, among, unmarked}
+use Rattle.content_models.specs.Spots.{Spot, at, among, unmarked}
 use Rattle.content_match.specs.Taking.{Matched, Took, spot_of}
-use Rattle.item_tree.specs.declared.label.ItemLabel.{ItemLabel}
-use Rattle.item_tree.specs.declared.label.ItemLabel.TheVariants.{Element, Text}
-use Rattle.doc_text.specs.Sound.{levels_all}
-use Rattle.plain_items.specs.Plain.{Plain}
-use Rattle.plain_items.specs.Mixing.{child_elements}
-use Rattle.schema_parts.specs.Components.{Set}
+use Rattle.xml_items.specs.declared.label.ItemLabel.{ItemLabel}
+use Rattle.xml_items.specs.declared.label.ItemLabel.TheVariants.{Element, Text}
+use Rattle.xml_read.specs.Sound.{levels_all}
+use Rattle.xml_items.specs.Plain.{Plain}
+use Rattle.xml_items.specs.Mixing.{child_elements}
+use Rattle.schema_components.specs.Components.{Set}
 use Rattle.asn_values.specs.Ordering.{taken}
 use Rattle.asn_values.specs.Orders.{are_just_set}
-use Rattle.schema_parts.specs.Linked.{IsNamed}
-use Rattle.schema_parts.specs.SetParts.{parts_of}
+use Rattle.schema_components.specs.Linked.{IsNamed}
+use Rattle.schema_components.specs.SetParts.{parts_of}
 use Rattle.xer_items.specs.Items.{Given, element_of}
-use Rattle.validity.specs.Asked.{asked_at}
-use Rattle.validity.specs.Valid.{KidsValid}
-use Rattle.validity.specs.Faults.{front}
+use Rattle.validity_rules.specs.Asked.{asked_at}
+use Rattle.validity_rules.specs.Valid.{KidsValid}
+use Rattle.validity_rules.specs.Faults.{front}
 use Rattle.value_builder.specs.Built.{Built, Stands}
-use Rattle.content_values.specs.Made.{Child}
-use Rattle.content_values.specs.Reached.{Put}
+use Rattle.value_contents.specs.Made.{Child}
+use Rattle.value_contents.specs.Reached.{Put}
 use Rattle.xer_read.specs.Private.Given.{Gives}
 use Rattle.xer_read.specs.declared.gathering.Gathered.{Gathered}
 use Rattle.xer_read.specs.Private.Slots.{flags_of, Keeps}

@@ -1,16 +1,16 @@
 -- What is put down by a step of the walk.
 use Rattle.std.specs.Prelude.{◌≡◌, ◌≤◌, ℕ, Bool, cond, List, [], Some}
-use Rattle.label_tree.specs.Rose.{Rose}
-use Rattle.flat_tree.specs.Zips.{Zip, added}
+use Rattle.base_trees.specs.Rose.{Rose}
+use Rattle.base_flat_trees.specs.Zips.{Zip, added}
 use Rattle.simple_types.specs.declared.labels.ValueLabel.{ValueLabel}
 use Rattle.content_models.specs.Particle.{Particle}
-use Rattle.content_spots.specs.Spots.{Spot}
+use Rattle.content_models.specs.Spots.{Spot}
 use Rattle.content_match.specs.Private.Standing.{spot_now}
 use Rattle.content_match.specs.Taking.{Matched, spot_of}
 use Rattle.content_match.specs.declared.places.Turn.{Turn}
 use Rattle.value_builder.specs.Built.{Built, Stands, Puts, with_parts}
-use Rattle.content_values.specs.Made.{Child}
-use Rattle.content_values.specs.Reached.{TopReached, Put}
+use Rattle.value_contents.specs.Made.{Child}
+use Rattle.value_contents.specs.Reached.{TopReached, Put}
 use Rattle.xer_read.specs.declared.ways.Way.{Way}
 
 -- a value of which P holds, behind what stood before

@@ -1,14 +1,14 @@
 -- The child elements of an all: a slot for each of its particles, and the numbers of the particles in the order in which their
 -- elements came.
 use Rattle.std.specs.Prelude.{◌≡◌, ℕ, zero, suc, ◌+◌, ◌-◌, ◌^◌, ◌≤◌, ◌<◌, min, Bool, true, false, List, [], ◌∷◌, map, Option, Some, None}
-use Rattle.label_tree.specs.Rose.{Rose, node, roses_of}
-use Rattle.label_tree.specs.Rose as rose
-use Rattle.flat_tree.specs.Zips.{added}
+use Rattle.base_trees.specs.Rose.{Rose, node, roses_of}
+use Rattle.base_trees.specs.Rose as rose
+use Rattle.base_flat_trees.specs.Zips.{added}
 use Rattle.simple_types.specs.declared.labels.ValueLabel.{ValueLabel}
 use Rattle.simple_types.specs.declared.labels.ValueLabel.TheVariants as value
 use Rattle.content_models.specs.Particle.{Particle, occurs, all, Particles, none, more}
 use Rattle.value_builder.specs.Built.{Built, nothing_of, Stands}
-use Rattle.content_values.specs.Made.{Child}
+use Rattle.value_contents.specs.Made.{Child}
 use Rattle.xer_read.specs.declared.gathering.Gathered.{Gathered}
 
 -- ---- slots

@@ -1,21 +1,21 @@
 -- What the code has of what stands in an element.
 use Rattle.std.specs.Prelude.{◌≡◌, ℕ, List, [], ◌∷◌, ◌++◌, Option, Some, None, drop, length, map, slice_get}
-use Rattle.label_tree.specs.Rose.{Rose, node, Roses, none, roses_of, list_of, label_of}
-use Rattle.xa_base.specs.declared.texts.Name.{Name}
+use Rattle.base_trees.specs.Rose.{Rose, node, Roses, none, roses_of, list_of, label_of}
+use Rattle.base_texts.specs.declared.texts.Name.{Name}
 use Rattle.simple_types.specs.declared.labels.ValueLabel.{ValueLabel}
-use Rattle.simple_values.specs.Reading.{spelled_text}
-use Rattle.item_tree.specs.declared.label.ItemLabel.{ItemLabel}
-use Rattle.item_tree.specs.declared.label.ItemLabel.TheVariants.{Element}
-use Rattle.plain_items.specs.Plain.{Plain}
-use Rattle.plain_items.specs.Mixing.{text_before}
+use Rattle.simple_types.specs.Reading.{spelled_text}
+use Rattle.xml_items.specs.declared.label.ItemLabel.{ItemLabel}
+use Rattle.xml_items.specs.declared.label.ItemLabel.TheVariants.{Element}
+use Rattle.xml_items.specs.Plain.{Plain}
+use Rattle.xml_items.specs.Mixing.{text_before}
 use Rattle.xer_items.specs.Items.{Given}
 use Rattle.xer_write.specs.declared.receiver.Receiver.{Receiver}
 use Rattle.xer_write.specs.Private.Receiving.{Tells, Opens, IsWritten}
 use Rattle.xer_write.specs.declared.receiver.Open.TheVariants as open_element
-use Rattle.doc_write.specs.declared.builder.OpenTag.{OpenTag}
+use Rattle.xml_write.specs.declared.builder.OpenTag.{OpenTag}
 use Rattle.xer_write.specs.declared.contents.Contents.{Contents}
 use Rattle.xer_write.specs.declared.contents.Outer.{Outer}
-use Rattle.plain_items.specs.Unplaced.{all_unplaced}
+use Rattle.xml_items.specs.Unplaced.{all_unplaced}
 use Rattle.xer_write.specs.Private.Utf8.{AreUtf8, ItemIsUtf8, ItemsAreUtf8}
 
 abbrev pub items_in : Roses Plain → List (Rose ItemLabel)

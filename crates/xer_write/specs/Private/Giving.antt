@@ -1,6 +1,6 @@
 -- What values give, as the code finds it.
 use Rattle.std.specs.Prelude.{ℕ, Bool, true, false, ◌&&◌, ◌||◌, length, List, [], ◌∷◌, Option, None, Some}
-use Rattle.label_tree.specs.Rose.{Rose, label_of, kids_of, roses_of}
+use Rattle.base_trees.specs.Rose.{Rose, label_of, kids_of, roses_of}
 use Rattle.simple_types.specs.declared.labels.ValueLabel.{ValueLabel}
 use Rattle.asn_types.specs.declared.types.Component.{Component}
 use Rattle.asn_types.specs.declared.types.TypeLabel.{TypeLabel}
@@ -10,9 +10,9 @@ use Rattle.asn_types.specs.Modules.{IsModule}
 use Rattle.asn_types.specs.Refs.{IsOf}
 use Rattle.asn_types.specs.Marks.{has_use_order}
 use Rattle.asn_values.specs.Values.{ComponentPlace, places, ordered_flags, order_of}
-use Rattle.plain_items.specs.Mixing.{interleaved}
+use Rattle.xml_items.specs.Mixing.{interleaved}
 use Rattle.xer_items.specs.Items.{Given, given, nothing, with_order, completed, placed, inside, gathered, root_of}
-use Rattle.plain_items.specs.Unplaced.{unplaced}
+use Rattle.xml_items.specs.Unplaced.{unplaced}
 use Rattle.xer_write.specs.declared.receiver.Receiver.{Receiver}
 use Rattle.xer_write.specs.declared.contents.Contents.{Contents}
 use Rattle.xer_write.specs.declared.presence.Place.{Place}

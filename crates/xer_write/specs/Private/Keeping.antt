@@ -1,8 +1,8 @@
 -- Child elements that are told later, as the code keeps them.
 use Rattle.std.specs.Prelude.{◌≡◌, ℕ, ◌≤◌, false, List, [], map, Some, slice_get}
 use Rattle.std.specs.List.{AllByRecursion}
-use Rattle.label_tree.specs.Rose.{Rose, none, label_of, kids_of, node_count}
-use Rattle.plain_items.specs.Mixing.{child_elements}
+use Rattle.base_trees.specs.Rose.{Rose, none, label_of, kids_of, node_count}
+use Rattle.xml_items.specs.Mixing.{child_elements}
 use Rattle.asn_types.specs.declared.modules.Assignment.{Assignment}
 use Rattle.asn_types.specs.declared.roles.Role.TheVariants.{Group, Content}
 use Rattle.asn_types.specs.declared.types.Component.{Component}

@@ -1,14 +1,14 @@
 -- What is told to a receiver.
 use Rattle.std.specs.Prelude.{◌≡◌, ◌<◌, ℕ, List, [], ◌++◌, Option, None, length}
 use Rattle.std.specs.Global.{Vec}
-use Rattle.xa_base.specs.declared.texts.Name.{Name}
-use Rattle.label_tree.specs.Rose.{Rose}
-use Rattle.flat_tree.specs.Zips.{added_all, opened, closed}
-use Rattle.flat_tree.specs.Zips.{nothing as outside}
-use Rattle.item_tree.specs.declared.label.ItemLabel.{ItemLabel}
-use Rattle.item_tree.specs.declared.label.ItemLabel.TheVariants.{Element}
-use Rattle.item_tree.specs.Building.{listed}
-use Rattle.doc_write.specs.Telling as told
+use Rattle.base_texts.specs.declared.texts.Name.{Name}
+use Rattle.base_trees.specs.Rose.{Rose}
+use Rattle.base_flat_trees.specs.Zips.{added_all, opened, closed}
+use Rattle.base_flat_trees.specs.Zips.{nothing as outside}
+use Rattle.xml_items.specs.declared.label.ItemLabel.{ItemLabel}
+use Rattle.xml_items.specs.declared.label.ItemLabel.TheVariants.{Element}
+use Rattle.xml_items.specs.Building.{listed}
+use Rattle.xml_write.specs.Telling as told
 use Rattle.xer_write.specs.declared.receiver.NameRef.{NameRef}
 use Rattle.xer_write.specs.declared.receiver.Built.{Built}
 use Rattle.xer_write.specs.declared.receiver.Receiver.{Receiver}

@@ -1,9 +1,9 @@
 -- The texts and the values of attributes of items are UTF-8.
 use Rattle.std.specs.Prelude.{ℕ, List, [], ◌∷◌, IsUtf8}
-use Rattle.xa_base.specs.declared.texts.Name.{Name}
-use Rattle.label_tree.specs.Rose.{Rose, node, Roses, none, more}
-use Rattle.item_tree.specs.declared.label.ItemLabel.{ItemLabel}
-use Rattle.item_tree.specs.declared.label.ItemLabel.TheVariants.{Element, Text}
+use Rattle.base_texts.specs.declared.texts.Name.{Name}
+use Rattle.base_trees.specs.Rose.{Rose, node, Roses, none, more}
+use Rattle.xml_items.specs.declared.label.ItemLabel.{ItemLabel}
+use Rattle.xml_items.specs.declared.label.ItemLabel.TheVariants.{Element, Text}
 
 abbrev pub AreUtf8 : List (Name × List ℕ) → Type 0
 AreUtf8 [] = Unit {0}

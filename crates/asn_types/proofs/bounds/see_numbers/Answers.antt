@@ -5,7 +5,7 @@ use Rattle.std.specs.Int.RustNames.{FitsSigned}
 use Rattle.std.proofs.lemmas.Int.{to_z-of_z}
 use Rattle.std.proofs.lemmas.List.{take_all, take_more}
 use Rattle.std.proofs.lemmas.List.Elements.{All-push}
-use Rattle.simple_values.specs.Lexical.{is_128_bits}
+use Rattle.simple_types.specs.Lexical.{is_128_bits}
 use Rattle.asn_types.specs.Bounds.{AreWhole}
 use Rattle.asn_types.proofs.bounds.see_numbers.Goals as goal
 

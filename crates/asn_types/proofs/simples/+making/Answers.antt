@@ -1,7 +1,7 @@
 use Rattle.std.proofs.Common.{sym, ap, ◌∙◌, arith, take}
-use Rattle.label_tree.specs.Rose.{roses_of}
-use Rattle.label_tree.proofs.Roses.{node_count-kids}
-use Rattle.label_tree.proofs.Kids.{kid-count-le, take-more_kid}
+use Rattle.base_trees.specs.Rose.{roses_of}
+use Rattle.base_trees.proofs.Roses.{node_count-kids}
+use Rattle.base_trees.proofs.Kids.{kid-count-le, take-more_kid}
 use Rattle.simple_types.specs.Space.{ListOf, UnionOf}
 use Rattle.simple_types.specs.Seen.{space_of, spaces_in}
 use Rattle.simple_types.proofs.Seen.{union_space, list_space}

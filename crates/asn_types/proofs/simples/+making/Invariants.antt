@@ -1,5 +1,5 @@
 use Rattle.std.proofs.Common.{◌≡◌, ◌+◌, ◌*◌, take}
-use Rattle.label_tree.specs.Rose.{node_count, count_all, roses_of}
+use Rattle.base_trees.specs.Rose.{node_count, count_all, roses_of}
 use Rattle.simple_types.specs.Seen.{spaces_in}
 use Rattle.asn_types.specs.Spaces.{spaces_at}
 use Rattle.asn_types.proofs.simples.+making.Given as goal

@@ -1,9 +1,9 @@
 use Rattle.std.specs.Prelude.{slice_get, MatchOption}
 use Rattle.std.proofs.lemmas.Bool.Decides.{nat_tests}
 use Rattle.std.proofs.Common.{◌≡◌, ◌<◌, length, take, sym, ap, ◌∙◌, subst, arith, [], ◌∷◌, ◌++◌, ◌+◌}
-use Rattle.label_tree.specs.Rose.{roses_of, kids_of}
-use Rattle.label_tree.proofs.Roses.{node_count-kids}
-use Rattle.label_tree.proofs.Kids.{kid-count-le, take-more_kid}
+use Rattle.base_trees.specs.Rose.{roses_of, kids_of}
+use Rattle.base_trees.proofs.Roses.{node_count-kids}
+use Rattle.base_trees.proofs.Kids.{kid-count-le, take-more_kid}
 use Rattle.simple_types.specs.Space.{Spaces, ListOf, UnionOf}
 use Rattle.simple_types.specs.Seen.{space_of, spaces_in}
 use Rattle.simple_types.specs.Sound.{Sound, AreSound, has_list, is_union}

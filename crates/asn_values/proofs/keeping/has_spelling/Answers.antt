@@ -1,5 +1,5 @@
 use Rattle.std.proofs.Common.{sym, subst}
-use Rattle.label_tree.specs.Rose.{Allowed}
+use Rattle.base_trees.specs.Rose.{Allowed}
 use Rattle.asn_types.specs.Parts.{MayHave}
 use Rattle.asn_types.specs.Refs.{resolve}
 use Rattle.asn_types.proofs.Chaining.{of-allowed, resolved-of-module}

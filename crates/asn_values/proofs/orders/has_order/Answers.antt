@@ -1,6 +1,6 @@
 use Rattle.std.proofs.Common.{◌≡◌, ◌∙◌, [], sym, ap, subst}
 use Rattle.std.specs.Prelude.{map, MatchOption}
-use Rattle.label_tree.specs.Rose.{label_of, kids_of}
+use Rattle.base_trees.specs.Rose.{label_of, kids_of}
 use Rattle.asn_values.specs.Orders.{are_just_set}
 use Rattle.asn_values.specs.Values.{item_number, order_of, ordered_flags}
 use Rattle.asn_values.proofs.JustSet.{just_set}

@@ -1,5 +1,5 @@
 use Rattle.std.proofs.Common.{sym}
-use Rattle.simple_values.proofs.Spellings.{found_at, missed_at}
+use Rattle.simple_types.proofs.Spellings.{found_at, missed_at}
 use Rattle.asn_values.proofs.Ordering.{set-some, set-none}
 use Rattle.asn_values.proofs.orders.is_set.Goals as goal
 

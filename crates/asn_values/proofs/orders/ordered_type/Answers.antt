@@ -1,7 +1,7 @@
 use Rattle.std.proofs.Common.{◌≡◌, ◌-◌, ◌∙◌, Some, None, length, sym, ap}
 use Rattle.std.specs.Prelude.{slice_get}
-use Rattle.label_tree.specs.Rose.{label_of, kids_of}
-use Rattle.simple_values.proofs.Spellings.{found_at, missed_at}
+use Rattle.base_trees.specs.Rose.{label_of, kids_of}
+use Rattle.simple_types.proofs.Spellings.{found_at, missed_at}
 use Rattle.asn_types.specs.Marks.{has_use_nil}
 use Rattle.asn_types.specs.Parts.{parts_of}
 use Rattle.asn_values.proofs.Ordering.{ordered-nil, ordered-none}

@@ -1,7 +1,7 @@
 use Rattle.std.proofs.Common.{◌<◌, ◌+◌, sym, ap, ◌∙◌, length, arith, ◌∷◌, [], ◌++◌}
 use Rattle.std.specs.Prelude.{map}
 use Rattle.std.proofs.lemmas.List.{map-append}
-use Rattle.label_tree.specs.Rose.{node, none}
+use Rattle.base_trees.specs.Rose.{node, none}
 use Rattle.asn_values.specs.Private.Placing.{place_seen}
 use Rattle.asn_values.specs.Values.{place_of, present_from}
 use Rattle.asn_values.proofs.Placed.{prepended, left, present-differ, left-unset, push-left}

@@ -1,7 +1,7 @@
 use Rattle.std.proofs.Common.{◌≡◌, ◌+◌, ◌-◌, ◌^◌, min, Some, None, length, drop, sym, ◌∙◌, ap, subst, arith}
 use Rattle.std.specs.Prelude.{map, replicate}
-use Rattle.label_tree.specs.Rose.{roses_of, count_all}
-use Rattle.label_tree.proofs.Roses.{node_count-kids}
+use Rattle.base_trees.specs.Rose.{roses_of, count_all}
+use Rattle.base_trees.proofs.Roses.{node_count-kids}
 use Rattle.asn_values.specs.Private.Placing.{place_seen, Found}
 use Rattle.asn_values.specs.Values.{places, child_count, count_in}
 use Rattle.asn_values.proofs.Counting.{if_ok, places-drop, drop-past, found_count, count_in-none, count_in-[], count_step}

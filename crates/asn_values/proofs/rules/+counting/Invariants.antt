@@ -1,6 +1,6 @@
 use Rattle.std.proofs.Common.{◌≡◌, ◌+◌, ◌-◌, ◌*◌, ◌^◌, ◌≤◌, length, drop, min}
 use Rattle.std.specs.Prelude.{map, replicate}
-use Rattle.label_tree.specs.Rose.{node_count, count_all, roses_of}
+use Rattle.base_trees.specs.Rose.{node_count, count_all, roses_of}
 use Rattle.asn_values.specs.Private.Placing.{place_seen}
 use Rattle.asn_values.specs.Values.{count_in}
 use Rattle.asn_values.proofs.rules.+counting.Given as goal

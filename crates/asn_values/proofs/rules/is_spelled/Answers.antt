@@ -2,7 +2,7 @@ use Rattle.std.proofs.Common.{◌∙◌, sym, subst}
 use Rattle.std.specs.Prelude.{◌↔◌, IsTrue}
 use Rattle.simple_types.specs.Seen.{space_of}
 use Rattle.simple_types.specs.Sound.{Sound}
-use Rattle.simple_values.specs.Reading.{Holds}
+use Rattle.simple_types.specs.Reading.{Holds}
 use Rattle.asn_values.specs.Values.{IsSpelled}
 use Rattle.asn_values.proofs.Counting.{if_ok}
 use Rattle.asn_types.proofs.SimpleLaws.{maps-seen}

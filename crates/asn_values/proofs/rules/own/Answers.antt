@@ -1,6 +1,6 @@
 use Rattle.std.proofs.Common.{subst, sym}
 use Rattle.std.specs.Prelude.{◌↔◌, IsTrue, IfOk}
-use Rattle.label_tree.specs.Rose.{label_of}
+use Rattle.base_trees.specs.Rose.{label_of}
 use Rattle.asn_types.specs.Modules.{AreWellFormed}
 use Rattle.asn_values.specs.Values.{OwnAt}
 use Rattle.asn_types.proofs.Inside.{of-well_formed, follow-well_formed}

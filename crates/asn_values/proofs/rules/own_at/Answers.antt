@@ -1,6 +1,6 @@
 use Rattle.std.proofs.Common.{◌∙◌, sym, ap}
 use Rattle.std.specs.Prelude.{◌↔◌, IsTrue}
-use Rattle.label_tree.specs.Rose.{label_of}
+use Rattle.base_trees.specs.Rose.{label_of}
 use Rattle.asn_types.specs.Marks.{has_list, has_use_union}
 use Rattle.asn_values.specs.Private.Judging.{HasTextsAndOrder}
 use Rattle.asn_values.specs.Values.{IsSpelled, OwnAt}

@@ -2,11 +2,11 @@ use Rattle.std.proofs.Common.{◌≡◌, ◌++◌, sym, ap, subst, ◌∙◌, ar
 use Rattle.std.specs.Prelude.{string_bytes, map}
 use Rattle.std.specs.List.{join_with_byte}
 use Rattle.std.proofs.lemmas.List.{append-nil}
-use Rattle.label_tree.specs.Rose.{roses_of, AllowedAll}
-use Rattle.label_tree.proofs.Roses.{node_count-kids, allowed-kids}
-use Rattle.label_tree.proofs.Kids.{node_count-got, allowed-got}
-use Rattle.simple_values.specs.Reading.{spelled}
-use Rattle.simple_values.proofs.Spellings.{found_at, missed_at, behind, join-behind}
+use Rattle.base_trees.specs.Rose.{roses_of, AllowedAll}
+use Rattle.base_trees.proofs.Roses.{node_count-kids, allowed-kids}
+use Rattle.base_trees.proofs.Kids.{node_count-got, allowed-got}
+use Rattle.simple_types.specs.Reading.{spelled}
+use Rattle.simple_types.proofs.Spellings.{found_at, missed_at, behind, join-behind}
 use Rattle.asn_types.specs.Parts.{MayHave}
 use Rattle.asn_types.specs.Spaces.{space_at}
 use Rattle.asn_values.proofs.Spelled.{spelled-Bool, spelled-Int, spelled-Numbers, spelled-Words, spelled-Order, spelled-Utf8, spelled-Sequence, spelled-Ref, spelled-SequenceOf, spelled-Choice, spelled-union, by-member, by-none, has-item, member-count, member-allowed}

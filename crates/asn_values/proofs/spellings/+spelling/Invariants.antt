@@ -1,8 +1,8 @@
 use Rattle.std.proofs.Common.{◌≡◌, ◌++◌, ◌+◌, ◌*◌, string_bytes}
 use Rattle.std.specs.Prelude.{map}
-use Rattle.label_tree.specs.Rose.{node_count, count_all, roses_of}
-use Rattle.simple_values.specs.Reading.{spelled}
-use Rattle.simple_values.proofs.Spellings.{behind}
+use Rattle.base_trees.specs.Rose.{node_count, count_all, roses_of}
+use Rattle.simple_types.specs.Reading.{spelled}
+use Rattle.simple_types.proofs.Spellings.{behind}
 use Rattle.asn_types.specs.Spaces.{space_at}
 use Rattle.asn_values.proofs.spellings.+spelling.Given as goal
 

@@ -1,7 +1,7 @@
 use Rattle.std.proofs.Common.{◌+◌, Some, [], length, drop, refl, sym, ◌∙◌, ap, subst, arith}
 use Rattle.std.specs.Prelude.{◌↔◌, IsTrue, map, replicate}
-use Rattle.label_tree.specs.Rose.{roses_of, label_of, count_all, none}
-use Rattle.label_tree.proofs.Roses.{node_count-kids}
+use Rattle.base_trees.specs.Rose.{roses_of, label_of, count_all, none}
+use Rattle.base_trees.proofs.Roses.{node_count-kids}
 use Rattle.asn_types.specs.Modules.{AreWellFormed}
 use Rattle.asn_types.specs.Refs.{IsOf}
 use Rattle.asn_values.specs.Private.Placing.{place_seen, Found, ArePlaces, FitsPlace, FitKids}

@@ -1,6 +1,6 @@
 use Rattle.std.proofs.Common.{◌↔◌, ◌+◌, ◌*◌, ◌≤◌, length, drop}
 use Rattle.std.specs.Prelude.{map, replicate}
-use Rattle.label_tree.specs.Rose.{node_count, count_all, roses_of}
+use Rattle.base_trees.specs.Rose.{node_count, count_all, roses_of}
 use Rattle.asn_values.specs.Private.Placing.{place_seen, ArePlaces}
 use Rattle.asn_values.specs.Values.{FitEach}
 use Rattle.asn_values.proofs.values.+fitting.Given as goal

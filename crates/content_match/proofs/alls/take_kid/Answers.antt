@@ -1,7 +1,7 @@
 use Rattle.std.proofs.Common.{◌≡◌, ◌+◌, [], ◌∷◌, Some, cond, true, set, refl, sym, ◌∙◌, ap, arith}
-use Rattle.label_tree.specs.Rose.{label_of}
+use Rattle.base_trees.specs.Rose.{label_of}
 use Rattle.content_models.specs.Language.{turn_of}
-use Rattle.content_spots.specs.Spots.{picked}
+use Rattle.content_models.specs.Spots.{picked}
 use Rattle.content_match.specs.Private.Alls.{kids_in}
 use Rattle.content_match.specs.Private.Plans.{own_leaf, is_needed}
 use Rattle.content_match.specs.declared.plans.PlanLabel.{PlanLabel}

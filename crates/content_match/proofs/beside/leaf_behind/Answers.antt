@@ -1,5 +1,5 @@
 use Rattle.std.proofs.Common.{◌≡◌, suc, ◌+◌, refl, subst, arith}
-use Rattle.label_tree.specs.Rose.{kids_of}
+use Rattle.base_trees.specs.Rose.{kids_of}
 use Rattle.content_match.specs.Private.Nearby.{IsNamedKid}
 use Rattle.content_match.proofs.beside.leaf_behind.Goals as goal
 

@@ -1,7 +1,7 @@
 use Rattle.std.proofs.Common.{◌≡◌, ◌+◌, Some, refl, sym, ◌∙◌, ap}
 use Rattle.std.specs.Prelude.{slice_get}
-use Rattle.label_tree.specs.Rose.{kids_of}
-use Rattle.content_spots.specs.Spots.{may_stop}
+use Rattle.base_trees.specs.Rose.{kids_of}
+use Rattle.content_models.specs.Spots.{may_stop}
 use Rattle.content_match.specs.declared.plans.PlanKind.TheVariants.{Leaf as PlanLeaf}
 use Rattle.content_match.specs.declared.plans.PlanLabel.{PlanLabel}
 use Rattle.content_match.proofs.Descending.{kind_of}

@@ -1,6 +1,6 @@
 use Rattle.std.proofs.Common.{length, ◌∙◌, ap, arith}
-use Rattle.label_tree.specs.Rose.{roses_of}
-use Rattle.label_tree.proofs.Roses.{length-le-count_all}
+use Rattle.base_trees.specs.Rose.{roses_of}
+use Rattle.base_trees.proofs.Roses.{length-le-count_all}
 use Rattle.content_models.specs.Seen.{all_seen}
 use Rattle.content_match.specs.Private.Alls.{needed, wanted_in}
 use Rattle.content_match.proofs.Compiled.{all_plan, count_le}

@@ -1,6 +1,6 @@
 use Rattle.std.proofs.Common.{sym, ◌∙◌, ap, subst, arith}
-use Rattle.label_tree.specs.Rose.{roses_of, count_all}
-use Rattle.label_tree.proofs.Roses.{node_count-kids}
+use Rattle.base_trees.specs.Rose.{roses_of, count_all}
+use Rattle.base_trees.proofs.Roses.{node_count-kids}
 use Rattle.content_models.specs.Seen.{seen}
 use Rattle.content_match.specs.Private.Alls.{whole}
 use Rattle.content_match.specs.Private.Plans.{IsPlan}

@@ -1,6 +1,6 @@
 use Rattle.std.proofs.Common.{◌≡◌, get_or, ◌∙◌, ap}
-use Rattle.label_tree.specs.Rose.{label_of, kids_of}
-use Rattle.content_spots.specs.Spots.{may_stop}
+use Rattle.base_trees.specs.Rose.{label_of, kids_of}
+use Rattle.content_models.specs.Spots.{may_stop}
 use Rattle.content_match.specs.declared.plans.PlanKind.TheVariants.{Leaf as PlanLeaf, Group as PlanGroup}
 use Rattle.content_match.specs.declared.plans.PlanLabel.{PlanLabel}
 use Rattle.content_match.proofs.Planned.{got}

@@ -1,6 +1,6 @@
 use Rattle.std.proofs.Common.{◌≡◌, Bool, List, Result, Ok, Err, IfOk, Bor}
-use Rattle.xa_base.specs.declared.texts.Memory.{Memory}
-use Rattle.xa_base.specs.declared.texts.Name.{Name}
+use Rattle.base_texts.specs.declared.texts.Memory.{Memory}
+use Rattle.base_texts.specs.declared.texts.Name.{Name}
 use Rattle.content_models.specs.Clear.{first, empties}
 use Rattle.content_models.specs.Seen.{seen}
 use Rattle.content_models.specs.Private.Deciding.{Opened}

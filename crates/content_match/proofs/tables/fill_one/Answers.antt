@@ -1,15 +1,15 @@
 use Rattle.std.proofs.Common.{◌≡◌, suc, ◌+◌, ◌-◌, ◌++◌, drop, Some, cond, sym, ◌∙◌, ap, subst, arith}
 use Rattle.indexmap.specs.IndexMap.{get}
-use Rattle.label_tree.specs.Rose.{roses_of}
-use Rattle.xa_base.specs.declared.texts.Name.{Name}
-use Rattle.xa_base.specs.Names.{name_eq}
+use Rattle.base_trees.specs.Rose.{roses_of}
+use Rattle.base_texts.specs.declared.texts.Name.{Name}
+use Rattle.base_texts.specs.Names.{name_eq}
 use Rattle.content_models.specs.Particle.{more}
 use Rattle.content_models.specs.Clear.{first}
 use Rattle.content_models.specs.Private.Deciding.{has, lent}
 use Rattle.content_models.specs.Seen.{seen, all_seen}
 use Rattle.content_models.proofs.Steps.{kids_back}
 use Rattle.content_match.specs.Private.Plans.{pick_one}
-use Rattle.content_spots.specs.Spots.{over}
+use Rattle.content_models.specs.Spots.{over}
 use Rattle.content_match.proofs.Tabling.{one_more, from_first}
 use Rattle.content_match.proofs.tables.fill_one.Goals as goal
 

@@ -1,8 +1,8 @@
 use Rattle.std.proofs.Common.{sym, ◌≡◌, length, subst}
 use Rattle.asn_types.proofs.Inside.{body-of}
 use Rattle.asn_values.specs.Values.{In}
-use Rattle.der_form.specs.Encoding.{distinguished}
-use Rattle.der_form.specs.Laws.{Begins}
+use Rattle.der_fields.specs.Encoding.{distinguished}
+use Rattle.der_fields.specs.Laws.{Begins}
 use Rattle.der_decode.proofs.Allowing.{fits-allowed}
 use Rattle.der_decode.proofs.Final.{fits_body, in_module, begins_with, as_long, fault_told}
 use Rattle.der_decode.proofs.Octets.{octets_of_bytes}

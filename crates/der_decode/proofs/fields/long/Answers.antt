@@ -1,6 +1,6 @@
 use Rattle.std.proofs.Common.{◌≡◌, ◌+◌, ◌-◌, ap, sym, ◌∙◌, arith, take, drop}
 use Rattle.der_fields.specs.declared.stops.Why.TheVariants.{Short}
-use Rattle.der_fields.specs.Reading.{stop_at}
+use Rattle.der_fields.specs.FieldsReading.{stop_at}
 use Rattle.der_decode.proofs.Windows.{long_short, long_not_shortest, long_window, long_stops, found_window, found_stop}
 use Rattle.der_decode.proofs.fields.long.Goals as goal
 

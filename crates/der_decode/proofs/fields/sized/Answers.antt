@@ -1,6 +1,6 @@
 use Rattle.std.proofs.Common.{◌≡◌, ◌+◌, ◌<◌, arith, get_or}
 use Rattle.der_fields.specs.declared.stops.Why.TheVariants.{Short}
-use Rattle.der_fields.specs.Reading.{stop_at}
+use Rattle.der_fields.specs.FieldsReading.{stop_at}
 use Rattle.der_decode.proofs.Windows.{at_end, short_window, short_stops, found_window, found_stop}
 use Rattle.der_decode.proofs.fields.sized.Goals as goal
 

@@ -1,6 +1,6 @@
 use Rattle.std.proofs.Common.{arith, sym, ap, ◌∙◌, Err}
 use Rattle.std.proofs.lemmas.Result.{err_from_is_err_and}
-use Rattle.der_form.specs.Encoding.{identifier}
+use Rattle.der_fields.specs.Encoding.{identifier}
 use Rattle.der_decode.proofs.Heading.{head-inside, head_other, head_over, head_windowless, head_window}
 use Rattle.der_decode.proofs.heads.head.Goals as goal
 

@@ -3,7 +3,7 @@ use Rattle.std.specs.Prelude.{FitsSigned}
 use Rattle.std.proofs.lemmas.Int.{to_z-of_z}
 use mir.Syntax.{w128}
 use Rattle.std.proofs.lemmas.Result.{err_from_is_err_and}
-use Rattle.der_form.specs.Reading.{item_with}
+use Rattle.der_fields.specs.Reading.{item_with}
 use Rattle.der_decode.proofs.Contents.{enum_is, enum_range, enum_stops}
 use Rattle.der_decode.proofs.leaves.enumerated.Goals as goal
 

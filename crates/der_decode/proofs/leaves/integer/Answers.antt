@@ -4,8 +4,8 @@ use Rattle.std.proofs.lemmas.Int.{to_z-of_z}
 use Rattle.std.proofs.lemmas.Result.{err_from_is_err_and}
 use mir.Syntax.{w128}
 use Rattle.simple_types.specs.declared.labels.ValueLabel.TheVariants as value
-use Rattle.simple_values.specs.Lexical.{is_from, is_to}
-use Rattle.der_form.specs.Reading.{leaf_of}
+use Rattle.simple_types.specs.Lexical.{is_from, is_to}
+use Rattle.der_fields.specs.Reading.{leaf_of}
 use Rattle.der_decode.specs.Private.Leaves.{end_of}
 use Rattle.der_decode.proofs.Contents.{int_is, int_range, int_stops}
 use Rattle.der_decode.proofs.leaves.integer.Goals as goal

@@ -4,7 +4,7 @@ use Rattle.std.specs.Ordering.{int_eq}
 use Rattle.std.proofs.lemmas.Iterator.Adapters.{position_from-zero}
 use Rattle.std.proofs.lemmas.Int.{to_z-of_z}
 use mir.Syntax.{w128}
-use Rattle.der_form.specs.Reading.{item_with}
+use Rattle.der_fields.specs.Reading.{item_with}
 use Rattle.der_decode.proofs.leaves.item_with.Goals as goal
 
 pub returns-in-Numbers : goal.returns-in-Numbers

@@ -2,8 +2,8 @@ use Rattle.std.proofs.Common.{arith, refl, sym, ap, ◌∙◌, subst, ◌≡◌,
 use Rattle.std.specs.Prelude.{slice_get}
 use Rattle.std.proofs.lemmas.List.{length-append, length-take-le}
 use Rattle.std.proofs.lemmas.Result.{err_from_is_err_and}
-use Rattle.flat_tree.specs.Zips.{closed}
-use Rattle.label_tree.specs.Rose.{Rose, label_of, kids_of}
+use Rattle.base_flat_trees.specs.Zips.{closed}
+use Rattle.base_trees.specs.Rose.{Rose, label_of, kids_of}
 use Rattle.simple_types.specs.declared.labels.ValueLabel.{ValueLabel}
 use Rattle.asn_types.specs.declared.types.TypeLabel.{TypeLabel}
 use Rattle.asn_types.specs.Modules.{AreWellFormed}
@@ -12,11 +12,11 @@ use Rattle.asn_types.specs.Refs.{resolve, IsOf}
 use Rattle.asn_types.proofs.Chaining.{resolved-of-module, well-formed}
 use Rattle.asn_types.specs.Roles.{role_of}
 use Rattle.asn_values.specs.Values.{place_of, place_at, below, OwnAt}
-use Rattle.codecs.specs.Reading.{◌>>=◌}
-use Rattle.codecs.specs.Sequences.{at_most_at, items_at}
+use Rattle.base_codecs.specs.Reading.{◌>>=◌}
+use Rattle.base_codecs.specs.Sequences.{at_most_at, items_at}
 use Rattle.per_fields.specs.Levels.{levels_needed}
-use Rattle.der_form.specs.Encoding.{is_open}
-use Rattle.der_form.specs.Reading.{choice_at, never}
+use Rattle.der_fields.specs.Encoding.{is_open}
+use Rattle.der_fields.specs.Reading.{choice_at, never}
 use Rattle.der_decode.specs.Private.Bodies.{HasKids, IsChoice, kid_at, part_read, headed_read, entered_kid}
 use Rattle.der_decode.specs.Private.Newest.{newest}
 use Rattle.der_decode.specs.Private.Showing.{Fails, Shows}

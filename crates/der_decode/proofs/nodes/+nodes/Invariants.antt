@@ -1,8 +1,8 @@
 use Rattle.std.proofs.Common.{◌≡◌, ◌≤◌, ◌*◌, ◌+◌, ◌-◌, length, None}
-use Rattle.label_tree.specs.Rose.{label_of, kids_of}
+use Rattle.base_trees.specs.Rose.{label_of, kids_of}
 use Rattle.per_fields.specs.Levels.{levels_needed}
-use Rattle.codecs.specs.Sequences.{items_at}
-use Rattle.der_form.specs.Reading.{never}
+use Rattle.base_codecs.specs.Sequences.{items_at}
+use Rattle.der_fields.specs.Reading.{never}
 use Rattle.der_decode.specs.Private.Bodies.{part_read, kid_at}
 use Rattle.der_decode.proofs.Shows.{with_front}
 use Rattle.der_decode.proofs.Sequences.{Through}

@@ -1,5 +1,5 @@
 use Rattle.std.proofs.Common.{arith, refl, sym, ap, ◌∙◌, length}
-use Rattle.label_tree.specs.Rose.{label_of, kids_of}
+use Rattle.base_trees.specs.Rose.{label_of, kids_of}
 use Rattle.asn_types.specs.Parts.{parts_of}
 use Rattle.der_decode.proofs.Choices.{first_here, first_later, first_nowhere}
 use Rattle.der_decode.proofs.Parts.{got, kids-parts, alternatives_counted}

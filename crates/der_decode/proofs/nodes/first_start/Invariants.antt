@@ -1,5 +1,5 @@
 use Rattle.std.proofs.Common.{◌≡◌, drop}
-use Rattle.label_tree.specs.Rose.{label_of, kids_of}
+use Rattle.base_trees.specs.Rose.{label_of, kids_of}
 use Rattle.der_decode.specs.Private.Bodies.{first_start}
 use Rattle.der_decode.proofs.Choices.{first_from}
 use Rattle.der_decode.proofs.nodes.first_start.Given as goal

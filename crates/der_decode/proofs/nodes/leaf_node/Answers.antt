@@ -1,14 +1,14 @@
 use Rattle.std.proofs.Common.{arith, sym, ap, ◌∙◌, ◌≡◌, subst, IsTrue}
 use Rattle.std.proofs.lemmas.List.{length-take-le}
 use Rattle.std.proofs.lemmas.Result.{err_from_is_err_and}
-use Rattle.label_tree.specs.Rose.{Rose, label_of}
+use Rattle.base_trees.specs.Rose.{Rose, label_of}
 use Rattle.asn_types.specs.declared.types.TypeLabel.{TypeLabel}
 use Rattle.asn_types.specs.Modules.{AreWellFormed}
 use Rattle.asn_types.specs.Refs.{resolve}
 use Rattle.asn_types.proofs.Chaining.{resolved-of-module, well-formed}
 use Rattle.asn_types.proofs.Inside.{form-well_formed}
 use Rattle.asn_values.specs.Values.{OwnAt}
-use Rattle.der_form.specs.Reading.{leaf_of}
+use Rattle.der_fields.specs.Reading.{leaf_of}
 use Rattle.der_decode.specs.Private.Bodies.{HasNoKids}
 use Rattle.der_decode.specs.Private.Leaves.{IsLeaf}
 use Rattle.der_decode.proofs.Newest.{newest-pushed, pushed-newest}

@@ -1,6 +1,6 @@
 use Rattle.std.proofs.Common.{◌++◌, None, reverse, ap, ◌∙◌}
 use Rattle.std.proofs.lemmas.List.{reverse-reverse}
-use Rattle.der_form.specs.Encoding.{der}
+use Rattle.der_fields.specs.Encoding.{der}
 use Rattle.der_encode.proofs.Kids.{is_assigned, root_fits, root_octets}
 use Rattle.der_encode.proofs.encoding.encode_der.Goals as goal
 

@@ -2,14 +2,14 @@ use Rattle.std.proofs.Common.{rules, ◌≡◌, ◌++◌, ◌-◌, ◌∷◌, []
 use Rattle.std.specs.Int.{w128}
 use Rattle.std.proofs.lemmas.Int.{to_z-of_z}
 use Rattle.std.proofs.lemmas.List.{take_all}
-use Rattle.label_tree.specs.Rose.{label_of, kids_of, roses_of, count_all}
-use Rattle.label_tree.proofs.Roses.{node_count-kids}
-use Rattle.label_tree.proofs.Kids.{node_count-got}
+use Rattle.base_trees.specs.Rose.{label_of, kids_of, roses_of, count_all}
+use Rattle.base_trees.proofs.Roses.{node_count-kids}
+use Rattle.base_trees.proofs.Kids.{node_count-got}
 use Rattle.simple_types.specs.declared.labels.ValueLabel.TheVariants as value
 use Rattle.asn_types.specs.declared.types.TypeLabel.{TypeLabel}
 use Rattle.asn_types.specs.Refs.{resolve}
 use Rattle.der_fields.specs.Octets.{length_octets, signed_octets}
-use Rattle.der_form.specs.Encoding.{der, identifier, is_open, item_number}
+use Rattle.der_fields.specs.Encoding.{der, identifier, is_open, item_number}
 use Rattle.der_encode.specs.Private.Kids.{HasItem, FitsSomewhere, PartsFit, parts_octets, ItemsFit, items_octets, KidsFit, resolved_octets}
 use Rattle.der_encode.proofs.Parts.{on_ok, grown, last_put, all_put, head_put, nothing, count_front, items_before, items_push, no_parts, taken, passed, is_left}
 use Rattle.der_encode.proofs.Kids.{wrapped_open, wrapped_closed, der_resolved, kids_fit, seen_as, sequence_here, sequence_octets, choice_within, choice_here, list_within, list_here, enum_here}

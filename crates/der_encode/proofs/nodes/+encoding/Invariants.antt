@@ -1,5 +1,5 @@
 use Rattle.std.proofs.Common.{◌≡◌, ◌+◌, ◌*◌, ◌≤◌, ◌++◌, length, take, reverse}
-use Rattle.label_tree.specs.Rose.{node_count, count_all, roses_of}
+use Rattle.base_trees.specs.Rose.{node_count, count_all, roses_of}
 use Rattle.der_encode.specs.Private.Kids.{PartsFit, parts_octets, ItemsFit, items_octets}
 use Rattle.der_encode.proofs.nodes.+encoding.Given as goal
 

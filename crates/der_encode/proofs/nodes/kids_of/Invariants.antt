@@ -1,5 +1,5 @@
 use Rattle.std.proofs.Common.{◌≡◌, ◌++◌}
-use Rattle.label_tree.specs.Rose.{kids_of}
+use Rattle.base_trees.specs.Rose.{kids_of}
 use Rattle.der_encode.proofs.nodes.kids_of.Given as goal
 
 abbrev pub invariant-kids : goal.invariant-kids

@@ -1,5 +1,5 @@
 use Rattle.std.proofs.Common.{map}
-use Rattle.schema_parts.specs.Documents.{doc_of}
+use Rattle.schema_components.specs.Documents.{doc_of}
 use Rattle.link_names.specs.Order.{IsFirstSuch, OneHas}
 use Rattle.link_complex.specs.ComplexTypes.{complex_types}
 use Rattle.link_complex.specs.Content.{IsUnclearType}

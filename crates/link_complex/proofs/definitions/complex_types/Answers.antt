@@ -1,6 +1,6 @@
 use Rattle.std.proofs.Common.{◌++◌, ap, sym, ◌∙◌}
-use Rattle.schema_parts.specs.Documents.{doc_of}
-use Rattle.schema_walk.proofs.Flat.{mapped_more}
+use Rattle.schema_components.specs.Documents.{doc_of}
+use Rattle.link_names.proofs.Flat.{mapped_more}
 use Rattle.link_complex.specs.ComplexTypes.{of_document}
 use Rattle.link_complex.proofs.definitions.complex_types.Goals as goal
 

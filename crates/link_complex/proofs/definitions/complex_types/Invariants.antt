@@ -1,5 +1,5 @@
 use Rattle.std.proofs.Common.{◌≡◌, map, take}
-use Rattle.schema_parts.specs.Documents.{doc_of}
+use Rattle.schema_components.specs.Documents.{doc_of}
 use Rattle.link_complex.specs.ComplexTypes.{complex_types}
 use Rattle.link_complex.specs.Seen.{definitions_of}
 use Rattle.link_complex.proofs.definitions.complex_types.Given as goal

@@ -1,6 +1,6 @@
 use Rattle.std.proofs.Common.{◌≡◌, ◌++◌, take}
 use Rattle.std.specs.List.{flat_map}
-use Rattle.schema_walk.specs.Seen.{parts_of}
+use Rattle.link_names.specs.WalkSeen.{parts_of}
 use Rattle.link_complex.specs.ComplexTypes.{of_part}
 use Rattle.link_complex.specs.Seen.{definitions_of}
 use Rattle.link_complex.proofs.definitions.push_parts.Given as goal

@@ -1,6 +1,6 @@
 use Rattle.std.proofs.Common.{◌≡◌, map, refl, subst}
 use Rattle.link_names.specs.Order.{IsFirstSuch, OneHas}
-use Rattle.schema_parts.specs.Documents.{doc_of}
+use Rattle.schema_components.specs.Documents.{doc_of}
 use Rattle.link_complex.specs.ElementTypes.{DiffersIn, type_named, typed_elements}
 use Rattle.link_complex.specs.Private.Identities.{type_in}
 use Rattle.link_complex.proofs.Stepping.{one_mapped, at_end}

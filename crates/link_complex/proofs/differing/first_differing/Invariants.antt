@@ -1,5 +1,5 @@
 use Rattle.std.proofs.Common.{map, take}
-use Rattle.schema_parts.specs.Documents.{doc_of}
+use Rattle.schema_components.specs.Documents.{doc_of}
 use Rattle.link_names.specs.Order.{OneHas, IsFirstSuch}
 use Rattle.link_complex.specs.ElementTypes.{DiffersIn}
 use Rattle.link_complex.specs.Private.Identities.{type_in}

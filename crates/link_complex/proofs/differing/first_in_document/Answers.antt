@@ -1,4 +1,4 @@
-use Rattle.schema_parts.specs.Documents.{doc_of}
+use Rattle.schema_components.specs.Documents.{doc_of}
 use Rattle.link_names.specs.Order.{IsFirstSuch, OneHas}
 use Rattle.link_complex.specs.ComplexTypes.{of_document}
 use Rattle.link_complex.specs.ElementTypes.{HasOtherOf}

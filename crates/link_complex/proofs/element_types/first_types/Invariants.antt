@@ -1,5 +1,5 @@
 use Rattle.std.proofs.Common.{◌≡◌, ◌≤◌, length, drop}
-use Rattle.xa_base.specs.declared.texts.Name.{Name}
+use Rattle.base_texts.specs.declared.texts.Name.{Name}
 use Rattle.link_complex.specs.ElementTypes.{type_named}
 use Rattle.link_complex.specs.Private.Identities.{elements_of, type_in}
 use Rattle.link_complex.proofs.element_types.first_types.Given as goal

@@ -1,5 +1,5 @@
 use Rattle.std.proofs.Common.{◌≡◌, ◌++◌, map, take}
-use Rattle.schema_parts.specs.Seen.{element_of}
+use Rattle.schema_components.specs.Seen.{element_of}
 use Rattle.link_complex.specs.ElementTypes.{typed_element}
 use Rattle.link_complex.specs.Private.Identities.{elements_of}
 use Rattle.link_complex.proofs.element_types.push_elements.Given as goal

@@ -1,5 +1,5 @@
 use Rattle.std.proofs.Common.{◌≡◌, map, take}
-use Rattle.schema_parts.specs.Documents.{doc_of}
+use Rattle.schema_components.specs.Documents.{doc_of}
 use Rattle.link_complex.specs.ElementTypes.{typed_elements}
 use Rattle.link_complex.specs.Private.Identities.{elements_of}
 use Rattle.link_complex.proofs.element_types.typed_elements.Given as goal

@@ -1,5 +1,5 @@
 use Rattle.std.proofs.Common.{take}
-use Rattle.xa_base.specs.declared.texts.Name.{Name}
+use Rattle.base_texts.specs.declared.texts.Name.{Name}
 use Rattle.link_names.specs.Order.{OneHas, IsFirstSuch}
 use Rattle.link_complex.specs.ElementTypes.{IsOtherAt}
 use Rattle.link_complex.specs.Private.Identities.{particles_of, leader_in}

@@ -1,6 +1,6 @@
 use Rattle.std.proofs.Common.{◌≡◌, ◌++◌, take}
 use Rattle.std.specs.List.{flat_map}
-use Rattle.schema_walk.specs.Seen.{parts_of}
+use Rattle.link_names.specs.WalkSeen.{parts_of}
 use Rattle.link_complex.specs.ElementTypes.{of_part}
 use Rattle.link_complex.specs.Private.Identities.{types_in, particles_of}
 use Rattle.link_complex.proofs.particles.push_parts.Given as goal

@@ -1,10 +1,10 @@
 use Rattle.std.proofs.Common.{map, take, sym, subst}
-use Rattle.schema_parts.specs.Documents.{doc_of}
+use Rattle.schema_components.specs.Documents.{doc_of}
 use Rattle.link_complex.specs.ComplexTypes.{complex_types}
 use Rattle.link_complex.proofs.Stepping.{at_end}
 use Rattle.std.specs.List.{flat_map}
 use Rattle.link_names.specs.Order.{IsFirstOf}
-use Rattle.schema_walk.proofs.Flat.{mapped_more}
+use Rattle.link_names.proofs.Flat.{mapped_more}
 use Rattle.link_complex.specs.Uses.{double_uses_of}
 use Rattle.link_complex.specs.Seen.{definition_of, definitions_of}
 use Rattle.link_complex.proofs.uses.first_double_use.Goals as goal

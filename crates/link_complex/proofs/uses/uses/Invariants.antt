@@ -1,5 +1,5 @@
 use Rattle.std.proofs.Common.{◌≡◌, map, take}
-use Rattle.schema_parts.specs.Seen.{use_of}
+use Rattle.schema_components.specs.Seen.{use_of}
 use Rattle.link_names.specs.Seen.{globals_of}
 use Rattle.link_complex.specs.Uses.{use_part}
 use Rattle.link_complex.proofs.uses.uses.Given as goal

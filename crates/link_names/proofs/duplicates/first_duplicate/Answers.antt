@@ -1,6 +1,6 @@
 use Rattle.std.proofs.Common.{IfOk, [], ◌++◌, List, refl, ap, ◌∙◌, subst}
-use Rattle.schema_walk.specs.Parts.{Part}
-use Rattle.schema_walk.specs.Seen.{parts_of}
+use Rattle.link_names.specs.Parts.{Part}
+use Rattle.link_names.specs.WalkSeen.{parts_of}
 use Rattle.link_names.specs.declared.faults.LinkingFault.{LinkingFault}
 use Rattle.link_names.specs.declared.faults.LinkWhy.TheVariants.{Duplicate}
 use Rattle.link_names.specs.declared.global_names.NameKind.TheVariants as kind

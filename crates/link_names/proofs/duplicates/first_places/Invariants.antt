@@ -1,5 +1,5 @@
 use Rattle.std.proofs.Common.{◌≡◌, ◌≤◌, length, drop}
-use Rattle.xa_base.specs.declared.texts.Name.{Name}
+use Rattle.base_texts.specs.declared.texts.Name.{Name}
 use Rattle.link_names.specs.Seen.{globals_of}
 use Rattle.link_names.specs.Private.Tables.{place_in, first_place}
 use Rattle.link_names.proofs.duplicates.first_places.Given as goal

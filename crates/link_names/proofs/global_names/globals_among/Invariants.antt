@@ -1,5 +1,5 @@
 use Rattle.std.proofs.Common.{◌≡◌, take}
-use Rattle.schema_walk.specs.Seen.{parts_of}
+use Rattle.link_names.specs.WalkSeen.{parts_of}
 use Rattle.link_names.specs.Globals as told
 use Rattle.link_names.specs.Seen.{globals_of}
 use Rattle.link_names.proofs.global_names.globals_among.Given as goal

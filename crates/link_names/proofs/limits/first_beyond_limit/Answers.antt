@@ -1,5 +1,5 @@
 use Rattle.std.proofs.Common.{◌+◌, ◌-◌, drop, Option, Some, get_or, slice_get, map, length, ap, sym, ◌∙◌, subst, ◌<◌, ◌≤◌}
-use Rattle.schema_parts.specs.Documents.{doc_of}
+use Rattle.schema_components.specs.Documents.{doc_of}
 use Rattle.link_names.specs.declared.places.Place.{Place}
 use Rattle.link_names.specs.declared.faults.LinkWhy.TheVariants.{Limit}
 use Rattle.link_names.specs.Order.{fault, place, IsFirst}

@@ -1,5 +1,5 @@
 use Rattle.std.proofs.Common.{◌≡◌, map, drop, slice_get}
-use Rattle.schema_parts.specs.Documents.{doc_of}
+use Rattle.schema_components.specs.Documents.{doc_of}
 use Rattle.link_names.specs.Limits.{counted_places}
 use Rattle.link_names.proofs.limits.first_beyond_limit.Given as goal
 

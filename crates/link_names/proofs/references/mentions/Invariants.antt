@@ -1,6 +1,6 @@
 use Rattle.std.proofs.Common.{◌≡◌, take}
 use Rattle.std.specs.List.{flat_map}
-use Rattle.schema_walk.specs.Seen.{parts_of}
+use Rattle.link_names.specs.WalkSeen.{parts_of}
 use Rattle.link_names.specs.References.{of_part}
 use Rattle.link_names.specs.Private.Mentioned.{mentions_of}
 use Rattle.link_names.proofs.references.mentions.Given as goal

@@ -1,7 +1,7 @@
 use Rattle.std.proofs.Common.{◌≡◌, map, List, ap, ◌∙◌, subst}
 use Rattle.std.specs.List.{filter_map, flat_map}
-use Rattle.schema_parts.specs.Documents.{doc_of}
-use Rattle.schema_walk.specs.Seen.{parts_of}
+use Rattle.schema_components.specs.Documents.{doc_of}
+use Rattle.link_names.specs.WalkSeen.{parts_of}
 use Rattle.link_names.specs.declared.faults.LinkingFault.{LinkingFault}
 use Rattle.link_names.specs.Private.Mentioned.{mentions_of}
 use Rattle.link_names.specs.Private.NameTables.{told_by}

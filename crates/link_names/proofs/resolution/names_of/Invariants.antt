@@ -1,5 +1,5 @@
 use Rattle.std.proofs.Common.{◌≡◌, take}
-use Rattle.xa_base.specs.declared.texts.Name.{Name}
+use Rattle.base_texts.specs.declared.texts.Name.{Name}
 use Rattle.link_names.specs.Globals.{is_there}
 use Rattle.link_names.specs.Seen.{globals_of}
 use Rattle.link_names.specs.Private.Tables.{holds}

@@ -1,6 +1,6 @@
 use Rattle.std.proofs.Common.{◌≡◌, ◌++◌, take}
 use Rattle.std.specs.List.{flat_map}
-use Rattle.schema_walk.specs.Seen.{parts_of}
+use Rattle.link_names.specs.WalkSeen.{parts_of}
 use Rattle.link_set.specs.NamedBuiltins.{in_part}
 use Rattle.link_set.proofs.builtins.push_parts.Given as goal
 

@@ -1,6 +1,6 @@
 use Rattle.std.proofs.Common.{rules}
 use Rattle.std.proofs.lemmas.List.Sorted.{answers_always, ranks_by}
-use Rattle.xa_base.proofs.NameLaws.{name_cmp_total}
+use Rattle.base_texts.proofs.NameLaws.{name_cmp_total}
 use Rattle.link_set.specs.Sets.{use_before}
 use Rattle.link_set.proofs.Sorted.{sorted_once}
 use Rattle.link_set.proofs.complexes.uses_by_name.Goals as goal

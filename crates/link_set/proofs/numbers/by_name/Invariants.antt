@@ -1,6 +1,6 @@
 use Rattle.std.proofs.Common.{◌≡◌, ◌+◌, ◌≤◌, length, drop}
-use Rattle.xa_base.specs.declared.texts.Name.{Name}
-use Rattle.link_cycles.specs.Tables.{named_in}
+use Rattle.base_texts.specs.declared.texts.Name.{Name}
+use Rattle.link_names.specs.Tables.{named_in}
 use Rattle.link_set.specs.Numbering.{number_named}
 use Rattle.link_set.specs.Private.Told.{entries_of}
 use Rattle.link_set.proofs.numbers.by_name.Given as goal

@@ -1,6 +1,6 @@
 use Rattle.std.proofs.Common.{◌≡◌, ◌+◌, ◌≤◌, length, drop}
 use Rattle.link_names.specs.declared.places.Place.{Place}
-use Rattle.link_cycles.specs.Tables.{placed_in}
+use Rattle.link_names.specs.Tables.{placed_in}
 use Rattle.link_set.specs.Numbering.{number_placed}
 use Rattle.link_set.specs.Private.Told.{entries_of}
 use Rattle.link_set.proofs.numbers.by_place.Given as goal

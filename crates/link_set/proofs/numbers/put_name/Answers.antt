@@ -1,7 +1,7 @@
 use Rattle.std.proofs.Common.{sym, ap, ◌∙◌, Some}
 use Rattle.std.specs.Prelude.{cond}
-use Rattle.link_cycles.specs.Tables.{named_in, names}
-use Rattle.link_cycles.proofs.Numbering.{put_named}
+use Rattle.link_names.specs.Tables.{named_in, names}
+use Rattle.link_names.proofs.Numbering.{put_named}
 use Rattle.link_set.proofs.numbers.put_name.Goals as goal
 
 pub returns-in_ok-insert-in-Some : goal.returns-in_ok-insert-in-Some

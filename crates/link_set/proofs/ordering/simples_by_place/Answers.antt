@@ -1,6 +1,6 @@
 use Rattle.std.proofs.Common.{refl, rules}
 use Rattle.std.proofs.lemmas.List.Sorted.{answers_always}
-use Rattle.link_cycles.specs.Seen.{definition_of}
+use Rattle.link_names.specs.CyclesSeen.{definition_of}
 use Rattle.link_set.specs.Written.{simple_before}
 use Rattle.link_set.proofs.Sorted.{by_places}
 use Rattle.link_set.proofs.ordering.simples_by_place.Goals as goal

@@ -1,8 +1,8 @@
 use Rattle.std.proofs.Common.{◌≡◌, List, map, sym, ap, ap₂, ◌∙◌, subst}
 use Rattle.std.specs.Prelude.{IfOk}
-use Rattle.schema_parts.specs.Documents.{doc_of}
-use Rattle.schema_parts.specs.declared.components.ComplexDef.{ComplexDef}
-use Rattle.schema_parts.specs.declared.components.GlobalAttribute.{GlobalAttribute}
+use Rattle.schema_components.specs.Documents.{doc_of}
+use Rattle.schema_components.specs.declared.components.ComplexDef.{ComplexDef}
+use Rattle.schema_components.specs.declared.components.GlobalAttribute.{GlobalAttribute}
 use Rattle.link_complex.specs.Seen.{definitions_of}
 use Rattle.link_set.specs.Private.Seen.{attributes_of}
 use Rattle.link_set.specs.Private.Told.{found_in, told_by}

@@ -1,8 +1,8 @@
 use Rattle.std.proofs.Common.{◌≡◌, map, ap, ap₂, ◌∙◌}
 use Rattle.std.specs.Prelude.{IfOk, Result, Ok, Err}
 use Rattle.simple_types.specs.Seen.{space_of}
-use Rattle.schema_parts.specs.Documents.{doc_of}
-use Rattle.link_cycles.specs.SimpleTypes.{simple_types}
+use Rattle.schema_components.specs.Documents.{doc_of}
+use Rattle.link_names.specs.SimpleTypes.{simple_types}
 use Rattle.link_set.specs.Builtins.{used_builtins}
 use Rattle.link_set.specs.Private.Told.{listed_by}
 use Rattle.link_set.specs.Sets.{named_spaces, simples, spelled_complex, spelled_attribute}

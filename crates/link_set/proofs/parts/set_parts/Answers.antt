@@ -1,7 +1,7 @@
 use Rattle.std.proofs.Common.{◌≡◌, map, sym, ap, ap₂, ◌∙◌, subst}
 use Rattle.std.specs.Prelude.{IfOk}
 use Rattle.simple_types.specs.Seen.{space_of}
-use Rattle.schema_parts.specs.Documents.{doc_of}
+use Rattle.schema_components.specs.Documents.{doc_of}
 use Rattle.link_set.specs.Few.{AreFew}
 use Rattle.link_set.specs.Numbering.{numbers_in}
 use Rattle.link_set.specs.Parts.{parts_made}

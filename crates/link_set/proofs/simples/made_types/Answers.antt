@@ -2,8 +2,8 @@ use Rattle.std.proofs.Common.{◌≡◌, ℕ, ◌<◌, ◌≤◌, ◌⊎◌, inl
 use Rattle.std.proofs.lemmas.List.{map-append, length-map, length-append}
 use Rattle.simple_types.specs.declared.simples.Simple.{Simple}
 use Rattle.simple_types.specs.Seen.{space_of}
-use Rattle.link_cycles.specs.declared.definitions.SimpleType.{SimpleType}
-use Rattle.link_cycles.specs.Seen.{definitions_of}
+use Rattle.link_names.specs.declared.definitions.SimpleType.{SimpleType}
+use Rattle.link_names.specs.CyclesSeen.{definitions_of}
 use Rattle.link_set.proofs.Making.{none_made, one_made, no_more}
 use Rattle.link_set.specs.Private.Made.{made_one, made_of}
 use Rattle.link_set.specs.Sets as told

@@ -1,8 +1,8 @@
 use Rattle.std.proofs.Common.{◌≡◌, ℕ, ◌≤◌, ◌⊎◌, List, map, length}
 use Rattle.simple_types.specs.declared.simples.Simple.{Simple}
 use Rattle.simple_types.specs.Seen.{space_of}
-use Rattle.link_cycles.specs.declared.definitions.SimpleType.{SimpleType}
-use Rattle.link_cycles.specs.Seen.{definitions_of}
+use Rattle.link_names.specs.declared.definitions.SimpleType.{SimpleType}
+use Rattle.link_names.specs.CyclesSeen.{definitions_of}
 use Rattle.link_set.specs.Private.Made.{made_of}
 use Rattle.link_set.specs.Sets.{MadeType, made_types}
 use Rattle.link_set.proofs.simples.made_types.Given as goal

@@ -1,6 +1,6 @@
 use Rattle.std.proofs.Common.{arith, length, ap}
 use Rattle.std.proofs.lemmas.List.{length-map}
-use Rattle.link_cycles.specs.Seen.{definition_of, definitions_of}
+use Rattle.link_names.specs.CyclesSeen.{definition_of, definitions_of}
 use Rattle.link_set.specs.Numbering.{simple_entry}
 use Rattle.link_set.proofs.Numbering.{as_many}
 use Rattle.link_set.proofs.tables.numbers_of_simples.Goals as goal

@@ -1,5 +1,5 @@
 use Rattle.std.proofs.Common.{◌≡◌, map, take}
-use Rattle.link_cycles.specs.Seen.{definitions_of}
+use Rattle.link_names.specs.CyclesSeen.{definitions_of}
 use Rattle.link_set.specs.Numbering.{simple_entry}
 use Rattle.link_set.specs.Private.Told.{entries_of}
 use Rattle.link_set.proofs.tables.simple_entries.Given as goal

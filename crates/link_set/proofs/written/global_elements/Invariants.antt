@@ -1,5 +1,5 @@
 use Rattle.std.proofs.Common.{◌≡◌, map, take}
-use Rattle.schema_parts.specs.Documents.{doc_of}
+use Rattle.schema_components.specs.Documents.{doc_of}
 use Rattle.link_set.specs.Written.{global_elements}
 use Rattle.link_set.specs.Private.Seen.{elements_of}
 use Rattle.link_set.proofs.written.global_elements.Given as goal

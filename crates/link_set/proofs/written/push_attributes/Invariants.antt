@@ -1,5 +1,5 @@
 use Rattle.std.proofs.Common.{◌≡◌, ◌++◌, map, take}
-use Rattle.schema_parts.specs.Seen.{attribute_of}
+use Rattle.schema_components.specs.Seen.{attribute_of}
 use Rattle.link_set.specs.Written.{written_attribute}
 use Rattle.link_set.specs.Private.Seen.{attributes_of}
 use Rattle.link_set.proofs.written.push_attributes.Given as goal

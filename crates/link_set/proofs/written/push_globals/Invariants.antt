@@ -1,5 +1,5 @@
 use Rattle.std.proofs.Common.{◌≡◌, ◌++◌, map, take}
-use Rattle.schema_parts.specs.Seen.{element_of}
+use Rattle.schema_components.specs.Seen.{element_of}
 use Rattle.link_set.specs.Written.{written_element}
 use Rattle.link_set.specs.Private.Seen.{elements_of}
 use Rattle.link_set.proofs.written.push_globals.Given as goal

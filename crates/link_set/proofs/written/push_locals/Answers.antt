@@ -1,8 +1,8 @@
 use Rattle.std.proofs.Common.{◌++◌, take, append_assoc, sym, ap, ◌∙◌}
 use Rattle.std.specs.List.{flat_map}
-use Rattle.schema_parts.specs.Documents.{doc_of}
-use Rattle.schema_parts.specs.Seen.{local_of}
-use Rattle.schema_walk.proofs.Flat.{flat_more}
+use Rattle.schema_components.specs.Documents.{doc_of}
+use Rattle.schema_components.specs.Seen.{local_of}
+use Rattle.link_names.proofs.Flat.{flat_more}
 use Rattle.link_set.specs.Written.{declared_by}
 use Rattle.link_set.specs.Private.Seen.{elements_of}
 use Rattle.link_set.proofs.written.push_locals.Goals as goal

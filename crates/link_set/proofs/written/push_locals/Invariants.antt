@@ -1,6 +1,6 @@
 use Rattle.std.proofs.Common.{◌≡◌, ◌++◌, take}
 use Rattle.std.specs.List.{flat_map}
-use Rattle.schema_parts.specs.Documents.{doc_of}
+use Rattle.schema_components.specs.Documents.{doc_of}
 use Rattle.link_set.specs.Written.{declared_by}
 use Rattle.link_set.specs.Private.Seen.{elements_of}
 use Rattle.link_set.proofs.written.push_locals.Given as goal

@@ -1,11 +1,11 @@
 use Rattle.std.proofs.Common.{◌≡◌, true, sym, ap, ◌∙◌, subst}
 use Rattle.std.specs.Prelude.{IfOk}
-use Rattle.schema_parts.specs.Raw.{Restrict, UnionOf}
+use Rattle.schema_components.specs.Raw.{Restrict, UnionOf}
 use Rattle.std.proofs.lemmas.Bool.{and_parts}
-use Rattle.schema_parts.specs.Seen.{base_of, bases_in, how_of}
-use Rattle.schema_parts.specs.Varieties.{has_few_enumerations, base_varied, has_member, bases_varied, how_varied}
-use Rattle.schema_parts.proofs.Seen.{restriction, list_of_items, union}
-use Rattle.link_cycles.specs.Tables.{told_by}
+use Rattle.schema_components.specs.Seen.{base_of, bases_in, how_of}
+use Rattle.schema_components.specs.Varieties.{has_few_enumerations, base_varied, has_member, bases_varied, how_varied}
+use Rattle.schema_components.proofs.Seen.{restriction, list_of_items, union}
+use Rattle.link_names.specs.Tables.{told_by}
 use Rattle.link_simple.specs.Making.{IsLeft}
 use Rattle.link_simple.specs.Private.Parts.{entries_of}
 use Rattle.link_simple.specs.Private.Leaving.{LeftBy}

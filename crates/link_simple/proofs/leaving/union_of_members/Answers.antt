@@ -1,7 +1,7 @@
 use Rattle.std.proofs.Common.{◌<◌, arith, length, sym, ap, ◌∙◌}
 use Rattle.std.specs.Option.{option_map}
-use Rattle.schema_parts.specs.Seen.{bases_in}
-use Rattle.link_cycles.specs.Tables.{told_by}
+use Rattle.schema_components.specs.Seen.{bases_in}
+use Rattle.link_names.specs.Tables.{told_by}
 use Rattle.link_simple.specs.Private.Parts.{entries_of, seen_all}
 use Rattle.link_simple.proofs.Varied.{some_part}
 use Rattle.link_simple.proofs.leaving.union_of_members.Goals as goal

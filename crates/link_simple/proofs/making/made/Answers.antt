@@ -1,7 +1,7 @@
 use Rattle.std.proofs.Common.{map, sym, ap, ◌∙◌, subst}
-use Rattle.schema_parts.specs.Documents.{doc_of}
-use Rattle.link_cycles.specs.Cycles.{edges}
-use Rattle.link_cycles.specs.Seen.{definitions_of}
+use Rattle.schema_components.specs.Documents.{doc_of}
+use Rattle.link_names.specs.Cycles.{edges}
+use Rattle.link_names.specs.CyclesSeen.{definitions_of}
 use Rattle.link_simple.specs.Private.Ordering.{IsAcyclic}
 use Rattle.link_simple.specs.Private.Told.{AreTold}
 use Rattle.link_simple.specs.Private.Varied.{AreVaried}

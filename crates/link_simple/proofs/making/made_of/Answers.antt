@@ -1,4 +1,4 @@
-use Rattle.link_cycles.specs.Seen.{definitions_of}
+use Rattle.link_names.specs.CyclesSeen.{definitions_of}
 use Rattle.link_simple.proofs.making.made_of.Goals as goal
 
 pub returns : goal.returns

@@ -1,8 +1,8 @@
 use Rattle.std.proofs.Common.{sym, ap, ◌∙◌, subst}
 use Rattle.std.specs.Prelude.{map}
-use Rattle.link_cycles.specs.Cycles.{parts_in, edges}
-use Rattle.link_cycles.specs.Graphs.{rows_of}
-use Rattle.link_cycles.specs.Seen.{definitions_of}
+use Rattle.link_names.specs.Cycles.{parts_in, edges}
+use Rattle.link_names.specs.Graphs.{rows_of}
+use Rattle.link_names.specs.CyclesSeen.{definitions_of}
 use Rattle.link_simple.specs.Private.Ordering.{IsAcyclic, IsInside, IsOrder}
 use Rattle.link_simple.proofs.Told.{edges_inside}
 use Rattle.link_simple.proofs.making.work.Goals as goal

@@ -1,9 +1,9 @@
 use Rattle.std.proofs.Common.{◌≡◌, true, false, take, inl, inr, subst}
 use Rattle.std.specs.Prelude.{slice_index}
 use Rattle.std.proofs.lemmas.List.{take_more}
-use Rattle.xa_base.specs.Lists.{HasItem}
-use Rattle.xa_base.proofs.Lists.{in_parts}
-use Rattle.link_cycles.specs.Private.Searching.{mark}
+use Rattle.base_texts.specs.Lists.{HasItem}
+use Rattle.base_texts.proofs.Lists.{in_parts}
+use Rattle.link_names.specs.Private.Searching.{mark}
 use Rattle.link_simple.proofs.Following.{has_at}
 use Rattle.link_simple.proofs.Standing.{mark_read}
 use Rattle.link_simple.proofs.orders.first_open.Goals as goal

@@ -1,6 +1,6 @@
 use Rattle.std.proofs.Common.{◌≡◌, ℕ, true, take}
-use Rattle.xa_base.specs.Lists.{HasItem}
-use Rattle.link_cycles.specs.Private.Searching.{mark}
+use Rattle.base_texts.specs.Lists.{HasItem}
+use Rattle.link_names.specs.Private.Searching.{mark}
 use Rattle.link_simple.proofs.orders.first_open.Given as goal
 
 -- those before this one are done

@@ -1,7 +1,7 @@
 use Rattle.std.proofs.Common.{◌≡◌, [], ℕ, arith, false, length, replicate, sym, ap, ◌∙◌, subst, Vec}
 use Rattle.std.specs.Global.{Global}
 use Rattle.std.proofs.lemmas.List.{length-map}
-use Rattle.link_cycles.specs.Graphs.{rows_of}
+use Rattle.link_names.specs.Graphs.{rows_of}
 use Rattle.link_simple.specs.Private.Ordering.{Walked}
 use Rattle.link_simple.proofs.Following.{walked_first, walked_end}
 use Rattle.link_simple.proofs.orders.order_of.Goals as goal

@@ -1,6 +1,6 @@
 use Rattle.std.proofs.Common.{◌≡◌, ◌<◌, ℕ, true, []}
-use Rattle.link_cycles.specs.Graphs.{rows_of}
-use Rattle.link_cycles.specs.Private.Searching.{mark}
+use Rattle.link_names.specs.Graphs.{rows_of}
+use Rattle.link_names.specs.Private.Searching.{mark}
 use Rattle.link_simple.specs.Private.Ordering.{Walked}
 use Rattle.link_simple.proofs.orders.order_of.Given as goal
 

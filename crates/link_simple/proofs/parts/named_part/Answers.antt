@@ -1,6 +1,6 @@
 use Rattle.std.proofs.Common.{Some, sym, ap, ◌∙◌}
-use Rattle.schema_parts.specs.Raw.{Named}
-use Rattle.link_cycles.specs.Tables.{told_by}
+use Rattle.schema_components.specs.Raw.{Named}
+use Rattle.link_names.specs.Tables.{told_by}
 use Rattle.link_simple.specs.Making.{space_at, part_space}
 use Rattle.link_simple.specs.Private.Parts.{entries_of}
 use Rattle.link_simple.proofs.parts.named_part.Goals as goal

@@ -1,9 +1,9 @@
 use Rattle.std.proofs.Common.{sym, ap, ◌∙◌}
-use Rattle.schema_parts.specs.Seen.{base_of}
-use Rattle.schema_parts.specs.Raw.{Named}
-use Rattle.schema_parts.proofs.Seen.{named_base, inner_base}
+use Rattle.schema_components.specs.Seen.{base_of}
+use Rattle.schema_components.specs.Raw.{Named}
+use Rattle.schema_components.proofs.Seen.{named_base, inner_base}
 use Rattle.link_names.specs.Order.{place}
-use Rattle.link_cycles.specs.Tables.{told_by}
+use Rattle.link_names.specs.Tables.{told_by}
 use Rattle.link_simple.specs.Making.{space_at, part_space}
 use Rattle.link_simple.specs.Private.Parts.{entries_of}
 use Rattle.link_simple.proofs.Lending.{named_space}

@@ -1,13 +1,13 @@
 use Rattle.std.proofs.Common.{◌≡◌, ◌+◌, drop, Some, sym, ap, ◌∙◌, subst}
 use Rattle.std.specs.Prelude.{IfSome}
 use Rattle.std.specs.Option.{option_map}
-use Rattle.schema_parts.specs.Seen.{base_of, bases_in}
+use Rattle.schema_components.specs.Seen.{base_of, bases_in}
 use Rattle.simple_types.specs.Sound.{Sound}
-use Rattle.facet_rules.specs.Making.{AreEachSound}
-use Rattle.link_cycles.specs.Tables.{told_by}
+use Rattle.simple_facets.specs.Making.{AreEachSound}
+use Rattle.link_names.specs.Tables.{told_by}
 use Rattle.link_simple.specs.Making.{part_space, part_spaces, with_space}
 use Rattle.link_simple.specs.Private.Parts.{entries_of, seen, seen_all, with_front}
-use Rattle.facet_rules.proofs.Counting.{cut, past_end}
+use Rattle.simple_facets.proofs.Counting.{cut, past_end}
 use Rattle.link_simple.proofs.Lending.{part_behind, part_missing, all_behind, part_sound}
 use Rattle.link_simple.proofs.parts.parts_of.Goals as goal
 

@@ -1,7 +1,7 @@
 use Rattle.std.proofs.Common.{◌≡◌, drop}
-use Rattle.facet_rules.specs.Making.{AreEachSound}
-use Rattle.schema_parts.specs.Seen.{bases_in}
-use Rattle.link_cycles.specs.Tables.{told_by}
+use Rattle.simple_facets.specs.Making.{AreEachSound}
+use Rattle.schema_components.specs.Seen.{bases_in}
+use Rattle.link_names.specs.Tables.{told_by}
 use Rattle.link_simple.specs.Making.{part_spaces}
 use Rattle.link_simple.specs.Private.Parts.{entries_of, seen_all, with_front}
 use Rattle.link_simple.proofs.parts.parts_of.Given as goal

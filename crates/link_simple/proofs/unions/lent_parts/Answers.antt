@@ -1,8 +1,8 @@
 use Rattle.std.proofs.Common.{sym, ap, ◌∙◌}
 use Rattle.simple_types.specs.Joining.{joined}
 use Rattle.simple_types.proofs.Copies.{joined-none}
-use Rattle.facet_rules.specs.Making.{lent_spaces}
-use Rattle.facet_rules.proofs.Counting.{past_end}
+use Rattle.simple_facets.specs.Making.{lent_spaces}
+use Rattle.simple_facets.proofs.Counting.{past_end}
 use Rattle.link_simple.specs.Private.Parts.{seen_all}
 use Rattle.link_simple.proofs.Lending.{part_lent}
 use Rattle.link_simple.proofs.unions.lent_parts.Goals as goal

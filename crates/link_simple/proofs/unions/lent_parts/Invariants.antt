@@ -1,6 +1,6 @@
 use Rattle.std.proofs.Common.{◌≡◌, drop}
 use Rattle.simple_types.specs.Joining.{joined}
-use Rattle.facet_rules.specs.Making.{lent_spaces}
+use Rattle.simple_facets.specs.Making.{lent_spaces}
 use Rattle.link_simple.specs.Private.Parts.{seen_all}
 use Rattle.link_simple.proofs.unions.lent_parts.Given as goal
 

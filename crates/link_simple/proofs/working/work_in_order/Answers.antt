@@ -1,10 +1,10 @@
 use Rattle.std.proofs.Common.{◌≡◌, ◌+◌, ◌<◌, ◌∷◌, ℕ, Bool, true, false, List, arith, drop, length, replicate, set, get_or, ◌∙◌, subst}
 use Rattle.std.proofs.lemmas.List.{length-map, drop_more}
-use Rattle.link_cycles.specs.Cycles.{numbers_in, parts_in, edges}
-use Rattle.link_cycles.specs.Private.Searching.{unseen}
-use Rattle.link_cycles.specs.Seen.{definition_of, definitions_of}
-use Rattle.link_cycles.specs.declared.definitions.SimpleType.{SimpleType}
-use Rattle.link_cycles.proofs.Walks.{set_less}
+use Rattle.link_names.specs.Cycles.{numbers_in, parts_in, edges}
+use Rattle.link_names.specs.Private.Searching.{unseen}
+use Rattle.link_names.specs.CyclesSeen.{definition_of, definitions_of}
+use Rattle.link_names.specs.declared.definitions.SimpleType.{SimpleType}
+use Rattle.link_names.proofs.Walks.{set_less}
 use Rattle.link_simple.specs.Private.Ordering.{Follow}
 use Rattle.link_simple.proofs.Finishing.{none_unseen, all_unseen}
 use Rattle.link_simple.proofs.working.work_in_order.Goals as goal

@@ -1,7 +1,7 @@
 use Rattle.std.proofs.Common.{◌≡◌, ◌+◌, Bool, List, length, drop}
-use Rattle.link_cycles.specs.Cycles.{edges}
-use Rattle.link_cycles.specs.Private.Searching.{unseen}
-use Rattle.link_cycles.specs.Seen.{definitions_of}
+use Rattle.link_names.specs.Cycles.{edges}
+use Rattle.link_names.specs.Private.Searching.{unseen}
+use Rattle.link_names.specs.CyclesSeen.{definitions_of}
 use Rattle.link_simple.specs.Private.Ordering.{Follow}
 use Rattle.link_simple.specs.Private.Working.{StandsIn}
 use Rattle.link_simple.proofs.working.work_in_order.Given as goal

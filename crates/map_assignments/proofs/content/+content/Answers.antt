@@ -1,8 +1,8 @@
 use Rattle.std.proofs.Common.{true, false, inl, inr, IfOk, refl, sym, ap, subst, ◌∙◌, arith}
 use Rattle.std.proofs.lemmas.List.{drop_all}
-use Rattle.label_tree.specs.Rose.{roses_of, kids_of, count_all}
-use Rattle.label_tree.proofs.Roses.{node_count-kids, node_count-positive}
-use Rattle.label_tree.proofs.Kids.{roses_of-drop, kid-count-le}
+use Rattle.base_trees.specs.Rose.{roses_of, kids_of, count_all}
+use Rattle.base_trees.proofs.Roses.{node_count-kids, node_count-positive}
+use Rattle.base_trees.proofs.Kids.{roses_of-drop, kid-count-le}
 use Rattle.content_models.specs.Seen.{term_seen, seen, all_seen}
 use Rattle.map_assignments.specs.Plans.{base, finish}
 use Rattle.map_assignments.specs.Planning.{simple_type, attributes, is_mixed, is_ordered, with_texts, with_order, order_plan, rest_parts, content_parts, content_type, top, term_type, particle_parts}

@@ -1,5 +1,5 @@
 use Rattle.std.proofs.Common.{◌+◌, ◌*◌, drop}
-use Rattle.label_tree.specs.Rose.{node_count, count_all, roses_of}
+use Rattle.base_trees.specs.Rose.{node_count, count_all, roses_of}
 use Rattle.content_models.specs.Seen.{all_seen}
 use Rattle.map_assignments.specs.Plans.{Parts}
 use Rattle.map_assignments.specs.Planning.{particle_parts}

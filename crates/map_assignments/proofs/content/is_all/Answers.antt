@@ -1,5 +1,5 @@
 use Rattle.std.proofs.Common.{refl, sym}
-use Rattle.label_tree.specs.Rose.{kids_of}
+use Rattle.base_trees.specs.Rose.{kids_of}
 use Rattle.map_assignments.proofs.Ordering.{all-some, all-not}
 use Rattle.map_assignments.proofs.content.is_all.Goals as goal
 

@@ -1,6 +1,6 @@
 use Rattle.std.proofs.Common.{sym, subst}
-use Rattle.name_map.specs.declared.conversion.NameKind.TheVariants.{Reference}
-use Rattle.name_map.specs.Taking.{IsTaken}
+use Rattle.asn_names.specs.declared.conversion.NameKind.TheVariants.{Reference}
+use Rattle.asn_names.specs.Taking.{IsTaken}
 use Rattle.map_assignments.specs.Planning.{body}
 use Rattle.map_assignments.specs.Naming.{IsNamed}
 use Rattle.map_assignments.specs.Private.Placing.{place_of, references_of}

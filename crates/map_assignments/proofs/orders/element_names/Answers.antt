@@ -1,5 +1,5 @@
 use Rattle.std.proofs.Common.{false, map}
-use Rattle.label_tree.specs.Rose.{roses_of}
+use Rattle.base_trees.specs.Rose.{roses_of}
 use Rattle.content_models.specs.Seen.{all_seen}
 use Rattle.map_assignments.specs.Planning.{labels, particle_parts}
 use Rattle.map_assignments.specs.Naming.{wanted}

@@ -1,7 +1,7 @@
 use Rattle.std.proofs.Common.{false, map, refl, ap, subst, ◌∙◌}
 use Rattle.std.proofs.lemmas.List.{drop_all}
-use Rattle.label_tree.specs.Rose.{roses_of, kids_of}
-use Rattle.label_tree.proofs.Kids.{roses_of-drop}
+use Rattle.base_trees.specs.Rose.{roses_of, kids_of}
+use Rattle.base_trees.proofs.Kids.{roses_of-drop}
 use Rattle.content_models.specs.Seen.{all_seen}
 use Rattle.map_assignments.specs.Planning.{labels, particle_parts}
 use Rattle.map_assignments.specs.Naming.{wanted}

@@ -1,5 +1,5 @@
 use Rattle.std.proofs.Common.{ap, refl, sym, subst, ◌∙◌, [], arith, codes, false, IfOk}
-use Rattle.label_tree.specs.Rose.{node, roses_of}
+use Rattle.base_trees.specs.Rose.{node, roses_of}
 use Rattle.simple_types.specs.Sound.{Sound}
 use Rattle.simple_types.specs.Space.{count_parts}
 use Rattle.simple_types.specs.Seen.{space_of}

@@ -1,8 +1,8 @@
 use Rattle.std.proofs.Common.{ap, sym, ◌∙◌, arith}
 use Rattle.std.specs.Option.{option_map}
-use Rattle.label_tree.specs.Rose.{roses_of, count_all}
-use Rattle.label_tree.proofs.Roses.{node_count-kids}
-use Rattle.label_tree.proofs.Kids.{kid-count-le}
+use Rattle.base_trees.specs.Rose.{roses_of, count_all}
+use Rattle.base_trees.proofs.Roses.{node_count-kids}
+use Rattle.base_trees.proofs.Kids.{kid-count-le}
 use Rattle.module_check.specs.Known.{leads_in}
 use Rattle.module_check.proofs.Chaining.{all-refused, all-begun, all-failed, all-stepped, all-past}
 use Rattle.module_check.proofs.chains.+all_lead.Goals as goal

@@ -1,7 +1,7 @@
 use Rattle.std.proofs.Common.{◌≡◌, drop}
 use Rattle.std.specs.Option.{option_map}
-use Rattle.label_tree.specs.Rose.{roses_of, node_count}
-use Rattle.module_faults.specs.Resolving.{all_references, all_references_in}
+use Rattle.base_trees.specs.Rose.{roses_of, node_count}
+use Rattle.module_text.specs.Resolving.{all_references, all_references_in}
 use Rattle.module_check.specs.Known.{leads_in}
 use Rattle.module_check.proofs.chains.+all_lead.Given as goal
 

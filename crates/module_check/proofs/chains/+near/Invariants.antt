@@ -1,7 +1,7 @@
 use Rattle.std.proofs.Common.{◌≡◌, ◌+◌, ◌*◌, drop}
 use Rattle.std.specs.Option.{option_map}
-use Rattle.label_tree.specs.Rose.{roses_of, node_count}
-use Rattle.module_faults.specs.Resolving.{near_references, near_references_of}
+use Rattle.base_trees.specs.Rose.{roses_of, node_count}
+use Rattle.module_text.specs.Resolving.{near_references, near_references_of}
 use Rattle.module_check.specs.Known.{leads_in}
 use Rattle.module_check.proofs.chains.+near.Given as goal
 

@@ -1,5 +1,5 @@
 use Rattle.std.proofs.Common.{Some, ap, ◌∙◌}
-use Rattle.module_faults.specs.Resolving.{all_references}
+use Rattle.module_text.specs.Resolving.{all_references}
 use Rattle.module_check.specs.Known.{leads_in}
 use Rattle.module_check.proofs.Chaining.{all-lead}
 use Rattle.module_check.proofs.chains.chains_end.Goals as goal

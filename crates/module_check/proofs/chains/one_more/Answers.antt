@@ -2,7 +2,7 @@ use Rattle.std.proofs.Common.{Bool, ◌++◌, ◌∷◌, [], take, map, ap, sym,
 use Rattle.std.specs.Option.{option_map}
 use Rattle.std.proofs.lemmas.List.{take_all}
 use Rattle.module_text.specs.declared.modules.PlainAssignment.{PlainAssignment}
-use Rattle.module_faults.specs.Resolving.{near_references}
+use Rattle.module_text.specs.Resolving.{near_references}
 use Rattle.module_check.specs.Known.{leads_in}
 use Rattle.module_check.proofs.Chaining.{map-more}
 use Rattle.module_check.proofs.chains.one_more.Goals as goal

@@ -1,7 +1,7 @@
 use Rattle.std.proofs.Common.{◌≡◌, take, map}
 use Rattle.std.specs.Option.{option_map}
 use Rattle.module_text.specs.declared.modules.PlainAssignment.{PlainAssignment}
-use Rattle.module_faults.specs.Resolving.{near_references}
+use Rattle.module_text.specs.Resolving.{near_references}
 use Rattle.module_check.specs.Known.{leads_in}
 use Rattle.module_check.proofs.chains.one_more.Given as goal
 

@@ -1,7 +1,7 @@
 use Rattle.std.proofs.Common.{sym, ◌∙◌}
 use Rattle.std.proofs.lemmas.List.{at_drop_all}
-use Rattle.module_faults.specs.Listed.{first}
-use Rattle.module_faults.specs.Faults.{faults_from}
+use Rattle.module_text.specs.Listed.{first}
+use Rattle.module_text.specs.Faults.{faults_from}
 use Rattle.module_check.proofs.Listing.{none-when, assignment-faulty, assignment-passed, assignment-free}
 use Rattle.module_check.proofs.finding.fault_of.Goals as goal
 

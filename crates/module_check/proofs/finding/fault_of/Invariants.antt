@@ -1,6 +1,6 @@
 use Rattle.std.proofs.Common.{◌≡◌, drop}
-use Rattle.module_faults.specs.Listed.{first}
-use Rattle.module_faults.specs.Faults.{faults, faults_from}
+use Rattle.module_text.specs.Listed.{first}
+use Rattle.module_text.specs.Faults.{faults, faults_from}
 use Rattle.module_check.proofs.finding.fault_of.Given as goal
 
 abbrev pub invariant-assignments : goal.invariant-assignments

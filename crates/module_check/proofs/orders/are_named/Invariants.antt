@@ -1,5 +1,5 @@
 use Rattle.std.proofs.Common.{◌≡◌, drop}
-use Rattle.module_faults.specs.Orders.{are_equal}
+use Rattle.module_text.specs.Orders.{are_equal}
 use Rattle.module_check.specs.Elements.{texts_in, names_of}
 use Rattle.module_check.proofs.orders.are_named.Given as goal
 

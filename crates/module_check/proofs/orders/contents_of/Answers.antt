@@ -1,8 +1,8 @@
 use Rattle.std.proofs.Common.{◌≡◌, ap, ◌∙◌, subst}
 use Rattle.std.proofs.lemmas.List.{take_all}
-use Rattle.label_tree.specs.Rose.{label_of}
+use Rattle.base_trees.specs.Rose.{label_of}
 use Rattle.module_text.specs.declared.modules.PlainAssignment.{PlainAssignment}
-use Rattle.module_index.proofs.Kept.{each-more}
+use Rattle.module_pieces.proofs.Kept.{each-more}
 use Rattle.module_check.specs.Elements.{elements_told, content_of}
 use Rattle.module_check.specs.Known.{AreContents}
 use Rattle.module_check.proofs.orders.contents_of.Goals as goal

@@ -1,5 +1,5 @@
 use Rattle.std.proofs.Common.{◌≡◌, ◌++◌, drop}
-use Rattle.module_faults.specs.Orders.{element_identifiers}
+use Rattle.module_text.specs.Orders.{element_identifiers}
 use Rattle.module_check.specs.Elements.{texts_in}
 use Rattle.module_check.proofs.Ordering.{identifiers_from}
 use Rattle.module_check.proofs.orders.elements_of.Given as goal

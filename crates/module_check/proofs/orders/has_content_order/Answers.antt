@@ -1,7 +1,7 @@
 use Rattle.std.proofs.Common.{◌≡◌, ap, sym, ◌∙◌, arith}
-use Rattle.label_tree.specs.Rose.{roses_of, label_of}
+use Rattle.base_trees.specs.Rose.{roses_of, label_of}
 use Rattle.module_text.specs.declared.modules.PlainAssignment.{PlainAssignment}
-use Rattle.module_index.proofs.Kept.{each-count, each-at}
+use Rattle.module_pieces.proofs.Kept.{each-count, each-at}
 use Rattle.module_check.specs.Elements.{elements_told, content_of, content_order}
 use Rattle.module_check.proofs.orders.has_content_order.Goals as goal
 

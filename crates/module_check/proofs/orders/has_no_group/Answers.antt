@@ -1,5 +1,5 @@
 use Rattle.std.proofs.Common.{◌∙◌, sym, ap}
-use Rattle.module_faults.specs.Orders.{is_group, parts_from, are_none}
+use Rattle.module_text.specs.Orders.{is_group, parts_from, are_none}
 use Rattle.module_check.proofs.Ordering.{group-here, no-group_here, no-more_groups}
 use Rattle.module_check.proofs.orders.has_no_group.Goals as goal
 

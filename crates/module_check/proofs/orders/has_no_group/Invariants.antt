@@ -1,5 +1,5 @@
 use Rattle.std.proofs.Common.{◌≡◌, drop}
-use Rattle.module_faults.specs.Orders.{is_group, parts_from, are_none, has_no_group}
+use Rattle.module_text.specs.Orders.{is_group, parts_from, are_none, has_no_group}
 use Rattle.module_check.proofs.orders.has_no_group.Given as goal
 
 abbrev pub invariant-parts : goal.invariant-parts

@@ -1,9 +1,9 @@
 use Rattle.std.proofs.Common.{◌≡◌, ◌-◌, length, slice_get, sym, ap, ◌∙◌, subst}
 use Rattle.std.specs.Prelude.{IfOk}
-use Rattle.label_tree.specs.Rose.{roses_of, label_of, kids_of}
-use Rattle.module_faults.specs.Told.{has_use_nil}
-use Rattle.module_faults.specs.Resolving.{resolve}
-use Rattle.module_faults.specs.Orders.{is_sequence, has_no_group, element_identifiers}
+use Rattle.base_trees.specs.Rose.{roses_of, label_of, kids_of}
+use Rattle.module_text.specs.Told.{has_use_nil}
+use Rattle.module_text.specs.Resolving.{resolve}
+use Rattle.module_text.specs.Orders.{is_sequence, has_no_group, element_identifiers}
 use Rattle.module_check.specs.Elements.{texts_in, part_of_order, content_order, content_of}
 use Rattle.module_check.proofs.Ordering.{own-order, content-ordered, no-content, last-of}
 use Rattle.module_check.proofs.orders.has_order_part.Goals as goal

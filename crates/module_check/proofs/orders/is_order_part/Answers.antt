@@ -1,7 +1,7 @@
 use Rattle.std.proofs.Common.{ap, sym, ◌∙◌}
 use Rattle.std.proofs.lemmas.Bool.{ltb-false}
 use Rattle.std.proofs.lemmas.Option.{slice_get_past}
-use Rattle.module_faults.specs.Resolving.{order_place}
+use Rattle.module_text.specs.Resolving.{order_place}
 use Rattle.module_check.specs.Elements.{texts_in}
 use Rattle.module_check.proofs.Ordering.{no-order_kid}
 use Rattle.module_check.proofs.orders.is_order_part.Goals as goal

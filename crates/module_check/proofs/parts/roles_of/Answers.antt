@@ -1,5 +1,5 @@
 use Rattle.std.proofs.Common.{ap, ◌∙◌}
-use Rattle.module_faults.specs.Told.{has_use_nil, has_embed_values, has_use_order, has_use_union}
+use Rattle.module_text.specs.Told.{has_use_nil, has_embed_values, has_use_order, has_use_union}
 use Rattle.module_check.proofs.parts.roles_of.Goals as goal
 
 pub returns : goal.returns

@@ -1,7 +1,7 @@
 use Rattle.std.proofs.Common.{ap, ◌∙◌, ◌==◌}
 use Rattle.std.specs.Prelude.{bytes_eq}
 use Rattle.std.specs.List.{list_any, slice_split}
-use Rattle.name_map.proofs.Apart.{split_reserved}
+use Rattle.asn_names.proofs.Apart.{split_reserved}
 use Rattle.module_check.proofs.reserved.is_reserved.Goals as goal
 
 pub returns : goal.returns

@@ -1,10 +1,10 @@
 use Rattle.std.proofs.Common.{length, ap, sym, ◌∙◌, ◌<◌, arith}
-use Rattle.label_tree.specs.Rose.{roses_of, count_all}
-use Rattle.label_tree.proofs.Roses.{node_count-kids}
-use Rattle.label_tree.proofs.Kids.{kid-count-le}
+use Rattle.base_trees.specs.Rose.{roses_of, count_all}
+use Rattle.base_trees.proofs.Roses.{node_count-kids}
+use Rattle.base_trees.proofs.Kids.{kid-count-le}
 use Rattle.std.proofs.lemmas.Result.{IfOk-weaker}
-use Rattle.module_faults.specs.Listed.{first}
-use Rattle.module_faults.specs.Told.{has_attribute}
+use Rattle.module_text.specs.Listed.{first}
+use Rattle.module_text.specs.Told.{has_attribute}
 use Rattle.module_check.specs.Judging.{faults_there}
 use Rattle.module_check.proofs.Firsts.{first-front, first-behind}
 use Rattle.module_check.proofs.Listing.{made-there, made-own, none-when, there-front, there-behind, type-own, type-parts, parts-begun, parts-again, parts-faulty, parts-passed, parts-past}

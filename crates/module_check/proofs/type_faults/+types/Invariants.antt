@@ -1,8 +1,8 @@
 use Rattle.std.proofs.Common.{[], ◌+◌, ◌-◌, ◌*◌, drop}
-use Rattle.label_tree.specs.Rose.{roses_of, node_count, count_all}
+use Rattle.base_trees.specs.Rose.{roses_of, node_count, count_all}
 use Rattle.module_text.specs.Texts.{parts_of}
-use Rattle.module_faults.specs.Listed.{first}
-use Rattle.module_faults.specs.Faults.{part_faults, nameless_parts}
+use Rattle.module_text.specs.Listed.{first}
+use Rattle.module_text.specs.Faults.{part_faults, nameless_parts}
 use Rattle.module_check.proofs.Listing.{PartsLeft}
 use Rattle.module_check.proofs.type_faults.+types.Given as goal
 

@@ -1,6 +1,6 @@
 use Rattle.std.proofs.Common.{ap, sym, ◌∙◌}
 use Rattle.module_text.specs.declared.types.PlainForm.TheVariants as form
-use Rattle.module_faults.specs.Marks.{item_number}
+use Rattle.module_text.specs.Marks.{item_number}
 use Rattle.module_check.proofs.type_marks.item_number.Goals as goal
 
 pub returns-in-Words-clause-number : goal.returns-in-Words-clause-number

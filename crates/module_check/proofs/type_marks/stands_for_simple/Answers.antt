@@ -1,6 +1,6 @@
 use Rattle.std.proofs.Common.{ap, sym, ◌∙◌}
 use Rattle.std.proofs.lemmas.Result.{IfOk-weaker}
-use Rattle.module_faults.specs.Simple.{is_simple}
+use Rattle.module_text.specs.Simple.{is_simple}
 use Rattle.module_check.proofs.Listing.{whole}
 use Rattle.module_check.proofs.type_marks.stands_for_simple.Goals as goal
 

@@ -1,6 +1,6 @@
 use Rattle.std.proofs.Common.{sym, ◌∙◌}
 use Rattle.std.proofs.lemmas.List.{at_drop_all}
-use Rattle.module_faults.specs.Listed.{first}
+use Rattle.module_text.specs.Listed.{first}
 use Rattle.module_check.proofs.Listing.{marks_left, mark-stopped, mark-passed}
 use Rattle.module_check.proofs.type_marks.type_mark_fault.Goals as goal
 

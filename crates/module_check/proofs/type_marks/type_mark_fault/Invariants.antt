@@ -1,7 +1,7 @@
 use Rattle.std.proofs.Common.{◌≡◌, None, drop}
-use Rattle.label_tree.specs.Rose.{label_of, kids_of, roses_of}
-use Rattle.module_faults.specs.Listed.{first}
-use Rattle.module_faults.specs.Faults.{type_mark_faults}
+use Rattle.base_trees.specs.Rose.{label_of, kids_of, roses_of}
+use Rattle.module_text.specs.Listed.{first}
+use Rattle.module_text.specs.Faults.{type_mark_faults}
 use Rattle.module_check.proofs.type_marks.type_mark_fault.Given as goal
 
 abbrev pub invariant-marks : goal.invariant-marks

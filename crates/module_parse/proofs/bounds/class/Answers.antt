@@ -1,5 +1,5 @@
 use Rattle.std.proofs.lemmas.Result.{err_from_is_err_and}
-use Rattle.plain_text.specs.Reading.{nothing_at}
+use Rattle.module_grammar.specs.Reading.{nothing_at}
 use Rattle.module_grammar.specs.BoundReading.{some_of, class_or_any}
 use Rattle.module_parse.proofs.Chaining.{as_read, as_stops, or_first, or_second, nothing_read, or_again}
 use Rattle.module_parse.proofs.bounds.class.Goals as goal

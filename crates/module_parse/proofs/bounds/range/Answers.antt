@@ -1,6 +1,6 @@
 use Rattle.std.proofs.lemmas.Result.{err_from_is_err_and}
 use Rattle.std.specs.Prelude.{codes}
-use Rattle.plain_text.specs.Reading.{behind_at}
+use Rattle.module_grammar.specs.Reading.{behind_at}
 use Rattle.module_grammar.specs.NameReading.{number_at}
 use Rattle.module_grammar.specs.BoundReading.{range_of}
 use Rattle.module_parse.proofs.Chaining.{as_read, as_stops, behind_read, behind_stops, behind_next_stops, or_first, or_second, or_second_stops, or_again}

@@ -1,6 +1,6 @@
 use Rattle.std.proofs.lemmas.Result.{err_from_is_err_and}
 use Rattle.std.specs.Prelude.{codes}
-use Rattle.plain_text.specs.Reading.{before_at}
+use Rattle.module_grammar.specs.Reading.{before_at}
 use Rattle.module_grammar.specs.BoundReading.{ends_at}
 use Rattle.module_parse.proofs.Chaining.{behind_read, behind_stops, behind_next_stops, before_read, before_stops, before_word_stops}
 use Rattle.module_parse.proofs.bounds.size_in_parentheses.Goals as goal

@@ -1,6 +1,6 @@
 use Rattle.std.proofs.lemmas.Result.{err_from_is_err_and}
 use Rattle.std.specs.Prelude.{codes}
-use Rattle.plain_text.specs.Reading.{or_at}
+use Rattle.module_grammar.specs.Reading.{or_at}
 use Rattle.module_grammar.specs.NameReading.{number_at}
 use Rattle.module_grammar.specs.BoundReading.{here, max_at}
 use Rattle.module_parse.specs.Readers.{upper_of}

@@ -1,7 +1,7 @@
 use Rattle.std.proofs.Common.{◌∙◌, sym, ap, subst, arith, [], ◌∷◌, ◌++◌, suc, ◌≡◌, ◌-◌}
 use Rattle.std.proofs.lemmas.Result.{err_from_is_err_and}
 use Rattle.std.specs.Prelude.{codes}
-use Rattle.plain_text.specs.Reading.{nothing_at, then_at, or_at, as_at, behind_at}
+use Rattle.module_grammar.specs.Reading.{nothing_at, then_at, or_at, as_at, behind_at}
 use Rattle.module_grammar.specs.MarkReading.{part_marks_at}
 use Rattle.module_grammar.specs.TypeReading.{component_at, bare_of, item_label_at, block_at, sequence_of_at, form_of, form_at, typed_of, type_at, tail_at, choice_of, between, word_of}
 use Rattle.module_parse.specs.Readers.{sorted_at, word_seen}

@@ -1,5 +1,5 @@
 use Rattle.std.proofs.Common.{length, suc, ◌-◌, ◌+◌, ◌*◌}
-use Rattle.plain_text.specs.Reading.{behind_at}
+use Rattle.module_grammar.specs.Reading.{behind_at}
 use Rattle.module_grammar.specs.TypeReading.{type_at, between}
 use Rattle.module_parse.specs.Readers.{sorted_at}
 use Rattle.module_parse.proofs.Parting.{Parts}

@@ -1,5 +1,5 @@
 use Rattle.std.proofs.lemmas.Result.{err_from_is_err_and}
-use Rattle.plain_text.specs.Reading.{nothing_at, or_at}
+use Rattle.module_grammar.specs.Reading.{nothing_at, or_at}
 use Rattle.module_grammar.specs.NameReading.{plain_identifier_at}
 use Rattle.module_grammar.specs.TypeReading.{enumerated_at}
 use Rattle.module_parse.specs.Readers.{enumerated_form_of}

@@ -1,6 +1,6 @@
 use Rattle.std.proofs.lemmas.Result.{err_from_is_err_and}
 use Rattle.std.specs.Prelude.{codes}
-use Rattle.plain_text.specs.Reading.{before_at}
+use Rattle.module_grammar.specs.Reading.{before_at}
 use Rattle.module_grammar.specs.ValueReading.{listed_at}
 use Rattle.module_grammar.specs.TypeReading.{numbered_at}
 use Rattle.module_parse.proofs.Chaining.{behind_read, behind_stops, behind_next_stops, before_read, before_stops, before_word_stops}

@@ -1,7 +1,7 @@
 use Rattle.std.proofs.Common.{◌∙◌, ap, [], ◌∷◌, ◌++◌, ◌≡◌}
 use Rattle.std.proofs.lemmas.Result.{err_from_is_err_and}
 use Rattle.std.specs.Prelude.{codes}
-use Rattle.plain_text.specs.Reading.{many_at, behind_at}
+use Rattle.module_grammar.specs.Reading.{many_at, behind_at}
 use Rattle.module_grammar.specs.NameReading.{plain_identifier_at}
 use Rattle.module_grammar.specs.ValueReading.{listed_of}
 use Rattle.module_parse.proofs.Chaining.{as_read, as_stops, then_read, then_stops, then_next_stops, going_again}

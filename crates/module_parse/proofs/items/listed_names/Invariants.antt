@@ -1,6 +1,6 @@
 use Rattle.std.proofs.Common.{length, ◌-◌}
 use Rattle.std.specs.Prelude.{codes}
-use Rattle.plain_text.specs.Reading.{behind_at}
+use Rattle.module_grammar.specs.Reading.{behind_at}
 use Rattle.module_grammar.specs.NameReading.{plain_identifier_at}
 use Rattle.module_parse.proofs.Looping.{More}
 use Rattle.module_parse.proofs.items.listed_names.Given as goal

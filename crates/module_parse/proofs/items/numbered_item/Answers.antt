@@ -1,6 +1,6 @@
 use Rattle.std.proofs.lemmas.Result.{err_from_is_err_and}
 use Rattle.std.specs.Prelude.{codes}
-use Rattle.plain_text.specs.Reading.{before_at}
+use Rattle.module_grammar.specs.Reading.{before_at}
 use Rattle.module_grammar.specs.NameReading.{number_at}
 use Rattle.module_grammar.specs.TypeReading.{numbered_of}
 use Rattle.module_parse.proofs.Chaining.{as_read, as_stops, then_read, then_stops, then_next_stops, before_read, before_stops, before_word_stops}

@@ -1,6 +1,6 @@
 use Rattle.std.proofs.Common.{inl}
 use Rattle.std.proofs.lemmas.Result.{err_from_is_err_and}
-use Rattle.plain_text.specs.Reading.{byte_at}
+use Rattle.module_grammar.specs.Reading.{byte_at}
 use Rattle.module_parse.proofs.Chaining.{or_first, or_again}
 use Rattle.module_parse.proofs.Looping.{start_reads}
 use Rattle.module_text.specs.Names.{is_capital}

@@ -1,6 +1,6 @@
 use Rattle.std.proofs.lemmas.Result.{err_from_is_err_and}
 use Rattle.std.specs.Prelude.{codes}
-use Rattle.plain_text.specs.Reading.{then_at, before_at}
+use Rattle.module_grammar.specs.Reading.{then_at, before_at}
 use Rattle.module_grammar.specs.NameReading.{identifier_at}
 use Rattle.module_grammar.specs.MarkReading.{name_as_at, text_kind}
 use Rattle.module_parse.proofs.Chaining.{as_read, as_stops, then_read, then_stops, then_next_stops, behind_read, behind_stops, behind_next_stops, before_read, before_stops, before_word_stops}

@@ -1,6 +1,6 @@
 use Rattle.std.proofs.lemmas.Result.{err_from_is_err_and}
 use Rattle.std.specs.Prelude.{codes}
-use Rattle.plain_text.specs.Reading.{then_at, before_at}
+use Rattle.module_grammar.specs.Reading.{then_at, before_at}
 use Rattle.module_grammar.specs.MarkReading.{part_marks_at}
 use Rattle.module_grammar.specs.TypeReading.{type_at}
 use Rattle.module_grammar.specs.ModuleReading.{assignment_of}

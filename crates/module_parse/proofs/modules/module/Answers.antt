@@ -1,5 +1,5 @@
 use Rattle.std.proofs.lemmas.Result.{err_from_is_err_and}
-use Rattle.plain_text.specs.Reading.{many_at, before_at}
+use Rattle.module_grammar.specs.Reading.{many_at, before_at}
 use Rattle.module_grammar.specs.ModuleReading.{assignment_at}
 use Rattle.module_print.specs.Printed.{opening, closing}
 use Rattle.module_parse.proofs.Chaining.{behind_read, behind_stops, behind_next_stops, before_read, before_stops, before_word_stops}

@@ -1,6 +1,6 @@
 -- By the bytes so far.
 use Rattle.std.proofs.Common.{◌∙◌, sym}
-use Rattle.xa_base.specs.Digits.{is_digit}
+use Rattle.base_texts.specs.Digits.{is_digit}
 use Rattle.module_parse.proofs.Spanning.{spanned_none, spanned_next, spanned_all, spanned_other}
 use Rattle.module_parse.proofs.names.behind_digits.Goals.{then-loop-at-test+else-is_digit, else-loop-at-test}
 use Rattle.module_parse.proofs.names.behind_digits.Goals as goal

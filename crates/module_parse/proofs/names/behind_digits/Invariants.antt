@@ -1,6 +1,6 @@
 -- The bytes so far are digits.
 use Rattle.std.proofs.Common.{length, ◌-◌}
-use Rattle.xa_base.specs.Digits.{is_digit}
+use Rattle.base_texts.specs.Digits.{is_digit}
 use Rattle.module_parse.proofs.Spanning.{Spanned}
 use Rattle.module_parse.proofs.names.behind_digits.Given as goal
 

@@ -1,5 +1,5 @@
 use Rattle.std.proofs.lemmas.Result.{err_from_is_err_and}
-use Rattle.plain_text.specs.Reading.{many_at}
+use Rattle.module_grammar.specs.Reading.{many_at}
 use Rattle.module_grammar.specs.NameReading.{piece_at, begun}
 use Rattle.module_parse.proofs.Chaining.{as_stops, then_stops}
 use Rattle.module_parse.proofs.Naming.{name_span}

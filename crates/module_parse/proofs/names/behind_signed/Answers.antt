@@ -1,9 +1,9 @@
 -- With `-` before them or without.
 use Rattle.std.proofs.Common.{◌∙◌, sym, ap, subst, arith, Err}
 use Rattle.std.proofs.lemmas.Result.{err_from_is_err_and}
-use Rattle.plain_text.specs.declared.reach.Stop.TheVariants as stop
-use Rattle.plain_text.specs.Reading.{word_at}
-use Rattle.plain_text.specs.Reached.{reading, Passes}
+use Rattle.module_grammar.specs.declared.reach.Stop.TheVariants as stop
+use Rattle.module_grammar.specs.Reading.{word_at}
+use Rattle.module_grammar.specs.Reached.{reading, Passes}
 use Rattle.module_grammar.specs.NameReading.{numeral_at}
 use Rattle.module_parse.specs.Spans.{GivesSpan}
 use Rattle.module_parse.proofs.Numerals.{minus, word_byte, signed_negative, signed_as_numeral, no_minus, no_digit_behind, stops_signed, stops_numeral}

@@ -1,5 +1,5 @@
 use Rattle.std.proofs.lemmas.Result.{err_from_is_err_and}
-use Rattle.plain_text.specs.Reading.{byte_at}
+use Rattle.module_grammar.specs.Reading.{byte_at}
 use Rattle.module_parse.proofs.Chaining.{then_stops}
 use Rattle.module_parse.proofs.Naming.{octet_span}
 use Rattle.module_text.specs.Names.{is_hexadecimal_digit}

@@ -1,6 +1,6 @@
 use Rattle.std.proofs.lemmas.Result.{err_from_is_err_and}
 use Rattle.std.specs.Prelude.{codes}
-use Rattle.plain_text.specs.Reading.{byte_at, behind_at}
+use Rattle.module_grammar.specs.Reading.{byte_at, behind_at}
 use Rattle.module_parse.proofs.Chaining.{behind_stops, or_second_stops, or_again}
 use Rattle.module_parse.proofs.Naming.{letter_piece, hyphen_piece}
 use Rattle.module_text.specs.Names.{is_letter_or_digit}

@@ -1,7 +1,7 @@
 use Rattle.std.proofs.Common.{subst}
 use Rattle.std.proofs.lemmas.Result.{err_from_is_err_and}
 use Rattle.std.specs.Prelude.{codes}
-use Rattle.plain_text.specs.Reading.{many_at, before_at}
+use Rattle.module_grammar.specs.Reading.{many_at, before_at}
 use Rattle.module_grammar.specs.NameReading.{quoted_at, quoted_byte_at, bytes_of}
 use Rattle.module_parse.specs.Reads.{IsRead}
 use Rattle.module_parse.proofs.Chaining.{as_read, as_stops, behind_read, behind_stops, behind_next_stops, before_read, before_stops, before_word_stops}

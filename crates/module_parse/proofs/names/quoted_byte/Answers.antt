@@ -1,7 +1,7 @@
 use Rattle.std.proofs.Common.{refl, inl, inr, get_or}
 use Rattle.std.proofs.lemmas.Result.{err_from_is_err_and}
 use Rattle.std.specs.Prelude.{codes}
-use Rattle.plain_text.specs.Reading.{word_at}
+use Rattle.module_grammar.specs.Reading.{word_at}
 use Rattle.module_parse.proofs.Chaining.{or_first, or_second, or_second_stops, or_again}
 use Rattle.module_parse.proofs.names.quoted_byte.Goals as goal
 

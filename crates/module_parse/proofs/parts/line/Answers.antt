@@ -1,6 +1,6 @@
 use Rattle.std.proofs.Common.{subst, refl, arith, ◌≡◌, ◌+◌}
 use Rattle.std.proofs.lemmas.Result.{err_from_is_err_and}
-use Rattle.plain_text.specs.Reading.{word_at}
+use Rattle.module_grammar.specs.Reading.{word_at}
 use Rattle.module_grammar.specs.NameReading.{begun}
 use Rattle.module_parse.specs.Reads.{IsRead}
 use Rattle.module_parse.proofs.Lining.{line_begun, line_next, line_stops, line_none_stops}

@@ -1,5 +1,5 @@
 use Rattle.std.proofs.Common.{length, ◌-◌, ◌<◌, ◌≤◌}
-use Rattle.plain_text.specs.Reading.{word_at}
+use Rattle.module_grammar.specs.Reading.{word_at}
 use Rattle.module_print.specs.Notation.{new_line}
 use Rattle.module_parse.specs.Reads.{IsRead}
 use Rattle.module_parse.proofs.parts.line.Given as goal

@@ -1,7 +1,7 @@
 use Rattle.std.proofs.Common.{◌∙◌, ap, subst, arith, [], ◌∷◌, ◌++◌, suc, ◌≡◌, ◌-◌}
 use Rattle.std.proofs.lemmas.Result.{err_from_is_err_and}
 use Rattle.std.specs.Prelude.{codes}
-use Rattle.plain_text.specs.Reading.{word_at, or_at, many_at, behind_at, before_at}
+use Rattle.module_grammar.specs.Reading.{word_at, or_at, many_at, behind_at, before_at}
 use Rattle.module_grammar.specs.NameReading.{identifier_at, signed_at, quoted_at}
 use Rattle.module_grammar.specs.ValueReading.{listed_of, listed_at, value_of, braced_at, chosen_at, value_at}
 use Rattle.module_parse.specs.Readers.{late_value_of, late_value_at}

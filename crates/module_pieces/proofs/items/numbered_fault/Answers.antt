@@ -1,8 +1,8 @@
 use Rattle.std.proofs.Common.{◌+◌, ◌++◌, [], ◌∷◌, drop, sym, ap, ◌∙◌}
 use Rattle.std.proofs.lemmas.List.{at_drop_more, at_drop_all}
 use Rattle.module_text.specs.declared.types.NumberedItem.{NumberedItem}
-use Rattle.module_faults.specs.Listed.{first}
-use Rattle.module_faults.specs.Faults.{numbered_faults}
+use Rattle.module_text.specs.Listed.{first}
+use Rattle.module_text.specs.Faults.{numbered_faults}
 use Rattle.module_pieces.proofs.Listing.{item-again, item-faulty, item-passed}
 use Rattle.module_pieces.proofs.items.numbered_fault.Goals as goal
 

@@ -1,6 +1,6 @@
 use Rattle.std.proofs.Common.{◌≡◌, None, [], drop}
-use Rattle.module_faults.specs.Listed.{first}
-use Rattle.module_faults.specs.Faults.{numbered_faults}
+use Rattle.module_text.specs.Listed.{first}
+use Rattle.module_text.specs.Faults.{numbered_faults}
 use Rattle.module_pieces.proofs.items.numbered_fault.Given as goal
 
 abbrev pub invariant-items : goal.invariant-items

@@ -1,8 +1,8 @@
 use Rattle.std.proofs.Common.{Some, ◌+◌, ◌++◌, [], ◌∷◌, drop, sym, ap, ◌∙◌, append-nil}
 use Rattle.std.proofs.lemmas.List.{at_drop_more, at_drop_all}
-use Rattle.simple_values.specs.Lexical.{whole_number}
-use Rattle.module_faults.specs.Told.{whole_of}
-use Rattle.module_faults.specs.Simple.{with_number, numbers_of}
+use Rattle.simple_types.specs.Lexical.{whole_number}
+use Rattle.module_text.specs.Told.{whole_of}
+use Rattle.module_text.specs.Simple.{with_number, numbers_of}
 use Rattle.std.proofs.lemmas.Int.{to_z-of_z}
 use mir.Syntax.{w128}
 use Rattle.module_pieces.proofs.Numerals.{kept-fits}

@@ -1,5 +1,5 @@
 use Rattle.std.proofs.Common.{◌≡◌, drop}
-use Rattle.module_faults.specs.Simple.{numbers_of}
+use Rattle.module_text.specs.Simple.{numbers_of}
 use Rattle.module_pieces.proofs.Listing.{with_front}
 use Rattle.module_pieces.proofs.items.numbers_of.Given as goal
 

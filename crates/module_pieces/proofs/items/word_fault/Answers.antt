@@ -3,9 +3,9 @@ use Rattle.std.specs.Prelude.{nat_le}
 use Rattle.std.specs.Option.{option_map}
 use Rattle.std.proofs.lemmas.List.{at_drop_more}
 use Rattle.module_text.specs.declared.types.PlainName.{PlainName}
-use Rattle.module_faults.specs.declared.reasons.Fault.{Fault}
-use Rattle.module_faults.specs.Listed.{first}
-use Rattle.module_faults.specs.Faults.{word_faults}
+use Rattle.module_text.specs.declared.reasons.Fault.{Fault}
+use Rattle.module_text.specs.Listed.{first}
+use Rattle.module_text.specs.Faults.{word_faults}
 use Rattle.module_pieces.proofs.Listing.{word-again, word-below, words-ended}
 use Rattle.module_pieces.proofs.items.word_fault.Goals as goal
 

@@ -1,7 +1,7 @@
 use Rattle.std.proofs.Common.{◌≡◌, None, [], drop}
 use Rattle.std.specs.Option.{option_map}
-use Rattle.module_faults.specs.Listed.{first}
-use Rattle.module_faults.specs.Faults.{word_faults}
+use Rattle.module_text.specs.Listed.{first}
+use Rattle.module_text.specs.Faults.{word_faults}
 use Rattle.module_pieces.proofs.items.word_fault.Given as goal
 
 abbrev pub invariant-items : goal.invariant-items

@@ -1,6 +1,6 @@
 use Rattle.std.proofs.Common.{chars, ap, ◌∙◌}
 use Rattle.std.specs.List.{list_all}
-use Rattle.xa_base.specs.Characters.{is_xml_char}
+use Rattle.base_texts.specs.Characters.{is_xml_char}
 use Rattle.module_pieces.proofs.XmlTexts.{xml-utf8, xml-not}
 use Rattle.module_pieces.proofs.names.is_xml_text.Goals as goal
 

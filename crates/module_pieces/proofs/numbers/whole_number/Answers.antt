@@ -3,8 +3,8 @@ use Rattle.std.specs.Prelude.{FitsSigned}
 use Rattle.std.specs.Str.Parse.{without_leading_sign, signed_digits_value, IsNumeral}
 use Rattle.std.proofs.lemmas.Int.{to_z-of_z}
 use mir.Syntax.{w128}
-use Rattle.xa_base.specs.Digits.{is_numeral}
-use Rattle.simple_values.proofs.WholeNumbers.{numeral_is}
+use Rattle.base_texts.specs.Digits.{is_numeral}
+use Rattle.simple_types.proofs.WholeNumbers.{numeral_is}
 use Rattle.module_pieces.proofs.Numerals.{number-utf8, not-kept, is-kept, no-number}
 use Rattle.module_pieces.proofs.numbers.whole_number.Goals as goal
 

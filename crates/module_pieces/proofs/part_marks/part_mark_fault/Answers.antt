@@ -1,7 +1,7 @@
 use Rattle.std.proofs.Common.{Some, ◌+◌, ◌∷◌, drop, sym, ap, ◌∙◌}
 use Rattle.std.proofs.lemmas.List.{at_drop_more, at_drop_all}
-use Rattle.module_faults.specs.Listed.{first}
-use Rattle.module_faults.specs.Faults.{part_mark_faults}
+use Rattle.module_text.specs.Listed.{first}
+use Rattle.module_text.specs.Faults.{part_mark_faults}
 use Rattle.module_pieces.proofs.Listing.{mark-passed, mark-stopped}
 use Rattle.module_pieces.proofs.part_marks.part_mark_fault.Goals as goal
 

@@ -1,6 +1,6 @@
 use Rattle.std.proofs.Common.{◌≡◌, None, drop}
-use Rattle.module_faults.specs.Listed.{first}
-use Rattle.module_faults.specs.Faults.{part_mark_faults}
+use Rattle.module_text.specs.Listed.{first}
+use Rattle.module_text.specs.Faults.{part_mark_faults}
 use Rattle.module_pieces.proofs.part_marks.part_mark_fault.Given as goal
 
 abbrev pub invariant-marks : goal.invariant-marks

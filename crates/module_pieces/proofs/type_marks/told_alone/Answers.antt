@@ -1,6 +1,6 @@
 use Rattle.std.proofs.Common.{◌+◌, ◌∷◌, drop, sym, ap, ◌∙◌}
 use Rattle.std.proofs.lemmas.List.{at_drop_more, at_drop_all}
-use Rattle.module_faults.specs.Told.{alone_behind, with_mark}
+use Rattle.module_text.specs.Told.{alone_behind, with_mark}
 use Rattle.module_pieces.proofs.type_marks.told_alone.Goals as goal
 
 pub marks-preserved : goal.marks-preserved

@@ -1,6 +1,6 @@
 use Rattle.std.proofs.Common.{◌≡◌, drop}
 use Rattle.std.specs.List.{filter_map}
-use Rattle.module_faults.specs.Told.{said}
+use Rattle.module_text.specs.Told.{said}
 use Rattle.module_pieces.proofs.words.next_text.Given as goal
 
 abbrev pub invariant-marks : goal.invariant-marks

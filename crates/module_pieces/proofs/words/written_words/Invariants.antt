@@ -1,5 +1,5 @@
 use Rattle.std.proofs.Common.{◌≡◌, ◌++◌, drop}
-use Rattle.module_faults.specs.Told.{words_of}
+use Rattle.module_text.specs.Told.{words_of}
 use Rattle.module_pieces.proofs.words.written_words.Given as goal
 
 abbrev pub invariant-items : goal.invariant-items

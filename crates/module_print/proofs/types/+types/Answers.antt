@@ -1,7 +1,7 @@
 use Rattle.std.proofs.Common.{◌<◌, length, rules, ap, sym, subst, ◌∙◌, arith}
-use Rattle.label_tree.specs.Rose.{count_all, roses_of, AllowedAll}
-use Rattle.label_tree.proofs.Kids.{kid-count-le, kid-allowed}
-use Rattle.label_tree.proofs.Roses.{node_count-kids, allowed-label, allowed-kids}
+use Rattle.base_trees.specs.Rose.{count_all, roses_of, AllowedAll}
+use Rattle.base_trees.proofs.Kids.{kid-count-le, kid-allowed}
+use Rattle.base_trees.proofs.Roses.{node_count-kids, allowed-label, allowed-kids}
 use Rattle.asn_types.specs.Parts.{parts_of, MayHave}
 use Rattle.module_print.proofs.Standards.{well_formed-kids, standards-kids, kid-well_formed, standard-at}
 use Rattle.module_print.proofs.Typing.{still_indented, indented, on_ok, written-type, block-parts, parts-end}

@@ -1,5 +1,5 @@
 use Rattle.std.proofs.Common.{◌≡◌, ◌+◌, ◌*◌, ◌++◌, drop}
-use Rattle.label_tree.specs.Rose.{node_count, count_all, roses_of}
+use Rattle.base_trees.specs.Rose.{node_count, count_all, roses_of}
 use Rattle.module_print.specs.Notation.{new_line}
 use Rattle.module_print.specs.Printed.{printed_parts}
 use Rattle.module_print.proofs.Listing.{listed_from}

@@ -2,10 +2,10 @@ use Rattle.std.proofs.Common.{◌≡◌, ◌++◌, ◌∷◌, codes, sym, ap, �
 use Rattle.std.specs.Prelude.{map}
 use Rattle.std.proofs.lemmas.List.{append-nil}
 use Rattle.std.proofs.lemmas.Option.{slice_get_within, get_or_from_slice_get}
-use Rattle.label_tree.specs.Rose.{count_all, roses_of}
-use Rattle.label_tree.proofs.Kids.{kid-count-le}
-use Rattle.label_tree.proofs.Roses.{node_count-kids}
-use Rattle.simple_values.proofs.Spellings.{found_at, missed_at}
+use Rattle.base_trees.specs.Rose.{count_all, roses_of}
+use Rattle.base_trees.proofs.Kids.{kid-count-le}
+use Rattle.base_trees.proofs.Roses.{node_count-kids}
+use Rattle.simple_types.proofs.Spellings.{found_at, missed_at}
 use Rattle.asn_types.specs.declared.types.TypeLabel.{TypeLabel}
 use Rattle.module_print.specs.Notation.{listed}
 use Rattle.module_print.specs.Values.{part_notation}

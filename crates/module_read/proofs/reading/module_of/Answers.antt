@@ -1,5 +1,5 @@
 use Rattle.std.proofs.Common.{sym, ◌∙◌}
-use Rattle.module_faults.specs.Faults.{faults}
+use Rattle.module_text.specs.Faults.{faults}
 use Rattle.module_read.proofs.Answering.{none_first, first_bad}
 use Rattle.module_read.proofs.reading.module_of.Goals as goal
 

@@ -1,12 +1,12 @@
 use Rattle.std.proofs.Common.{◌≡◌, [], ◌∷◌, ◌++◌, Some, None, sym, ap, ◌∙◌, subst, arith}
 use Rattle.std.specs.Prelude.{IfOk, slice_get}
-use Rattle.label_tree.specs.Rose.{roses_of, label_of, kids_of, count_all}
-use Rattle.label_tree.proofs.Roses.{node_count-kids}
-use Rattle.label_tree.proofs.Kids.{kid-count-le}
+use Rattle.base_trees.specs.Rose.{roses_of, label_of, kids_of, count_all}
+use Rattle.base_trees.proofs.Roses.{node_count-kids}
+use Rattle.base_trees.proofs.Kids.{kid-count-le}
 use Rattle.module_text.specs.declared.values.PlainValue.TheVariants as value
-use Rattle.module_faults.specs.Defaults.{alternative_named, is_list_form}
-use Rattle.module_index.specs.Indexed.{IsIndex, IndexAll}
-use Rattle.module_index.proofs.Kept.{own-index, kid-indexes}
+use Rattle.module_text.specs.Defaults.{alternative_named, is_list_form}
+use Rattle.module_pieces.specs.Indexed.{IsIndex, IndexAll}
+use Rattle.module_pieces.proofs.Kept.{own-index, kid-indexes}
 use Rattle.module_simple.specs.Made.{if_told, behind_it}
 use Rattle.module_simple.specs.Written.{list_told, chosen_told}
 use Rattle.module_simple.proofs.Writing.{text_of, list-first, list-fails, chosen-many, chosen-one, chosen-no_kid, told-by}

@@ -1,5 +1,5 @@
 use Rattle.std.proofs.Common.{◌≡◌, ◌+◌, ◌*◌, drop}
-use Rattle.label_tree.specs.Rose.{node_count, count_all, roses_of}
+use Rattle.base_trees.specs.Rose.{node_count, count_all, roses_of}
 use Rattle.module_simple.specs.Made.{behind_it}
 use Rattle.module_simple.specs.Written.{list_told}
 use Rattle.module_simple.proofs.Writing.{texts_of, with_texts}

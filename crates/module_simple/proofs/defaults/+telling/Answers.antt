@@ -1,10 +1,10 @@
 use Rattle.std.proofs.Common.{◌&&◌, Some, slice_get, sym, ap, ◌∙◌, arith}
-use Rattle.label_tree.specs.Rose.{roses_of, label_of, kids_of}
-use Rattle.label_tree.proofs.Roses.{node_count-kids}
-use Rattle.label_tree.proofs.Kids.{kid-count-le}
-use Rattle.simple_values.proofs.Spellings.{found_at, missed_at}
+use Rattle.base_trees.specs.Rose.{roses_of, label_of, kids_of}
+use Rattle.base_trees.proofs.Roses.{node_count-kids}
+use Rattle.base_trees.proofs.Kids.{kid-count-le}
+use Rattle.simple_types.proofs.Spellings.{found_at, missed_at}
 use Rattle.module_text.specs.declared.values.PlainValue.TheVariants as value
-use Rattle.module_faults.specs.Defaults.{is_list_told, chosen_told, is_alternative_of, are_told}
+use Rattle.module_text.specs.Defaults.{is_list_told, chosen_told, is_alternative_of, are_told}
 use Rattle.module_simple.proofs.SoTold.{no-node, not-so, so-far, end-told, all-told, no-kid, chosen_so, so-by}
 use Rattle.module_simple.proofs.defaults.+telling.Goals as goal
 

@@ -1,6 +1,6 @@
 use Rattle.std.proofs.Common.{◌≡◌, ◌+◌, ◌*◌, Some, drop}
-use Rattle.label_tree.specs.Rose.{node_count, count_all, roses_of}
-use Rattle.module_faults.specs.Defaults.{are_told}
+use Rattle.base_trees.specs.Rose.{node_count, count_all, roses_of}
+use Rattle.module_text.specs.Defaults.{are_told}
 use Rattle.module_simple.proofs.defaults.+telling.Given as goal
 
 abbrev pub decreases-is_told : goal.decreases-is_told

@@ -1,7 +1,7 @@
 use Rattle.std.proofs.Common.{Err, sym, ap, ◌∙◌, subst}
 use Rattle.simple_types.specs.Seen.{space_of}
-use Rattle.simple_values.specs.Reading.{Holds}
-use Rattle.simple_values.proofs.OwnSpellings.{holds_again}
+use Rattle.simple_types.specs.Reading.{Holds}
+use Rattle.simple_types.proofs.OwnSpellings.{holds_again}
 use Rattle.module_simple.proofs.XmlTexts.{xml-utf8}
 use Rattle.module_simple.proofs.defaults.canonical_value.Goals as goal
 

@@ -1,8 +1,8 @@
 use Rattle.std.proofs.Common.{◌≡◌, ◌<◌, length, sym, refl, arith}
 use Rattle.std.proofs.lemmas.Bool.{ltb-true}
 use Rattle.std.proofs.lemmas.Option.{slice_get_read}
-use Rattle.simple_values.proofs.Spellings.{found_at, missed_at}
-use Rattle.module_index.proofs.Kept.{index-count, index-each}
+use Rattle.simple_types.proofs.Spellings.{found_at, missed_at}
+use Rattle.module_pieces.proofs.Kept.{index-count, index-each}
 use Rattle.module_simple.proofs.defaults.kid_at.Goals as goal
 
 pub bounds-indexes-i : goal.bounds-indexes-i

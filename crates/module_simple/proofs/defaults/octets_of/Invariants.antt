@@ -1,5 +1,5 @@
 use Rattle.std.proofs.Common.{◌≡◌, length}
-use Rattle.module_faults.specs.Defaults.{octets_of}
+use Rattle.module_text.specs.Defaults.{octets_of}
 use Rattle.module_simple.specs.Made.{behind_it}
 use Rattle.module_simple.proofs.defaults.octets_of.Given as goal
 

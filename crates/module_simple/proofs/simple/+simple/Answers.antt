@@ -1,15 +1,15 @@
 use Rattle.std.proofs.Common.{◌≡◌, ◌+◌, true, false, not, ◌&&◌, Some, None, List, length, drop, sym, ap, ◌∙◌, subst, arith}
 use Rattle.std.specs.Prelude.{IfOk, MatchOption}
-use Rattle.label_tree.specs.Rose.{roses_of, label_of, kids_of}
-use Rattle.label_tree.proofs.Roses.{node_count-kids}
-use Rattle.label_tree.proofs.Kids.{kid-count-le}
+use Rattle.base_trees.specs.Rose.{roses_of, label_of, kids_of}
+use Rattle.base_trees.proofs.Roses.{node_count-kids}
+use Rattle.base_trees.proofs.Kids.{kid-count-le}
 use Rattle.simple_types.specs.declared.simples.Simple.{Simple}
 use Rattle.simple_types.specs.Seen.{space_of, spaces_in}
 use Rattle.simple_types.specs.Sound.{AreSound}
 use Rattle.module_text.specs.declared.types.PlainForm.TheVariants as form
-use Rattle.module_faults.specs.declared.spots.Spot.TheVariants.{Elsewhere}
-use Rattle.module_faults.specs.Told.{told_alone, is_union_alone, is_list_alone, have_names_alone, sizes_of}
-use Rattle.module_faults.specs.Simple.{if_so, is_counted, are_plain, union_space, list_space, item_spot, simple_told, members_told, item_told}
+use Rattle.module_text.specs.declared.spots.Spot.TheVariants.{Elsewhere}
+use Rattle.module_text.specs.Told.{told_alone, is_union_alone, is_list_alone, have_names_alone, sizes_of}
+use Rattle.module_text.specs.Simple.{if_so, is_counted, are_plain, union_space, list_space, item_spot, simple_told, members_told, item_told}
 use Rattle.module_simple.specs.Made.{Makes, AreMade}
 use Rattle.module_simple.proofs.Telling.{told-is, with_those, sound-push, members-push, members-none, members-union}
 use Rattle.module_simple.proofs.Making.{first-count, made_none, absent, those-end, union-none, union-few, union-made, item-first, item-none, list-not, list-made}

@@ -1,8 +1,8 @@
 use Rattle.std.proofs.Common.{◌≡◌, ◌+◌, ◌*◌, drop}
-use Rattle.label_tree.specs.Rose.{node_count, count_all, roses_of}
+use Rattle.base_trees.specs.Rose.{node_count, count_all, roses_of}
 use Rattle.simple_types.specs.Seen.{spaces_in}
 use Rattle.simple_types.specs.Sound.{AreSound}
-use Rattle.module_faults.specs.Simple.{members_told}
+use Rattle.module_text.specs.Simple.{members_told}
 use Rattle.module_simple.proofs.Telling.{with_those}
 use Rattle.module_simple.proofs.simple.+simple.Given as goal
 

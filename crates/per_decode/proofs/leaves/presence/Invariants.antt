@@ -1,5 +1,5 @@
 use Rattle.std.proofs.Common.{◌≡◌, ◌≤◌, take, drop, IsTrue}
-use Rattle.bit_cursor.specs.Cursors.{IsInStep}
+use Rattle.base_codecs.specs.Cursors.{IsInStep}
 use Rattle.per_fields.specs.Laws.{Present}
 use Rattle.per_fields.specs.Reading.{each_at}
 use Rattle.per_fields.specs.Nodes.{flag_at}

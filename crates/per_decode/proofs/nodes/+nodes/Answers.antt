@@ -2,8 +2,8 @@ use Rattle.std.proofs.Common.{rules, arith, refl, sym, ap, ◌∙◌, subst, ◌
 use Rattle.std.specs.Prelude.{slice_get}
 use Rattle.std.proofs.lemmas.List.{length-append, drop_all}
 use Rattle.std.proofs.lemmas.Result.{err_from_is_err_and, on_ok_weaker}
-use Rattle.flat_tree.specs.Zips.{closed}
-use Rattle.label_tree.specs.Rose.{Rose, node, label_of, kids_of, roses_of, node_count}
+use Rattle.base_flat_trees.specs.Zips.{closed}
+use Rattle.base_trees.specs.Rose.{Rose, node, label_of, kids_of, roses_of, node_count}
 use Rattle.simple_types.specs.declared.labels.ValueLabel.TheVariants as value
 use Rattle.asn_types.specs.declared.types.Form.TheVariants as form
 use Rattle.asn_types.specs.declared.types.TypeLabel.{TypeLabel}

@@ -1,6 +1,6 @@
 use Rattle.std.proofs.Common.{◌≡◌, ◌≤◌, ◌*◌, ◌+◌, ◌-◌, suc, length, IsTrue}
-use Rattle.bit_cursor.specs.Cursors.{IsInStep}
-use Rattle.label_tree.specs.Rose.{label_of, kids_of, roses_of, count_all}
+use Rattle.base_codecs.specs.Cursors.{IsInStep}
+use Rattle.base_trees.specs.Rose.{label_of, kids_of, roses_of, count_all}
 use Rattle.per_fields.specs.Levels.{levels_needed}
 use Rattle.per_fields.specs.Fields.{fragments_at, counted_at}
 use Rattle.per_decode.specs.Private.Giving.{input, spot}

@@ -1,5 +1,5 @@
 use Rattle.std.proofs.Common.{◌≡◌, ◌++◌, length, ◌∙◌, ap}
-use Rattle.bit_cursor.specs.Bits.{octet_bits}
+use Rattle.base_codecs.specs.Bits.{octet_bits}
 use Rattle.asn_values.proofs.Counting.{if_ok}
 use Rattle.per_fields.specs.Encoding.{per, completed, complete_by}
 use Rattle.per_encode.proofs.Kids.{is_assigned, root_fits, complete-root}

@@ -1,6 +1,6 @@
 use Rattle.std.proofs.Common.{sym, ap, ◌∙◌, arith, Vec, Global, ℕ}
 use Rattle.std.proofs.lemmas.Bool.{eqb-true, eqb-false}
-use Rattle.bit_cursor.specs.Bits.{octet_bits}
+use Rattle.base_codecs.specs.Bits.{octet_bits}
 use Rattle.per_encode.proofs.Bits.{finished, finished_empty, some_left}
 use Rattle.per_encode.proofs.encoding.whole_octets.Goals as goal
 use Rattle.per_encode.proofs.encoding.whole_octets.Goals.{then-is_empty+in_ok-push, else-is_empty}

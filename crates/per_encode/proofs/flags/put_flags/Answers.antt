@@ -1,7 +1,7 @@
 use Rattle.std.proofs.Common.{◌≡◌, ◌++◌, ◌+◌, ◌*◌, ◌<◌, ◌^◌, ◌∷◌, length, drop, get_or, false, [], sym, ap, ◌∙◌, subst, arith}
 use Rattle.std.proofs.lemmas.List.{append-nil, drop_all}
 use Rattle.asn_types.specs.declared.types.Component.{Component}
-use Rattle.bit_cursor.specs.Bits.{bits, bit}
+use Rattle.base_codecs.specs.Bits.{bits, bit}
 use Rattle.per_fields.specs.Encoding.{flag_bits}
 use Rattle.per_encode.proofs.Bits.{none_held, flag_there, no_flag, flag_held, byte_bit, fits_more}
 use Rattle.per_encode.proofs.flags.put_flags.Goals as goal

@@ -1,5 +1,5 @@
 use Rattle.std.proofs.Common.{◌≡◌, ◌≤◌, ◌<◌, ◌^◌, ◌++◌, drop}
-use Rattle.bit_cursor.specs.Bits.{bits}
+use Rattle.base_codecs.specs.Bits.{bits}
 use Rattle.per_fields.specs.Encoding.{flag_bits}
 use Rattle.per_encode.proofs.flags.put_flags.Given as goal
 

@@ -3,13 +3,13 @@ use Rattle.std.specs.Int.{w128}
 use Rattle.std.proofs.lemmas.Int.{to_z-of_z}
 use Rattle.std.proofs.lemmas.Bool.{leb-true}
 use Rattle.std.proofs.lemmas.Option.{slice_get_within}
-use Rattle.bit_cursor.specs.Bits.{bits}
+use Rattle.base_codecs.specs.Bits.{bits}
 use Rattle.std.proofs.lemmas.List.{length-drop}
-use Rattle.label_tree.specs.Rose.{kids_of, roses_of, count_all}
-use Rattle.label_tree.proofs.Roses.{node_count-kids}
-use Rattle.label_tree.proofs.Kids.{count_all-drop-le, node_count-got}
+use Rattle.base_trees.specs.Rose.{kids_of, roses_of, count_all}
+use Rattle.base_trees.proofs.Roses.{node_count-kids}
+use Rattle.base_trees.proofs.Kids.{count_all-drop-le, node_count-got}
 use Rattle.simple_types.specs.declared.labels.ValueLabel.TheVariants as value
-use Rattle.simple_values.specs.Lexical.{is_at_most}
+use Rattle.simple_types.specs.Lexical.{is_at_most}
 use Rattle.asn_types.specs.declared.types.Form.TheVariants as form
 use Rattle.per_fields.specs.Codec.{AllOf}
 use Rattle.per_fields.specs.Fields.{Last, head_bits, units_of, in_turn, number_bits, whole_bits, counted_bits}

@@ -1,5 +1,5 @@
 use Rattle.std.proofs.Common.{◌≡◌, ◌+◌, ◌-◌, ◌*◌, ◌≤◌, ◌++◌, length, take, drop, map}
-use Rattle.label_tree.specs.Rose.{node_count, count_all, roses_of}
+use Rattle.base_trees.specs.Rose.{node_count, count_all, roses_of}
 use Rattle.per_fields.specs.Codec.{AllOf}
 use Rattle.per_fields.specs.Fields.{in_turn, counted_bits}
 use Rattle.per_fields.specs.Encoding.{per}

@@ -1,5 +1,5 @@
 use Rattle.std.proofs.Common.{◌+◌, ◌*◌, ◌++◌, length, ap, ◌∙◌, arith}
-use Rattle.bit_cursor.specs.Bits.{bits, padding}
+use Rattle.base_codecs.specs.Bits.{bits, padding}
 use Rattle.per_fields.specs.Widths.{width_of, more_of}
 use Rattle.per_fields.proofs.WidthLaws.{width_le}
 use Rattle.per_encode.proofs.Puts.{on_ok, large_put}

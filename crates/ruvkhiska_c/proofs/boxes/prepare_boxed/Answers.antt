@@ -1,4 +1,4 @@
-use Rattle.command_line.specs.Seen.{root_seen}
+use Rattle.transcode_words.specs.Seen.{root_seen}
 use Rattle.ruvkhiska_c.proofs.Refusals.{no_set}
 use Rattle.ruvkhiska_c.proofs.boxes.prepare_boxed.Goals as goal
 

@@ -1,7 +1,7 @@
 use Rattle.std.proofs.Common.{sym, ◌∙◌, arith}
-use Rattle.label_tree.proofs.Kids.{kid-count-le}
-use Rattle.label_tree.proofs.Roses.{node_count-kids}
-use Rattle.schema_rules.specs.Scopes.{bindings_in}
+use Rattle.base_trees.proofs.Kids.{kid-count-le}
+use Rattle.base_trees.proofs.Roses.{node_count-kids}
+use Rattle.schema_syntax.specs.Scopes.{bindings_in}
 use Rattle.schema_faults.proofs.Walked.{kid_passed, kid_found, skipped_at, refused_at, part_at, own_found, own_passed}
 use Rattle.schema_faults.proofs.faults.+faults.Goals as goal
 

@@ -1,6 +1,6 @@
 use Rattle.std.proofs.Common.{◌≡◌, ◌+◌, ◌*◌, drop, None}
-use Rattle.label_tree.specs.Rose.{node_count, count_all, roses_of}
-use Rattle.schema_rules.specs.Scopes.{bindings_in}
+use Rattle.base_trees.specs.Rose.{node_count, count_all, roses_of}
+use Rattle.schema_syntax.specs.Scopes.{bindings_in}
 use Rattle.schema_faults.specs.Faults.{first_fault, reasons_among}
 use Rattle.schema_faults.proofs.faults.+faults.Given as goal
 

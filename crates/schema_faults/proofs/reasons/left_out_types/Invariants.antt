@@ -1,9 +1,9 @@
 use Rattle.std.proofs.Common.{◌≡◌, length, None}
 use denote.Shadow.{shadow}
 use denote.Text.{Utf8}
-use Rattle.xa_base.specs.WhiteSpace.{words_of}
+use Rattle.base_texts.specs.WhiteSpace.{words_of}
 use Rattle.schema_faults.specs.Reasons.{earliest}
-use Rattle.schema_rules.specs.Scopes.{bindings_in}
+use Rattle.schema_syntax.specs.Scopes.{bindings_in}
 use Rattle.schema_faults.proofs.reasons.left_out_types.Given as goal
 
 abbrev pub invariant-words : goal.invariant-words

@@ -1,6 +1,6 @@
 use Rattle.std.proofs.Common.{◌≡◌, drop}
 use Rattle.std.specs.List.{list_any}
-use Rattle.label_tree.specs.Rose.{label_of}
+use Rattle.base_trees.specs.Rose.{label_of}
 use Rattle.schema_faults.specs.Reasons.{occurs}
 use Rattle.schema_faults.proofs.reasons.one_occurs.Given as goal
 

@@ -1,4 +1,4 @@
-use Rattle.schema_parts.specs.declared.declarations.RawLocal.TheVariants as local
+use Rattle.schema_components.specs.declared.declarations.RawLocal.TheVariants as local
 use Rattle.schema_read.proofs.Making.{map_put}
 use Rattle.schema_read.proofs.particles.put_own.Goals as goal
 

@@ -1,5 +1,5 @@
 use Rattle.std.proofs.Common.{rules, ap}
-use Rattle.schema_rules.proofs.Tables.{none_beside}
+use Rattle.schema_syntax.proofs.Tables.{none_beside}
 use Rattle.schema_read.specs.SimpleTypes.{facet_makers, with_value}
 use Rattle.schema_read.proofs.simple_definitions.facet_of.Goals as goal
 

@@ -1,5 +1,5 @@
 use Rattle.std.proofs.Common.{◌≡◌, ◌<◌, length, ap, sym, ◌∙◌, subst}
-use Rattle.schema_parts.specs.declared.simple_definitions.RawRef.TheVariants.{Other}
+use Rattle.schema_components.specs.declared.simple_definitions.RawRef.TheVariants.{Other}
 use Rattle.schema_read.proofs.Bases.{none_of, first_of, is_zero_len, is_positive}
 use Rattle.schema_read.proofs.simple_definitions.first_or_none.Goals as goal
 

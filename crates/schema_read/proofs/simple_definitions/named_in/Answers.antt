@@ -1,6 +1,6 @@
 use Rattle.std.proofs.Common.{ap, sym, ◌∙◌}
 use Rattle.schema_read.proofs.Words.{Named, more, bases_in, named_base, words_of, bindings_in, joined, named_in}
-use Rattle.schema_parts.specs.declared.simple_definitions.RawBase.TheVariants as base
+use Rattle.schema_components.specs.declared.simple_definitions.RawBase.TheVariants as base
 use Rattle.schema_read.proofs.Bases.{bases_in-push, joined-none}
 use Rattle.schema_read.proofs.simple_definitions.named_in.Goals as goal
 

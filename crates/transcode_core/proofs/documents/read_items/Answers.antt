@@ -1,11 +1,11 @@
 use Rattle.std.proofs.Common.{inl}
-use Rattle.label_tree.specs.Rose.{Rose}
-use Rattle.item_tree.specs.declared.label.ItemLabel.{ItemLabel}
-use Rattle.command_line.specs.declared.outcome.Outcome.TheVariants.{DocSyntax}
+use Rattle.base_trees.specs.Rose.{Rose}
+use Rattle.xml_items.specs.declared.label.ItemLabel.{ItemLabel}
+use Rattle.transcode_words.specs.declared.outcome.Outcome.TheVariants.{DocSyntax}
 use Rattle.transcode_core.specs.Steps.{Input, Read}
-use Rattle.command_line.specs.Answers.{NoMemory}
+use Rattle.transcode_words.specs.Answers.{NoMemory}
 use Rattle.transcode_core.specs.Causes.{OneRead}
-use Rattle.command_line.proofs.Joined.{passed, refused}
+use Rattle.transcode_words.proofs.Joined.{passed, refused}
 use Rattle.transcode_core.proofs.documents.read_items.Goals as goal
 
 pub returns-in-Ok-clause-due : goal.returns-in-Ok-clause-due

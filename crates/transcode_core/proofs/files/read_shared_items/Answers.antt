@@ -1,5 +1,5 @@
 use Rattle.std.proofs.Common.{refl, inl, subst}
-use Rattle.doc_text.specs.Documents.{BrokenAt}
+use Rattle.xml_read.specs.Documents.{BrokenAt}
 use Rattle.transcode_core.proofs.files.read_shared_items.Goals as goal
 
 pub returns-in-Err-Syntax-clause-due : goal.returns-in-Err-Syntax-clause-due

@@ -1,4 +1,4 @@
-use Rattle.doc_text.proofs.Known.{laws}
+use Rattle.xml_read.proofs.Known.{laws}
 use Rattle.transcode_core.proofs.Single.{Due-single}
 use Rattle.transcode_core.proofs.Syntaxes.{all_syntaxes}
 use Rattle.transcode_core.proofs.laws.one_answer.Goals as goal

@@ -1,4 +1,4 @@
-use Rattle.doc_text.proofs.Known.{laws}
+use Rattle.xml_read.proofs.Known.{laws}
 use Rattle.transcode_core.proofs.Again as again
 use Rattle.transcode_core.proofs.Syntaxes.{all_syntaxes}
 use Rattle.transcode_core.proofs.laws.there_and_back.Goals as goal

@@ -1,4 +1,4 @@
-use Rattle.doc_text.proofs.Known.{laws}
+use Rattle.xml_read.proofs.Known.{laws}
 use Rattle.transcode_core.proofs.Counted.{counted, trial_steps}
 use Rattle.transcode_core.proofs.laws.trial_elements.Goals as goal
 

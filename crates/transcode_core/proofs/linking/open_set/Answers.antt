@@ -1,11 +1,11 @@
 use Rattle.std.proofs.Common.{ℕ}
-use Rattle.schema_parts.specs.SetParts.{parts_of}
-use Rattle.command_line.specs.Order.{Give}
-use Rattle.command_line.specs.Seen.{root_seen}
+use Rattle.schema_components.specs.SetParts.{parts_of}
+use Rattle.transcode_words.specs.Order.{Give}
+use Rattle.transcode_words.specs.Seen.{root_seen}
 use Rattle.transcode_core.specs.Private.Seen.{opened_seen}
 use Rattle.transcode_core.specs.Steps.{Rooted}
-use Rattle.command_line.specs.Answers.{NoMemory}
-use Rattle.command_line.proofs.Joined.{refused}
+use Rattle.transcode_words.specs.Answers.{NoMemory}
+use Rattle.transcode_words.proofs.Joined.{refused}
 use Rattle.transcode_core.proofs.Roots.{number-within}
 use Rattle.transcode_core.proofs.linking.open_set.Goals as goal
 

@@ -1,6 +1,6 @@
 use Rattle.std.proofs.Common.{◌≡◌, None, refl, inl, sym, ◌∙◌, ap}
-use Rattle.schema_parts.specs.Components.{global_elements}
-use Rattle.command_line.specs.Seen.{root_seen}
+use Rattle.schema_components.specs.Components.{global_elements}
+use Rattle.transcode_words.specs.Seen.{root_seen}
 use Rattle.transcode_core.specs.Steps.{number_named}
 use Rattle.transcode_core.proofs.Roots.{number-none, number-some}
 use Rattle.transcode_core.proofs.linking.root_number.Goals as goal

@@ -2,9 +2,9 @@ use Rattle.std.proofs.Common.{ℕ, [], ◌∷◌, inl}
 use Rattle.std.specs.Prelude.{Vec}
 use Rattle.std.specs.declared.alloc.Global.{Global}
 use Rattle.module_read.specs.Summary as back
-use Rattle.command_line.specs.Order.{Give, Then}
-use Rattle.command_line.specs.Answers.{NoMemory}
-use Rattle.command_line.proofs.Joined.{passed, refused}
+use Rattle.transcode_words.specs.Order.{Give, Then}
+use Rattle.transcode_words.specs.Answers.{NoMemory}
+use Rattle.transcode_words.proofs.Joined.{passed, refused}
 use Rattle.transcode_core.specs.Steps.{Loaded, ModuleIn}
 use Rattle.transcode_core.specs.Causes.{OneLoad, SomeLoad}
 use Rattle.transcode_core.proofs.Loading.{only_load}

@@ -1,13 +1,13 @@
 use Rattle.std.proofs.Common.{ℕ, inl}
-use Rattle.schema_parts.specs.SetParts.{SetParts, parts_of}
-use Rattle.command_line.specs.Order.{Give, Then}
-use Rattle.command_line.specs.Seen.{root_seen}
+use Rattle.schema_components.specs.SetParts.{SetParts, parts_of}
+use Rattle.transcode_words.specs.Order.{Give, Then}
+use Rattle.transcode_words.specs.Seen.{root_seen}
 use Rattle.transcode_core.specs.Private.Seen.{opened_seen}
 use Rattle.transcode_core.specs.Steps.{Rooted}
 use Rattle.transcode_core.specs.Due.{SetIn}
-use Rattle.command_line.specs.Answers.{NoMemory}
+use Rattle.transcode_words.specs.Answers.{NoMemory}
 use Rattle.transcode_core.specs.Causes.{SomeLoad}
-use Rattle.command_line.proofs.Joined.{passed, refused}
+use Rattle.transcode_words.proofs.Joined.{passed, refused}
 use Rattle.transcode_core.proofs.opening.open_files.Goals as goal
 
 pub returns-in-Ok-clause-due : goal.returns-in-Ok-clause-due

@@ -1,11 +1,11 @@
 use Rattle.std.proofs.Common.{◌≡◌, inl, map, length, arith}
 use Rattle.std.proofs.lemmas.List.{length-map}
-use Rattle.schema_parts.specs.Documents.{doc_of}
-use Rattle.schema_parts.specs.SetParts.{parts_of}
+use Rattle.schema_components.specs.Documents.{doc_of}
+use Rattle.schema_components.specs.SetParts.{parts_of}
 use Rattle.transcode_core.specs.Steps.{Schemas, Linked}
-use Rattle.command_line.specs.Answers.{NoMemory}
+use Rattle.transcode_words.specs.Answers.{NoMemory}
 use Rattle.transcode_core.specs.Causes.{SomeLoad}
-use Rattle.command_line.proofs.Joined.{passed, refused}
+use Rattle.transcode_words.proofs.Joined.{passed, refused}
 use Rattle.transcode_core.proofs.SetLaws.{as_many, are_numbered}
 use Rattle.transcode_core.proofs.opening.read_set.Goals as goal
 

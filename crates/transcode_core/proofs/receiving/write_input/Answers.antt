@@ -2,13 +2,13 @@ use Rattle.std.proofs.Common.{ℕ, inl}
 use Rattle.std.proofs.lemmas.Result.{IfOk-weaker}
 use Rattle.std.specs.Prelude.{Vec}
 use Rattle.std.specs.declared.alloc.Global.{Global}
-use Rattle.label_tree.specs.Rose.{Rose}
+use Rattle.base_trees.specs.Rose.{Rose}
 use Rattle.simple_types.specs.declared.labels.ValueLabel.{ValueLabel}
 use Rattle.transcode_core.specs.Private.Seen.{type_seen}
 use Rattle.transcode_core.specs.Steps.{Decoded, Written}
-use Rattle.command_line.specs.Answers.{NoMemory}
+use Rattle.transcode_words.specs.Answers.{NoMemory}
 use Rattle.transcode_core.specs.Causes.{OneRead}
-use Rattle.command_line.proofs.Joined.{passed, refused}
+use Rattle.transcode_words.proofs.Joined.{passed, refused}
 use Rattle.transcode_core.proofs.receiving.write_input.Goals as goal
 
 pub returns-in-Ok-clause-due : goal.returns-in-Ok-clause-due

@@ -1,5 +1,5 @@
 use Rattle.std.proofs.Common.{◌≡◌, ◌≤◌, take, map, Ok}
-use Rattle.schema_parts.specs.Documents.{doc_of}
+use Rattle.schema_components.specs.Documents.{doc_of}
 use Rattle.transcode_core.specs.Steps.{Schemas}
 use Rattle.transcode_core.proofs.schemas.load_schemas.Given as goal
 

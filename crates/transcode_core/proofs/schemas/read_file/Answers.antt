@@ -1,10 +1,10 @@
-use Rattle.command_line.specs.declared.outcome.Outcome.TheVariants.{SchemaSyntax}
-use Rattle.schema_parts.specs.Documents.{doc_of}
+use Rattle.transcode_words.specs.declared.outcome.Outcome.TheVariants.{SchemaSyntax}
+use Rattle.schema_components.specs.Documents.{doc_of}
 use Rattle.schema_read.specs.Raw.{raw_of}
-use Rattle.command_line.specs.Order.{Give, Then}
+use Rattle.transcode_words.specs.Order.{Give, Then}
 use Rattle.transcode_core.specs.Steps.{Read, Faultless}
-use Rattle.command_line.specs.Answers.{NoMemory}
-use Rattle.command_line.proofs.Joined.{passed, refused}
+use Rattle.transcode_words.specs.Answers.{NoMemory}
+use Rattle.transcode_words.proofs.Joined.{passed, refused}
 use Rattle.transcode_core.proofs.schemas.read_file.Goals as goal
 
 pub returns-in-Ok : goal.returns-in-Ok

@@ -1,12 +1,12 @@
 use Rattle.std.proofs.Common.{ℕ}
 use Rattle.std.specs.Prelude.{Vec}
 use Rattle.std.specs.declared.alloc.Global.{Global}
-use Rattle.label_tree.specs.Rose.{Rose}
+use Rattle.base_trees.specs.Rose.{Rose}
 use Rattle.simple_types.specs.declared.labels.ValueLabel.{ValueLabel}
 use Rattle.transcode_core.specs.Private.Seen.{opened_seen, type_seen}
 use Rattle.transcode_core.specs.Steps.{ValueIn, Encoding}
-use Rattle.command_line.specs.Answers.{NoMemory}
-use Rattle.command_line.proofs.Joined.{passed, refused}
+use Rattle.transcode_words.specs.Answers.{NoMemory}
+use Rattle.transcode_words.proofs.Joined.{passed, refused}
 use Rattle.transcode_core.proofs.sending.encode_items.Goals as goal
 
 pub returns-in-Ok-clause-due : goal.returns-in-Ok-clause-due

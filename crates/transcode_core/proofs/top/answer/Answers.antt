@@ -1,11 +1,11 @@
 use Rattle.std.proofs.Common.{ℕ, [], ◌∷◌, inl}
 use Rattle.std.specs.Prelude.{Vec}
 use Rattle.std.specs.declared.alloc.Global.{Global}
-use Rattle.command_line.specs.Words.{ShowBack, Trial}
+use Rattle.transcode_words.specs.Words.{ShowBack, Trial}
 use Rattle.transcode_core.specs.Due.{ShownBack, Tried}
-use Rattle.command_line.specs.Answers.{NoMemory}
+use Rattle.transcode_words.specs.Answers.{NoMemory}
 use Rattle.transcode_core.specs.Causes.{SomeLoad, Answering}
-use Rattle.command_line.proofs.Joined.{wider, nothing_said}
+use Rattle.transcode_words.proofs.Joined.{wider, nothing_said}
 use Rattle.transcode_core.proofs.top.answer.Goals as goal
 
 pub returns-in-Serve-clause-due : goal.returns-in-Serve-clause-due

@@ -2,12 +2,12 @@ use Rattle.std.proofs.Common.{ℕ, inl, inr}
 use Rattle.std.proofs.lemmas.Result.{IfOk-weaker}
 use Rattle.std.specs.Prelude.{Vec}
 use Rattle.std.specs.declared.alloc.Global.{Global}
-use Rattle.command_line.specs.Seen.{seen}
+use Rattle.transcode_words.specs.Seen.{seen}
 use Rattle.transcode_core.specs.Due.{Requested, Answered}
-use Rattle.command_line.specs.Answers.{Never}
+use Rattle.transcode_words.specs.Answers.{Never}
 use Rattle.transcode_core.specs.Causes.{Answering, Deciding, ReadsItems, ReadsOfWords, StepsFrom}
 use Rattle.validity_check.proofs.Counting.{on-ok}
-use Rattle.command_line.proofs.Joined.{passed, refused}
+use Rattle.transcode_words.proofs.Joined.{passed, refused}
 use Rattle.transcode_core.proofs.Deciding.{reads_too, reads_document_too}
 use Rattle.transcode_core.proofs.top.decide.Goals as goal
 

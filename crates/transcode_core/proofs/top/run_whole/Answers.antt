@@ -1,7 +1,7 @@
 use Rattle.std.proofs.Common.{arith, length, refl, subst}
 use Rattle.std.specs.Io.KnownBytes.{Appends}
-use Rattle.xa_base.specs.Bytes.{AppendsFront, LacksRoom}
-use Rattle.doc_text.proofs.Known.{laws}
+use Rattle.base_texts.specs.Bytes.{AppendsFront, LacksRoom}
+use Rattle.xml_read.proofs.Known.{laws}
 use Rattle.transcode_core.proofs.Running.{wrote, cut, stopped}
 use Rattle.transcode_core.proofs.Syntaxes.{all_syntaxes}
 use Rattle.transcode_core.proofs.top.run_whole.Goals as goal

@@ -1,6 +1,6 @@
 use Rattle.std.proofs.Common.{inl, inr}
 use Rattle.std.proofs.lemmas.Result.{IfOk-weaker}
-use Rattle.command_line.specs.Seen.{root_seen}
+use Rattle.transcode_words.specs.Seen.{root_seen}
 use Rattle.transcode_core.specs.Private.Seen.{opened_seen}
 use Rattle.transcode_core.specs.Due.{Served}
 use Rattle.transcode_core.proofs.Deciding.{goes_on, stops}

@@ -1,5 +1,5 @@
 use Rattle.std.proofs.Common.{inr}
-use Rattle.command_line.proofs.Joined.{nothing_said}
+use Rattle.transcode_words.proofs.Joined.{nothing_said}
 use Rattle.transcode_core.proofs.top.serve_input.Goals as goal
 
 pub returns-in-Check-clause-due : goal.returns-in-Check-clause-due

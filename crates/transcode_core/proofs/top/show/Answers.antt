@@ -1,12 +1,12 @@
 use Rattle.std.proofs.Common.{ℕ, inl}
 use Rattle.std.specs.Prelude.{Vec}
 use Rattle.std.specs.declared.alloc.Global.{Global}
-use Rattle.schema_parts.specs.SetParts.{parts_of}
+use Rattle.schema_components.specs.SetParts.{parts_of}
 use Rattle.transcode_core.specs.Steps.{Printed}
 use Rattle.transcode_core.specs.Due.{SetIn}
-use Rattle.command_line.specs.Answers.{NoMemory}
+use Rattle.transcode_words.specs.Answers.{NoMemory}
 use Rattle.transcode_core.specs.Causes.{SomeLoad}
-use Rattle.command_line.proofs.Joined.{passed, refused}
+use Rattle.transcode_words.proofs.Joined.{passed, refused}
 use Rattle.transcode_core.proofs.top.show.Goals as goal
 
 pub returns-in-Ok-clause-due : goal.returns-in-Ok-clause-due

@@ -1,9 +1,9 @@
 use Rattle.std.proofs.Common.{[], sym, ◌∙◌, ap, subst, arith}
 use Rattle.std.specs.List.Sorted.{IsStrictlySortedBy}
-use Rattle.schema_parts.specs.Linked.{IsTyped}
-use Rattle.schema_parts.specs.SetParts.{parts_of}
-use Rattle.validity.specs.Asked.{asked, asked_by_type, simple}
-use Rattle.attribute_faults.specs.Ascending.{Ascend}
+use Rattle.schema_components.specs.Linked.{IsTyped}
+use Rattle.schema_components.specs.SetParts.{parts_of}
+use Rattle.validity_rules.specs.Asked.{asked, asked_by_type, simple}
+use Rattle.validity_check.specs.Ascending.{Ascend}
 use Rattle.validity_check.proofs.Declaring.{simple_sound, space_is, type_asked, type_there}
 use Rattle.validity_check.proofs.declarations.declared_of.Goals as goal
 

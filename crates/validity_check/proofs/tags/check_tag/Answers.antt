@@ -1,6 +1,6 @@
 use Rattle.std.proofs.Common.{map, ap}
-use Rattle.schema_parts.specs.SetParts.{parts_of}
-use Rattle.validity.specs.Asked.{attribute_in}
+use Rattle.schema_components.specs.SetParts.{parts_of}
+use Rattle.validity_rules.specs.Asked.{attribute_in}
 use Rattle.validity_check.specs.Told.{told}
 use Rattle.validity_check.proofs.Tagging.{bare}
 use Rattle.validity_check.proofs.tags.check_tag.Goals as goal

@@ -1,4 +1,4 @@
-use Rattle.schema_parts.specs.SetParts.{parts_of}
+use Rattle.schema_components.specs.SetParts.{parts_of}
 use Rattle.validity_check.proofs.Tagging.{one_missing_left, all_stand_left}
 use Rattle.validity_check.proofs.tags.lacks.Goals as goal
 

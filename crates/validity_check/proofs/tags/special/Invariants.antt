@@ -1,5 +1,5 @@
 use Rattle.std.proofs.Common.{◌≡◌, drop}
-use Rattle.validity.specs.Attributes as rule
+use Rattle.validity_rules.specs.Attributes as rule
 use Rattle.validity_check.proofs.tags.special.Given as goal
 
 abbrev pub invariant-loop-found : goal.invariant-loop-found

@@ -1,10 +1,10 @@
 use Rattle.std.proofs.Common.{sym, ◌∙◌, ap}
-use Rattle.label_tree.specs.Rose.{label_of}
+use Rattle.base_trees.specs.Rose.{label_of}
 use Rattle.simple_types.specs.Seen.{space_of}
-use Rattle.xa_base.specs.WhiteSpace.{treated}
-use Rattle.xa_base.specs.declared.white_space.WhiteSpace.TheVariants.{Collapse}
-use Rattle.simple_values.specs.Lexical.{boolean_of}
-use Rattle.simple_values.specs.Reading.{reads}
+use Rattle.base_texts.specs.WhiteSpace.{treated}
+use Rattle.base_texts.specs.declared.white_space.WhiteSpace.TheVariants.{Collapse}
+use Rattle.simple_types.specs.Lexical.{boolean_of}
+use Rattle.simple_types.specs.Reading.{reads}
 use Rattle.validity_check.proofs.Truths.{is_true_or_false, is_no_other, is_bad, is_not_wide}
 use Rattle.validity_check.proofs.tags.truth.Goals as goal
 

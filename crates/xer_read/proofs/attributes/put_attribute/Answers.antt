@@ -1,8 +1,8 @@
 use Rattle.std.proofs.Common.{[], ◌∷◌, false}
-use Rattle.simple_values.specs.Reading.{Bad, Wide}
-use Rattle.schema_parts.specs.SetParts.{parts_of}
-use Rattle.validity.specs.Asked.{attribute_in}
-use Rattle.validity.specs.Attributes.{left}
+use Rattle.simple_types.specs.Reading.{Bad, Wide}
+use Rattle.schema_components.specs.SetParts.{parts_of}
+use Rattle.validity_rules.specs.Asked.{attribute_in}
+use Rattle.validity_rules.specs.Attributes.{left}
 use Rattle.validity_check.proofs.Counting.{on-ok}
 use Rattle.value_builder.specs.Built.{Puts, flagged}
 use Rattle.xer_read.specs.Private.Contents.{AttributesMade}

@@ -1,12 +1,12 @@
 use Rattle.std.proofs.Common.{◌≡◌, ◌+◌, ℕ, List, Option, Some, None, MatchOption, take, map, arith, subst, sym, refl, []}
 use denote.Ref.{Bor}
 use Rattle.std.proofs.lemmas.List.{take_all}
-use Rattle.schema_parts.specs.Linked.{IsUse}
-use Rattle.schema_parts.specs.SetParts.{parts_of}
-use Rattle.validity.specs.Asked.{attribute_in}
-use Rattle.validity.specs.Attributes.{left, text_of}
-use Rattle.attribute_faults.specs.Texts.{told}
-use Rattle.attribute_faults.proofs.ByUses.{told_text}
+use Rattle.schema_components.specs.Linked.{IsUse}
+use Rattle.schema_components.specs.SetParts.{parts_of}
+use Rattle.validity_rules.specs.Asked.{attribute_in}
+use Rattle.validity_rules.specs.Attributes.{left, text_of}
+use Rattle.validity_check.specs.Texts.{told}
+use Rattle.validity_check.proofs.ByUses.{told_text}
 use Rattle.xer_read.specs.Private.Contents.{IsTaken, AttributesMade}
 use Rattle.xer_read.specs.Private.Putting.{PartsPut}
 use Rattle.xer_read.proofs.Attributed.{more-parts, mapped-more}

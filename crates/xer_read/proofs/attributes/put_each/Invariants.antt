@@ -1,7 +1,7 @@
 use Rattle.std.proofs.Common.{take, map}
-use Rattle.schema_parts.specs.SetParts.{parts_of}
-use Rattle.validity.specs.Asked.{attribute_in}
-use Rattle.validity.specs.Attributes.{left}
+use Rattle.schema_components.specs.SetParts.{parts_of}
+use Rattle.validity_rules.specs.Asked.{attribute_in}
+use Rattle.validity_rules.specs.Attributes.{left}
 use Rattle.xer_read.specs.Private.Contents.{AttributesMade}
 use Rattle.xer_read.specs.Private.Putting.{PartsPut}
 use Rattle.xer_read.proofs.attributes.put_each.Given as goal

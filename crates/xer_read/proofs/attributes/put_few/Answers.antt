@@ -1,8 +1,8 @@
 use Rattle.std.proofs.Common.{◌+◌, take, map, arith, subst, refl, []}
 use Rattle.std.proofs.lemmas.List.{take_all}
-use Rattle.schema_parts.specs.SetParts.{parts_of}
-use Rattle.validity.specs.Asked.{attribute_in}
-use Rattle.validity.specs.Attributes.{left}
+use Rattle.schema_components.specs.SetParts.{parts_of}
+use Rattle.validity_rules.specs.Asked.{attribute_in}
+use Rattle.validity_rules.specs.Attributes.{left}
 use Rattle.xer_read.specs.Private.Contents.{AttributesMade}
 use Rattle.xer_read.specs.Private.Putting.{PartsPut}
 use Rattle.xer_read.proofs.Attributed.{more-parts, mapped-more}

@@ -1,9 +1,9 @@
 use Rattle.std.proofs.Common.{map, subst}
-use Rattle.label_tree.specs.Rose.{roses_of}
-use Rattle.flat_tree.specs.Zips.{opened}
-use Rattle.schema_parts.specs.SetParts.{parts_of}
-use Rattle.validity.specs.Asked.{attribute_in}
-use Rattle.validity.specs.Attributes.{left}
+use Rattle.base_trees.specs.Rose.{roses_of}
+use Rattle.base_flat_trees.specs.Zips.{opened}
+use Rattle.schema_components.specs.SetParts.{parts_of}
+use Rattle.validity_rules.specs.Asked.{attribute_in}
+use Rattle.validity_rules.specs.Attributes.{left}
 use Rattle.validity_check.specs.Told.{told}
 use Rattle.validity_check.proofs.Counting.{on-ok}
 use Rattle.value_builder.specs.Built.{Puts}

@@ -1,7 +1,7 @@
 use Rattle.std.proofs.Common.{ℕ, List, Option, sym, subst}
 use Rattle.std.specs.Prelude.{OnOk}
 use Rattle.value_builder.specs.Built.{Puts, with_parts}
-use Rattle.content_values.specs.Made.{Child}
+use Rattle.value_contents.specs.Made.{Child}
 use Rattle.xer_read.specs.Private.Slots.{flags_of, values_of, part_flags, part_values, Keeps}
 use Rattle.xer_read.proofs.Ordered.{one-part-put}
 use Rattle.xer_read.proofs.complex.put_gathered.Goals as goal

@@ -1,4 +1,4 @@
-use Rattle.schema_parts.specs.SetParts.{parts_of}
+use Rattle.schema_components.specs.SetParts.{parts_of}
 use Rattle.validity_check.specs.Told.{told}
 use Rattle.xer_read.proofs.Whole.{nil-put}
 use Rattle.xer_read.proofs.complex.put_nil.Goals as goal

@@ -1,7 +1,7 @@
 use Rattle.std.proofs.Common.{[], true, false, refl, subst}
 use Rattle.std.specs.Prelude.{OnOk}
-use Rattle.label_tree.specs.Rose.{node, none}
-use Rattle.flat_tree.specs.Zips.{added}
+use Rattle.base_trees.specs.Rose.{node, none}
+use Rattle.base_flat_trees.specs.Zips.{added}
 use Rattle.simple_types.specs.declared.labels.ValueLabel.TheVariants as value
 use Rattle.validity_check.proofs.Counting.{on-ok}
 use Rattle.value_builder.specs.Built.{Puts}

@@ -1,6 +1,6 @@
 use Rattle.std.proofs.Common.{◌∷◌, [], map, take, get_or, arith, sym, ◌∙◌, ap, subst}
 use Rattle.std.proofs.lemmas.List.{take_all, take_more, map-append}
-use Rattle.flat_tree.specs.Zips.{added_all}
+use Rattle.base_flat_trees.specs.Zips.{added_all}
 use Rattle.simple_types.specs.declared.labels.ValueLabel.TheVariants as value
 use Rattle.value_builder.specs.Built.{Puts}
 use Rattle.xer_read.specs.Private.Slots.{number_value}

@@ -1,5 +1,5 @@
 use Rattle.std.proofs.Common.{map, take}
-use Rattle.flat_tree.specs.Zips.{added_all}
+use Rattle.base_flat_trees.specs.Zips.{added_all}
 use Rattle.value_builder.specs.Built.{Puts}
 use Rattle.xer_read.specs.Private.Slots.{number_value}
 use Rattle.xer_read.proofs.complex.put_numbers.Given as goal

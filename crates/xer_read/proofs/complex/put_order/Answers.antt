@@ -1,5 +1,5 @@
 use Rattle.std.proofs.Common.{true, [], ◌∷◌, refl, sym, subst}
-use Rattle.flat_tree.specs.Zips.{added}
+use Rattle.base_flat_trees.specs.Zips.{added}
 use Rattle.value_builder.specs.Built.{Puts}
 use Rattle.validity_check.proofs.Counting.{on-ok}
 use Rattle.validity_check.specs.Told.{inside_told}

@@ -1,6 +1,6 @@
 use Rattle.std.proofs.Common.{false, refl, sym, ◌∙◌, subst, arith}
-use Rattle.label_tree.specs.Rose.{roses_of}
-use Rattle.schema_parts.specs.SetParts.{parts_of}
+use Rattle.base_trees.specs.Rose.{roses_of}
+use Rattle.schema_components.specs.SetParts.{parts_of}
 use Rattle.validity_check.specs.Told.{told}
 use Rattle.xer_read.specs.Private.Contents.{Begins}
 use Rattle.xer_read.specs.Private.Keeping.{strings_put}

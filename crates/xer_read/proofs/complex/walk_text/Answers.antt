@@ -1,4 +1,4 @@
-use Rattle.label_tree.specs.Rose.{roses_of}
+use Rattle.base_trees.specs.Rose.{roses_of}
 use Rattle.simple_types.specs.Seen.{space_of}
 use Rattle.validity_check.specs.Answers.{Tells, TextFault}
 use Rattle.xer_read.specs.Private.Given.{IsReadAs}

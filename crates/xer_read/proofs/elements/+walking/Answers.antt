@@ -1,28 +1,28 @@
 use Rattle.std.proofs.Common.{◌≡◌, ◌+◌, ◌≤◌, ◌++◌, [], ◌∷◌, true, false, cond, refl, sym, ◌∙◌, ap, subst, arith, add-one, length}
 use Rattle.std.specs.Prelude.{All, Some, None, slice_get}
 use Rattle.std.proofs.lemmas.Result.{err_from_is_err_and}
-use Rattle.label_tree.specs.Rose.{Rose, roses_of, kids_of, none, count_all}
-use Rattle.flat_tree.specs.Zips.{opened, added}
-use Rattle.flat_tree.proofs.Cursors as cursor
+use Rattle.base_trees.specs.Rose.{Rose, roses_of, kids_of, none, count_all}
+use Rattle.base_flat_trees.specs.Zips.{opened, added}
+use Rattle.base_flat_trees.proofs.Cursors as cursor
 use Rattle.simple_types.specs.declared.labels.ValueLabel.{ValueLabel}
 use Rattle.simple_types.specs.declared.labels.ValueLabel.TheVariants as value
 use Rattle.simple_types.specs.Seen.{space_of}
-use Rattle.item_tree.specs.Seen.{item_seen}
-use Rattle.doc_text.specs.Sound.{is_text, are_sound}
+use Rattle.xml_items.specs.Seen.{item_seen}
+use Rattle.xml_read.specs.Sound.{is_text, are_sound}
 use Rattle.content_models.specs.Seen.{seen}
 use Rattle.content_models.specs.Clear.{IsNoAll}
 use Rattle.content_models.specs.Occurring.{MayOccur}
 use Rattle.content_match.proofs.Standing.{spot_matched}
 use Rattle.content_match.specs.Private.Standing.{spot_now}
 use Rattle.content_match.specs.Taking.{levels, spot_of}
-use Rattle.schema_parts.specs.Linked.{leaves, IsNamed}
-use Rattle.schema_parts.specs.SetParts.{parts_of}
-use Rattle.validity.specs.Asked.{asked_at}
-use Rattle.validity.specs.Faults.{FirstKid, why_kid}
-use Rattle.validity.specs.declared.why.InvalidWhy.TheVariants.{NilWithContent}
-use Rattle.validity.proofs.Reading.{kid_count, count-kids, kid_here}
+use Rattle.schema_components.specs.Linked.{leaves, IsNamed}
+use Rattle.schema_components.specs.SetParts.{parts_of}
+use Rattle.validity_rules.specs.Asked.{asked_at}
+use Rattle.validity_rules.specs.Faults.{FirstKid, why_kid}
+use Rattle.validity_rules.specs.declared.why.InvalidWhy.TheVariants.{NilWithContent}
+use Rattle.validity_rules.proofs.Reading.{kid_count, count-kids, kid_here}
 use Rattle.validity_check.specs.Answers.{Tells, TextFault, InsideFault}
-use Rattle.item_tree.specs.Counts.{element_count, elements_in}
+use Rattle.xml_items.specs.Counts.{element_count, elements_in}
 use Rattle.validity_check.specs.declared.declarations.Inside.TheVariants.{Children}
 use Rattle.validity_check.specs.Told.{inside_told, told, IsFittingInside}
 use Rattle.validity_check.proofs.Counting.{one_more, up_to, fewer, element_counts, at_least_length, match-ok, on-ok, text-without, all-counted}
@@ -32,7 +32,7 @@ use Rattle.validity_check.proofs.Levels.{model_levels}
 use Rattle.validity_check.proofs.Tagging.{tag_refused}
 use Rattle.validity_check.proofs.Walking.{leaf_declared}
 use Rattle.value_builder.specs.Built.{nothing_of, Puts, flagged, with_parts}
-use Rattle.content_values.specs.Reached.{Put}
+use Rattle.value_contents.specs.Reached.{Put}
 use Rattle.xer_read.specs.Private.Given.{IsReadAs}
 use Rattle.xer_read.specs.Private.Keeping.{strings_put, Reached, Gathers}
 use Rattle.xer_read.specs.Private.Slots.{no_slots, filled_at, Keeps}

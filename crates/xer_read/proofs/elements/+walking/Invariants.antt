@@ -1,12 +1,12 @@
 use Rattle.std.proofs.Common.{◌≡◌, ◌+◌, ◌*◌, ◌≤◌, ◌++◌, length}
-use Rattle.label_tree.specs.Rose.{roses_of, node_count, count_all}
-use Rattle.flat_tree.specs.Zips.{Zip}
+use Rattle.base_trees.specs.Rose.{roses_of, node_count, count_all}
+use Rattle.base_flat_trees.specs.Zips.{Zip}
 use Rattle.simple_types.specs.declared.labels.ValueLabel.{ValueLabel}
 use Rattle.content_models.specs.Seen.{seen}
 use Rattle.content_models.specs.Particle.{Particles}
 use Rattle.content_match.specs.Private.Alls.{whole}
-use Rattle.validity.specs.Faults.{front}
-use Rattle.item_tree.specs.Counts.{elements_in}
+use Rattle.validity_rules.specs.Faults.{front}
+use Rattle.xml_items.specs.Counts.{elements_in}
 use Rattle.value_builder.specs.Built.{Stands}
 use Rattle.xer_read.specs.Private.Keeping.{Reached, Gathers}
 use Rattle.xer_read.specs.Private.Putting.{IsWay}

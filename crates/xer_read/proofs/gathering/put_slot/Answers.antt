@@ -1,9 +1,9 @@
 use Rattle.std.proofs.Common.{[], ◌∷◌, false, List, Option, subst}
-use Rattle.label_tree.specs.Rose.{Rose}
-use Rattle.flat_tree.specs.Zips.{added_all}
+use Rattle.base_trees.specs.Rose.{Rose}
+use Rattle.base_flat_trees.specs.Zips.{added_all}
 use Rattle.simple_types.specs.declared.labels.ValueLabel.{ValueLabel}
 use Rattle.value_builder.specs.Built.{nothing_of, Stands, Puts, flagged, with_parts}
-use Rattle.content_values.specs.Made.{Child}
+use Rattle.value_contents.specs.Made.{Child}
 use Rattle.validity_check.proofs.Counting.{on-ok}
 use Rattle.xer_read.specs.Private.Slots.{flags_of, values_of, AreSlots}
 use Rattle.xer_read.proofs.Slots.{none-put, one-put, one-closed}

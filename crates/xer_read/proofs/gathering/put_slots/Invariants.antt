@@ -1,7 +1,7 @@
 use Rattle.std.proofs.Common.{◌≡◌, ◌++◌, List, Option}
 use Rattle.std.specs.Vec.Iter.{into_iter_items}
 use Rattle.value_builder.specs.Built.{Puts, with_parts}
-use Rattle.content_values.specs.Made.{Child}
+use Rattle.value_contents.specs.Made.{Child}
 use Rattle.xer_read.specs.Private.Slots.{flags_of, values_of, AreSlots}
 use Rattle.xer_read.proofs.gathering.put_slots.Given as goal
 

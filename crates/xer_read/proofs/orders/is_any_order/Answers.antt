@@ -1,5 +1,5 @@
 use Rattle.std.proofs.Common.{sym, ap, ◌∙◌}
-use Rattle.label_tree.specs.Rose.{label_of}
+use Rattle.base_trees.specs.Rose.{label_of}
 use Rattle.xer_read.proofs.Lasts.{all-order}
 use Rattle.xer_read.proofs.orders.is_any_order.Goals as goal
 

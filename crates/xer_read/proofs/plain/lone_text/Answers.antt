@@ -1,9 +1,9 @@
 use Rattle.std.proofs.Common.{◌≡◌, ℕ, List, [], ◌∷◌, Some, append-nil, sym, ◌∙◌, ap, refl}
-use Rattle.label_tree.specs.Rose.{Rose, node, roses_of, label_of, kids_of}
-use Rattle.item_tree.specs.declared.label.ItemLabel.{ItemLabel}
-use Rattle.item_tree.specs.declared.label.ItemLabel.TheVariants.{Element, Text}
-use Rattle.item_tree.specs.Seen.{item_seen}
-use Rattle.validity.specs.Valid.{only_text}
+use Rattle.base_trees.specs.Rose.{Rose, node, roses_of, label_of, kids_of}
+use Rattle.xml_items.specs.declared.label.ItemLabel.{ItemLabel}
+use Rattle.xml_items.specs.declared.label.ItemLabel.TheVariants.{Element, Text}
+use Rattle.xml_items.specs.Seen.{item_seen}
+use Rattle.validity_rules.specs.Valid.{only_text}
 use Rattle.xer_read.proofs.plain.lone_text.Goals as goal
 
 one-text : (t : Rose ItemLabel) (words : List ℕ) (at : ℕ) → Text words at ≡ label_of t → only_text (roses_of (t ∷ [])) ≡ Some words

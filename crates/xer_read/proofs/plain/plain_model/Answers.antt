@@ -1,8 +1,8 @@
 use Rattle.std.proofs.Common.{◌≡◌, map, length, [], false, sym, ◌∙◌, ap, subst, arith}
 use Rattle.std.proofs.lemmas.List.{nil_from_length}
 use Rattle.std.proofs.lemmas.Bool.Decides.{nat_tests}
-use Rattle.schema_parts.specs.SetParts.{parts_of}
-use Rattle.validity.specs.Asked.{asked, attribute_in}
+use Rattle.schema_components.specs.SetParts.{parts_of}
+use Rattle.validity_rules.specs.Asked.{asked, attribute_in}
 use Rattle.validity_check.specs.declared.declarations.Inside.TheVariants.{Children}
 use Rattle.validity_check.specs.Told.{inside_told, IsFittingInside}
 use Rattle.xer_read.specs.Private.Contents.{HasNoAll}

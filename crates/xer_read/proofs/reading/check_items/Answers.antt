@@ -1,5 +1,5 @@
-use Rattle.schema_parts.specs.SetParts.{parts_of}
-use Rattle.validity.specs.Faults.{FirstFault}
+use Rattle.schema_components.specs.SetParts.{parts_of}
+use Rattle.validity_rules.specs.Faults.{FirstFault}
 use Rattle.validity_check.specs.Answers.{Tells}
 use Rattle.value_builder.specs.Built.{nothing_of}
 use Rattle.xer_read.proofs.Finishing.{root-valid, starts}

@@ -1,5 +1,5 @@
 use Rattle.std.proofs.Common.{◌∙◌, sym, subst}
-use Rattle.label_tree.specs.Rose.{Allowed}
+use Rattle.base_trees.specs.Rose.{Allowed}
 use Rattle.simple_types.specs.Labels.{MayHave}
 use Rattle.xer_read.proofs.Finishing.{few-nodes, many-nodes}
 use Rattle.xer_read.proofs.reading.finished.Goals as goal

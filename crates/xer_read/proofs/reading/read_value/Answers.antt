@@ -1,6 +1,6 @@
 use Rattle.std.proofs.Common.{◌∙◌, ap}
-use Rattle.schema_parts.specs.SetParts.{parts_of}
-use Rattle.validity.specs.Faults.{FirstFault}
+use Rattle.schema_components.specs.SetParts.{parts_of}
+use Rattle.validity_rules.specs.Faults.{FirstFault}
 use Rattle.value_builder.specs.Built.{Built, nothing_of}
 use Rattle.xer_read.proofs.Finishing.{starts}
 use Rattle.xer_read.proofs.Valuing.{value-allowed, of-counted, only-counted}

@@ -1,12 +1,12 @@
 use Rattle.std.proofs.Common.{◌≡◌, ◌<◌, ◌≤◌, ◌^◌, true, false, sym, subst}
 use Rattle.std.specs.Prelude.{Some, MatchResult}
-use Rattle.label_tree.specs.Rose.{label_of, node_count}
-use Rattle.item_tree.specs.Labels.{item_place}
-use Rattle.doc_text.specs.Sound.{is_text, is_sound, levels}
-use Rattle.schema_parts.specs.SetParts.{parts_of}
-use Rattle.validity.specs.Valid.{HasName}
-use Rattle.validity.specs.Faults.{At, FirstFault}
-use Rattle.validity.specs.declared.why.InvalidWhy.TheVariants.{WrongRoot}
+use Rattle.base_trees.specs.Rose.{label_of, node_count}
+use Rattle.xml_items.specs.Labels.{item_place}
+use Rattle.xml_read.specs.Sound.{is_text, is_sound, levels}
+use Rattle.schema_components.specs.SetParts.{parts_of}
+use Rattle.validity_rules.specs.Valid.{HasName}
+use Rattle.validity_rules.specs.Faults.{At, FirstFault}
+use Rattle.validity_rules.specs.declared.why.InvalidWhy.TheVariants.{WrongRoot}
 use Rattle.validity_check.specs.Answers.{Tells}
 use Rattle.validity_check.proofs.Shape.{element_label}
 use Rattle.validity_check.proofs.Rooting.{root_refused}

@@ -1,5 +1,5 @@
 use Rattle.std.proofs.Common.{◌≡◌, true, All, take}
-use Rattle.simple_values.specs.Lexical.{is_128_bits}
+use Rattle.simple_types.specs.Lexical.{is_128_bits}
 use Rattle.xer_read.proofs.small.see_numbers.Given as goal
 
 abbrev pub invariant-numbers : goal.invariant-numbers

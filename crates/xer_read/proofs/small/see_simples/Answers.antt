@@ -3,8 +3,8 @@ use Rattle.std.proofs.lemmas.List.{take_all, take_more}
 use Rattle.std.proofs.lemmas.List.Elements.{All-push}
 use Rattle.std.proofs.lemmas.Option.{slice_get_within, get_or_from_slice_get}
 use Rattle.simple_types.specs.Seen.{space_of}
-use Rattle.schema_parts.specs.declared.components.SimpleDef.{SimpleDef}
-use Rattle.simple_values.specs.Small.{IsSmall}
+use Rattle.schema_components.specs.declared.components.SimpleDef.{SimpleDef}
+use Rattle.simple_types.specs.Small.{IsSmall}
 use Rattle.xer_read.proofs.small.see_simples.Goals as goal
 
 pub simples-preserved : goal.simples-preserved

@@ -1,7 +1,7 @@
 use Rattle.std.proofs.Common.{All, take}
 use Rattle.simple_types.specs.Seen.{space_of}
-use Rattle.schema_parts.specs.declared.components.SimpleDef.{SimpleDef}
-use Rattle.simple_values.specs.Small.{IsSmall}
+use Rattle.schema_components.specs.declared.components.SimpleDef.{SimpleDef}
+use Rattle.simple_types.specs.Small.{IsSmall}
 use Rattle.xer_read.proofs.small.see_simples.Given as goal
 
 -- those before this one

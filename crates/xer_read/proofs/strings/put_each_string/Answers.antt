@@ -1,7 +1,7 @@
 use Rattle.std.proofs.Common.{sym, ◌∙◌, ap, map, false}
-use Rattle.item_tree.specs.Seen.{item_seen}
-use Rattle.label_tree.specs.Rose.{roses_of}
-use Rattle.flat_tree.specs.Zips.{added_all}
+use Rattle.xml_items.specs.Seen.{item_seen}
+use Rattle.base_trees.specs.Rose.{roses_of}
+use Rattle.base_flat_trees.specs.Zips.{added_all}
 use Rattle.value_builder.specs.Built.{Puts}
 use Rattle.validity_check.proofs.Counting.{on-ok}
 use Rattle.xer_read.specs.Private.Keeping.{text_value, missing, strings_from}

@@ -1,4 +1,4 @@
-use Rattle.label_tree.specs.Rose.{roses_of}
+use Rattle.base_trees.specs.Rose.{roses_of}
 use Rattle.xer_read.proofs.Mixing.{StringsPut}
 use Rattle.xer_read.proofs.strings.put_each_string.Given as goal
 

@@ -1,5 +1,5 @@
 use Rattle.std.proofs.Common.{map, false}
-use Rattle.label_tree.specs.Rose.{roses_of}
+use Rattle.base_trees.specs.Rose.{roses_of}
 use Rattle.simple_types.specs.declared.labels.ValueLabel.TheVariants as label
 use Rattle.xer_read.specs.Private.Keeping.{text_value, strings_from}
 use Rattle.xer_read.proofs.Putting.{items-put}

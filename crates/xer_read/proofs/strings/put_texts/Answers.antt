@@ -1,10 +1,10 @@
 use Rattle.std.proofs.Common.{true, false, refl, [], ◌∷◌}
-use Rattle.label_tree.specs.Rose.{node, roses_of}
-use Rattle.flat_tree.specs.Zips.{added}
+use Rattle.base_trees.specs.Rose.{node, roses_of}
+use Rattle.base_flat_trees.specs.Zips.{added}
 use Rattle.simple_types.specs.declared.labels.ValueLabel.TheVariants as label
 use Rattle.simple_types.specs.Seen.{space_of}
 use Rattle.content_models.specs.Seen.{seen}
-use Rattle.validity.specs.Asked.{nothing, simple, children}
+use Rattle.validity_rules.specs.Asked.{nothing, simple, children}
 use Rattle.validity_check.proofs.Counting.{on-ok}
 use Rattle.value_builder.specs.Built.{Puts, with_parts}
 use Rattle.value_builder.proofs.Putting.{puts-off}

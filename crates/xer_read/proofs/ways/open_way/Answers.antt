@@ -2,10 +2,10 @@ use Rattle.std.proofs.Common.{◌≡◌, refl, sym, ◌∙◌, ap, subst}
 use Rattle.content_models.specs.Seen.{seen}
 use Rattle.content_models.specs.Clear.{IsNoAll}
 use Rattle.content_match.proofs.Standing.{spot_matched}
-use Rattle.content_values.proofs.Tops.{fillable-no-all}
+use Rattle.value_contents.proofs.Tops.{fillable-no-all}
 use Rattle.content_match.specs.Taking.{spot_of}
 use Rattle.content_match.specs.Private.Standing.{spot_now}
-use Rattle.content_values.specs.Reached.{Put}
+use Rattle.value_contents.specs.Reached.{Put}
 use Rattle.xer_read.specs.Private.Putting.{way_turns}
 use Rattle.xer_read.proofs.Leading.{stop, opened-at, step-goes}
 use Rattle.xer_read.proofs.Unkept.{unkept-step, kept-some, kept-none}

@@ -3,11 +3,11 @@ use Rattle.std.specs.Prelude.{◌&&◌, nat_le, replicate, slice_get}
 use Rattle.std.specs.List.{range_with_len}
 use Rattle.std.proofs.lemmas.List.{length-map}
 use Rattle.std.proofs.lemmas.Bool.{ltb-true}
-use Rattle.label_tree.specs.Rose.{none, more, label_of, kids_of, roses_of, count_all, Allowed}
-use Rattle.label_tree.proofs.Roses.{node_count-kids}
-use Rattle.simple_values.specs.Lexical.{is_at_most}
-use Rattle.simple_values.specs.Reading.{spelled}
-use Rattle.simple_values.proofs.Spellings.{found_at, missed_at}
+use Rattle.base_trees.specs.Rose.{none, more, label_of, kids_of, roses_of, count_all, Allowed}
+use Rattle.base_trees.proofs.Roses.{node_count-kids}
+use Rattle.simple_types.specs.Lexical.{is_at_most}
+use Rattle.simple_types.specs.Reading.{spelled}
+use Rattle.simple_types.proofs.Spellings.{found_at, missed_at}
 use Rattle.asn_types.specs.declared.types.Form.TheVariants as form
 use Rattle.asn_types.specs.Marks.{has_embed_values, has_use_order}
 use Rattle.asn_types.specs.Modules.{IsSequence}
@@ -16,7 +16,7 @@ use Rattle.asn_types.specs.Refs.{resolve}
 use Rattle.asn_types.specs.Roles.{role_of}
 use Rattle.asn_types.specs.Spaces.{space_at}
 use Rattle.asn_values.specs.Values.{place_of, present_from, ordered_flags, order_of}
-use Rattle.plain_items.specs.Mixing.{text_before}
+use Rattle.xml_items.specs.Mixing.{text_before}
 use Rattle.xer_items.specs.Items.{given, nothing, both, element_of, inside, gathered, texts_of, with_texts}
 use Rattle.xer_items.specs.Spelling.{is_textual}
 use Rattle.xer_write.specs.Private.Receiving.{name_seen}

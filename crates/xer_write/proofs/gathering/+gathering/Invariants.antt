@@ -1,6 +1,6 @@
 use Rattle.std.proofs.Common.{◌≡◌, ◌+◌, ◌*◌, ◌≤◌, List, [], Some, drop, map, true}
 use Rattle.std.specs.Prelude.{slice_get}
-use Rattle.label_tree.specs.Rose.{node_count, count_all, roses_of, label_of, kids_of}
+use Rattle.base_trees.specs.Rose.{node_count, count_all, roses_of, label_of, kids_of}
 use Rattle.xer_items.specs.Items.{given}
 use Rattle.xer_items.specs.Children.{Child, elements_of}
 use Rattle.xer_write.specs.Private.Keeping.{children_seen}

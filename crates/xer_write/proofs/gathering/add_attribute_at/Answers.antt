@@ -1,6 +1,6 @@
 use Rattle.std.proofs.Common.{refl, sym, ap, subst, ◌∙◌, OnOk}
-use Rattle.label_tree.specs.Rose.{Allowed}
-use Rattle.simple_values.specs.Reading.{spelled}
+use Rattle.base_trees.specs.Rose.{Allowed}
+use Rattle.simple_types.specs.Reading.{spelled}
 use Rattle.asn_types.specs.Parts.{MayHave}
 use Rattle.asn_types.specs.declared.roles.Role.TheVariants as role
 use Rattle.asn_types.specs.Refs.{resolve}

@@ -1,7 +1,7 @@
 use Rattle.std.proofs.Common.{◌≡◌, sym, ap, ◌∙◌}
-use Rattle.label_tree.specs.Rose.{label_of}
+use Rattle.base_trees.specs.Rose.{label_of}
 use Rattle.simple_types.specs.declared.labels.ValueLabel.TheVariants as label
-use Rattle.simple_values.specs.Reading.{spelled, spelled_whole, spelled_text}
+use Rattle.simple_types.specs.Reading.{spelled, spelled_whole, spelled_text}
 use Rattle.asn_types.specs.Spaces.{space_at}
 use Rattle.xer_write.specs.Private.Receiving.{name_seen}
 use Rattle.xer_write.proofs.Spelled.{spelled-Int, spelled-Utf8, gains-text-as}

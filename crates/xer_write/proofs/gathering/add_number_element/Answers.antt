@@ -1,6 +1,6 @@
 use Rattle.std.proofs.Common.{◌≡◌, rules}
 use Rattle.simple_types.specs.declared.labels.ValueLabel.TheVariants as label
-use Rattle.simple_values.specs.Reading.{spelled_whole}
+use Rattle.simple_types.specs.Reading.{spelled_whole}
 use Rattle.xer_write.specs.Private.Receiving.{name_seen}
 use Rattle.xer_write.proofs.Spelled.{gains-text-as}
 use Rattle.xer_write.proofs.gathering.add_number_element.Goals as goal

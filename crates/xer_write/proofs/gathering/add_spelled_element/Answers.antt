@@ -1,4 +1,4 @@
-use Rattle.simple_values.specs.Reading.{spelled}
+use Rattle.simple_types.specs.Reading.{spelled}
 use Rattle.asn_types.specs.Spaces.{space_at}
 use Rattle.xer_write.specs.Private.Receiving.{name_seen}
 use Rattle.xer_write.proofs.Spelled.{gains-text-as}

@@ -1,7 +1,7 @@
 use Rattle.std.proofs.Common.{sym, ap, subst, ◌∙◌}
 use Rattle.std.specs.Option.{option_map}
-use Rattle.doc_text.specs.Sound.{AreItems}
-use Rattle.plain_items.specs.Unplaced.{unplaced}
+use Rattle.xml_read.specs.Sound.{AreItems}
+use Rattle.xml_items.specs.Unplaced.{unplaced}
 use Rattle.asn_types.specs.declared.modules.Assignment.{Assignment}
 use Rattle.xer_items.specs.Items.{root_of}
 use Rattle.xer_write.proofs.Giving.{body-in}

@@ -1,7 +1,7 @@
 use Rattle.std.proofs.Common.{refl, ap, subst}
 use Rattle.std.specs.Option.{option_map}
-use Rattle.doc_write.proofs.Written.{reads_back, vec_short}
-use Rattle.plain_items.specs.Unplaced.{unplaced}
+use Rattle.xml_write.proofs.Written.{reads_back, vec_short}
+use Rattle.xml_items.specs.Unplaced.{unplaced}
 use Rattle.asn_types.specs.declared.modules.Assignment.{Assignment}
 use Rattle.xer_items.specs.Items.{root_of}
 use Rattle.xer_write.specs.Private.Receiving.{name_seen, IsWholeOf}

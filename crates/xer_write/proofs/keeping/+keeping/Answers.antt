@@ -1,9 +1,9 @@
 use Rattle.std.proofs.Common.{◌≡◌, ◌+◌, ◌<◌, ◌≤◌, false, true, [], ◌∷◌, ◌++◌, length, refl, sym, ap, subst, ◌∙◌, arith}
 use Rattle.std.specs.Prelude.{slice_get}
 use Rattle.std.proofs.lemmas.List.{map_push}
-use Rattle.label_tree.specs.Rose.{Rose, none, more, label_of, kids_of, roses_of, node_count, count_all, Allowed}
-use Rattle.label_tree.proofs.Roses.{node_count-kids}
-use Rattle.simple_values.specs.Reading.{spelled}
+use Rattle.base_trees.specs.Rose.{Rose, none, more, label_of, kids_of, roses_of, node_count, count_all, Allowed}
+use Rattle.base_trees.proofs.Roses.{node_count-kids}
+use Rattle.simple_types.specs.Reading.{spelled}
 use Rattle.asn_types.specs.declared.types.Form.TheVariants as form
 use Rattle.asn_types.specs.declared.types.TypeLabel.{TypeLabel}
 use Rattle.asn_types.specs.Parts.{MayHave, parts_of}

@@ -1,5 +1,5 @@
 use Rattle.std.proofs.Common.{◌≡◌, ◌+◌, ◌*◌, ◌≤◌, true, List}
-use Rattle.label_tree.specs.Rose.{node_count, count_all, roses_of, label_of, kids_of}
+use Rattle.base_trees.specs.Rose.{node_count, count_all, roses_of, label_of, kids_of}
 use Rattle.xer_items.specs.Children.{Child}
 use Rattle.xer_write.specs.declared.contents.Contents.{Contents}
 use Rattle.xer_write.specs.Private.Giving.{places_give}

@@ -1,5 +1,5 @@
 use Rattle.std.proofs.Common.{◌≡◌, true}
-use Rattle.label_tree.specs.Rose.{label_of, kids_of}
+use Rattle.base_trees.specs.Rose.{label_of, kids_of}
 use Rattle.xer_write.proofs.Giving.{fit_from, found_from}
 use Rattle.xer_write.proofs.Orders.{numbers_at}
 use Rattle.xer_write.proofs.ordering.order_numbers.Given as goal

@@ -1,5 +1,5 @@
 use Rattle.std.proofs.Common.{◌≡◌, nat_eq, sym, subst}
-use Rattle.content_spots.specs.Laws.{may_end}
+use Rattle.content_models.specs.SpotLaws.{may_end}
 use Rattle.content_match.specs.Private.Tops.{particle_of_top, StandsAt, spot_at}
 use Rattle.content_match.proofs.Standing.{whole_ends}
 use Rattle.content_match.proofs.plans.TopPlan.may_end.Goals as goal

@@ -1,5 +1,5 @@
 use Rattle.std.proofs.Common.{◌≡◌, ◌≤◌, length, drop}
-use Rattle.xa_base.specs.declared.texts.Name.{Name}
+use Rattle.base_texts.specs.declared.texts.Name.{Name}
 use Rattle.link_set.specs.Private.Told.{attribute_in}
 use Rattle.link_set.specs.Sets.{named_attribute}
 use Rattle.link_set.proofs.elements.AttributeNames.of.Given as goal

@@ -1,9 +1,9 @@
 use Rattle.std.proofs.Common.{map, ◌++◌, ◌∷◌, [], take, arith, sym, ap, ◌∙◌}
 use Rattle.std.proofs.lemmas.List.{map_more, take_all}
-use Rattle.label_tree.specs.Rose.{roses_of, count_all}
-use Rattle.label_tree.proofs.Roses.{node_count-kids}
-use Rattle.label_tree.proofs.Kids.{kid-count-le}
-use Rattle.schema_parts.specs.Documents.{doc_of}
+use Rattle.base_trees.specs.Rose.{roses_of, count_all}
+use Rattle.base_trees.proofs.Roses.{node_count-kids}
+use Rattle.base_trees.proofs.Kids.{kid-count-le}
+use Rattle.schema_components.specs.Documents.{doc_of}
 use Rattle.link_set.specs.Sets.{numbered, numbered_label, number_of_declaration}
 use Rattle.link_set.specs.Private.Told.{told_by}
 use Rattle.link_set.proofs.Numbered.{of_parts}

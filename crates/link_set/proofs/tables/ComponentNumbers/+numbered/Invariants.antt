@@ -1,6 +1,6 @@
 use Rattle.std.proofs.Common.{◌≡◌, map, take}
-use Rattle.label_tree.specs.Rose.{node_count}
-use Rattle.schema_parts.specs.Documents.{doc_of}
+use Rattle.base_trees.specs.Rose.{node_count}
+use Rattle.schema_components.specs.Documents.{doc_of}
 use Rattle.link_set.specs.Sets.{numbered, number_of_declaration}
 use Rattle.link_set.specs.Private.Told.{told_by}
 use Rattle.link_set.proofs.tables.ComponentNumbers.+numbered.Given as goal

@@ -1,5 +1,5 @@
 use Rattle.std.proofs.Common.{◌≡◌, map, take}
-use Rattle.schema_parts.specs.Seen.{uses_in}
+use Rattle.schema_components.specs.Seen.{uses_in}
 use Rattle.link_set.specs.Sets.{attribute_use}
 use Rattle.link_set.specs.Private.Told.{found_in, told_by}
 use Rattle.link_set.proofs.tables.ComponentNumbers.attribute_uses.Given as goal

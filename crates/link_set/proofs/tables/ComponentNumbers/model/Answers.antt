@@ -1,7 +1,7 @@
 use Rattle.std.proofs.Common.{map, sym, subst}
-use Rattle.label_tree.specs.Rose.{Allowed}
+use Rattle.base_trees.specs.Rose.{Allowed}
 use Rattle.content_models.specs.Kids.{MayHave}
-use Rattle.schema_parts.specs.Documents.{doc_of}
+use Rattle.schema_components.specs.Documents.{doc_of}
 use Rattle.link_set.specs.Private.Told.{told_by}
 use Rattle.link_set.specs.Sets.{number_of_declaration}
 use Rattle.link_set.proofs.Numbered.{allowed_numbered}

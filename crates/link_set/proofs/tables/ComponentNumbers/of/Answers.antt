@@ -1,6 +1,6 @@
 use Rattle.std.proofs.Common.{length, map, ap, ap₂, sym, ◌∙◌}
 use Rattle.std.proofs.lemmas.List.{length-map}
-use Rattle.link_cycles.specs.Seen.{definition_of}
+use Rattle.link_names.specs.CyclesSeen.{definition_of}
 use Rattle.link_set.specs.Numbering.{number_named, number_placed, builtin_numbers, element_entry}
 use Rattle.link_set.specs.Private.Seen.{written_of, elements_of}
 use Rattle.link_set.proofs.tables.ComponentNumbers.of.Goals as goal

@@ -1,6 +1,6 @@
 use Rattle.std.proofs.Common.{sym, ap, ◌∙◌}
-use Rattle.schema_parts.specs.Seen.{base_of}
-use Rattle.schema_parts.proofs.Seen.{named_base, inner_base}
+use Rattle.schema_components.specs.Seen.{base_of}
+use Rattle.schema_components.proofs.Seen.{named_base, inner_base}
 use Rattle.link_names.specs.Order.{place}
 use Rattle.link_set.specs.Sets.{simple_of_base, or_zero}
 use Rattle.link_set.specs.Private.Told.{told_by}

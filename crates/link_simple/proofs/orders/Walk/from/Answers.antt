@@ -1,9 +1,9 @@
 use Rattle.std.proofs.Common.{◌≡◌, ◌<◌, ◌∷◌, ◌++◌, [], ℕ, Bool, List, arith, true, inl, inr, length, sym, ap, ◌∙◌, subst, Vec}
 use Rattle.std.specs.Global.{Global}
 use Rattle.std.proofs.lemmas.List.{length-map}
-use Rattle.link_cycles.specs.Graphs.{rows_of}
-use Rattle.link_cycles.specs.Private.Searching.{mark}
-use Rattle.link_cycles.proofs.Walks.{mark_is}
+use Rattle.link_names.specs.Graphs.{rows_of}
+use Rattle.link_names.specs.Private.Searching.{mark}
+use Rattle.link_names.proofs.Walks.{mark_is}
 use Rattle.link_simple.specs.Private.Ordering.{Walked, IsHeld, step}
 use Rattle.link_simple.proofs.Following.{walked_start, held_first, smaller}
 use Rattle.link_simple.proofs.orders.Walk.from.Goals as goal

@@ -1,6 +1,6 @@
 use Rattle.std.proofs.Common.{◌≡◌, ◌*◌, ◌-◌, ◌⊎◌, ℕ, true, length}
-use Rattle.link_cycles.specs.Graphs.{rows_of}
-use Rattle.link_cycles.specs.Private.Searching.{mark, unseen}
+use Rattle.link_names.specs.Graphs.{rows_of}
+use Rattle.link_names.specs.Private.Searching.{mark, unseen}
 use Rattle.link_simple.specs.Private.Ordering.{Walked, IsHeld}
 use Rattle.link_simple.proofs.orders.Walk.from.Given as goal
 

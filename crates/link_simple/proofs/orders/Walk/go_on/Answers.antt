@@ -2,10 +2,10 @@ use Rattle.std.proofs.Common.{rules, ◌≡◌, ◌<◌, ◌≤◌, ◌+◌, ◌
 use Rattle.std.specs.Global.{Global}
 use Rattle.std.proofs.lemmas.List.{length-map}
 use Rattle.std.proofs.lemmas.Result.{on_ok_weaker}
-use Rattle.xa_base.specs.Lists.{HasItem}
-use Rattle.link_cycles.specs.Graphs.{rows_of, row}
-use Rattle.link_cycles.specs.Private.Searching.{mark, unseen}
-use Rattle.link_cycles.proofs.Walks.{row_is}
+use Rattle.base_texts.specs.Lists.{HasItem}
+use Rattle.link_names.specs.Graphs.{rows_of, row}
+use Rattle.link_names.specs.Private.Searching.{mark, unseen}
+use Rattle.link_names.proofs.Walks.{row_is}
 use Rattle.link_simple.specs.declared.orders.Step.{Step}
 use Rattle.link_simple.specs.Private.Ordering.{IsAcyclic, IsInside, IsFirstOpen, Walked, IsHeld, step}
 use Rattle.link_simple.proofs.Following.{is_node, edges_within, edges_followed, edge_found, walked_on, walked_back, held_on, held_back, less_back}

@@ -2,11 +2,11 @@ use Rattle.std.proofs.Common.{◌<◌, ℕ, Bool, true, List, Option, arith, len
 use Rattle.std.proofs.lemmas.List.{length-map}
 use Rattle.link_names.specs.declared.faults.LinkingFault.{LinkingFault}
 use Rattle.simple_types.specs.declared.simples.Simple.{Simple}
-use Rattle.link_cycles.specs.declared.definitions.SimpleType.{SimpleType}
-use Rattle.link_cycles.specs.Cycles.{edges}
-use Rattle.link_cycles.specs.Seen.{definition_of, definitions_of}
-use Rattle.link_cycles.specs.Tables.{told_by}
-use Rattle.link_cycles.proofs.First.{definition_at}
+use Rattle.link_names.specs.declared.definitions.SimpleType.{SimpleType}
+use Rattle.link_names.specs.Cycles.{edges}
+use Rattle.link_names.specs.CyclesSeen.{definition_of, definitions_of}
+use Rattle.link_names.specs.Tables.{told_by}
+use Rattle.link_names.proofs.First.{definition_at}
 use Rattle.link_simple.specs.Private.Leaving.{LeftBy}
 use Rattle.link_simple.specs.Making.{IsLeft}
 use Rattle.link_simple.specs.Private.Ordering.{IsReady}

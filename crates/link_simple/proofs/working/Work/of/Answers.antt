@@ -1,6 +1,6 @@
 use Rattle.std.proofs.Common.{◌≡◌, false, length, replicate, None, ap, ◌∙◌, sym, subst}
 use Rattle.std.proofs.lemmas.List.{length-map}
-use Rattle.link_cycles.specs.Seen.{definition_of, definitions_of}
+use Rattle.link_names.specs.CyclesSeen.{definition_of, definitions_of}
 use Rattle.link_simple.specs.Private.Parts.{entries_of}
 use Rattle.link_simple.specs.Private.Working.{Stands}
 use Rattle.link_simple.proofs.Standing.{stands_first}

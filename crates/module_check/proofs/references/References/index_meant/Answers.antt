@@ -1,7 +1,7 @@
 use Rattle.std.proofs.Common.{sym, subst, arith}
 use Rattle.module_text.specs.declared.modules.PlainAssignment.{PlainAssignment}
-use Rattle.module_index.specs.Indexed.{IsKept, Indexes, AreIndexes}
-use Rattle.module_index.proofs.Kept.{each-count, each-at}
+use Rattle.module_pieces.specs.Indexed.{IsKept, Indexes, AreIndexes}
+use Rattle.module_pieces.proofs.Kept.{each-count, each-at}
 use Rattle.module_check.proofs.references.References.index_meant.Goals as goal
 
 pub bounds-indexes-number : goal.bounds-indexes-number

@@ -1,5 +1,5 @@
 use Rattle.std.proofs.Common.{◌≡◌, ◌-◌}
-use Rattle.module_faults.specs.Resolving.{follow, resolve}
+use Rattle.module_text.specs.Resolving.{follow, resolve}
 use Rattle.module_check.proofs.Tables.{IsMeant}
 use Rattle.module_check.proofs.references.References.number_meant.Given as goal
 

@@ -2,7 +2,7 @@ use Rattle.std.proofs.Common.{ap, ◌∙◌}
 use Rattle.std.specs.Prelude.{bytes_eq}
 use Rattle.std.proofs.lemmas.List.{take_all}
 use Rattle.indexmap.specs.IndexMap.{get}
-use Rattle.module_faults.specs.Resolving.{number_of}
+use Rattle.module_text.specs.Resolving.{number_of}
 use Rattle.module_check.proofs.Tables.{table-more}
 use Rattle.module_check.proofs.references.References.of.Goals as goal
 

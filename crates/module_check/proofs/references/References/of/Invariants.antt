@@ -1,7 +1,7 @@
 use Rattle.std.proofs.Common.{◌≡◌, ℕ, List, take}
 use Rattle.std.specs.Prelude.{bytes_eq}
 use Rattle.indexmap.specs.IndexMap.{get}
-use Rattle.module_faults.specs.Resolving.{number_of}
+use Rattle.module_text.specs.Resolving.{number_of}
 use Rattle.module_check.proofs.references.References.of.Given as goal
 
 abbrev pub invariant-assignments : goal.invariant-assignments

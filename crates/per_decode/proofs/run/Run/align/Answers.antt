@@ -1,6 +1,6 @@
 use Rattle.std.proofs.Common.{arith, ◌≡◌, ◌<◌, ◌-◌, ◌*◌, ◌^◌, refl, ap, ◌∙◌, subst, Result, Ok, Err}
-use Rattle.bit_cursor.specs.declared.fetch.CursorError.{CursorError}
-use Rattle.bit_cursor.specs.Bits.{gap}
+use Rattle.base_codecs.specs.declared.fetch.CursorError.{CursorError}
+use Rattle.base_codecs.specs.Bits.{gap}
 use Rattle.per_decode.proofs.Standing.{padding_ok, padding_err, at_align, padding_held}
 use Rattle.per_decode.proofs.run.Run.align.Goals as goal
 

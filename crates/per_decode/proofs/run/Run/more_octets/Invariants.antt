@@ -1,5 +1,5 @@
 use Rattle.std.proofs.Common.{◌≡◌, ◌≤◌, ◌+◌, ◌-◌, ◌*◌, suc, length, None, IsTrue}
-use Rattle.bit_cursor.specs.Cursors.{IsInStep}
+use Rattle.base_codecs.specs.Cursors.{IsInStep}
 use Rattle.per_fields.specs.Reading.{octets_at}
 use Rattle.per_fields.specs.Fields.{fragments_at}
 use Rattle.per_decode.specs.Private.Giving.{input, spot}

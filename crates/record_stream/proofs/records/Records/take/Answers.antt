@@ -1,4 +1,4 @@
-use Rattle.xa_base.specs.Faults.{one_more}
+use Rattle.base_texts.specs.Faults.{one_more}
 use Rattle.record_stream.proofs.Taking.{answers_taken, room_left, none_held}
 use Rattle.record_stream.proofs.records.Records.take.Goals as goal
 

@@ -29,7 +29,7 @@ use contract.Monad.{fact}
 use Rattle.std.proofs.lemmas.Bool.{false≢true}
 use denote.Steps.{heard}
 use types.Kit.{rewrite}
-use Rattle.messages.specs.declared.converting.Message.{Message}
+use Rattle.transcode_messages.specs.declared.converting.Message.{Message}
 use Rattle.ruvkhiska_c.specs.contracts.given.Given as Given
 use Rattle.std_alloc.proofs.BoxSteps.Form.{D, B, word, box_typed}
 use Rattle.std_alloc.proofs.BoxSteps.Steps.{box_out, box_in}

@@ -1,6 +1,6 @@
 use Rattle.std.proofs.Common.{rules, arith, ◌≡◌, true, Option, Some, ◌++◌, length, option_map, refl, sym, ◌∙◌, ap, subst, ◌+◌, codes}
 use Rattle.schema_read.proofs.Words.{Rose, roses_of, ParticleLabel, kid-count-le, node_count-kids, Complex, Reference, bindings_in, is_in, Particles, never_occurs, is_true, no_name, local_name, is_named, said, Makes, made_some, BodyHeld, FoundHeld, HasRoom, IsHeld}
-use Rattle.schema_parts.specs.Seen as seen
+use Rattle.schema_components.specs.Seen as seen
 use Rattle.schema_read.specs.Particles as parts
 use Rattle.schema_read.proofs.Bases.{not_false}
 use Rattle.schema_read.proofs.Rooms.{particle_room, group_room, kind_held, declared_held}

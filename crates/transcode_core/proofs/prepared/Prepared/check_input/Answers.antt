@@ -1,15 +1,15 @@
 use Rattle.std.proofs.Common.{ℕ, ◌+◌, ◌≤◌, [], inl, inr}
 use Rattle.std.specs.Prelude.{Vec, Ok}
 use Rattle.std.specs.declared.alloc.Global.{Global}
-use Rattle.schema_parts.specs.SetParts.{parts_of}
-use Rattle.command_line.specs.Order.{Give, Then}
+use Rattle.schema_components.specs.SetParts.{parts_of}
+use Rattle.transcode_words.specs.Order.{Give, Then}
 use Rattle.transcode_core.specs.Steps.{Judged}
 use Rattle.transcode_core.specs.Due.{ItemsIn}
-use Rattle.command_line.specs.Answers.{NoMemory}
+use Rattle.transcode_words.specs.Answers.{NoMemory}
 use Rattle.transcode_core.specs.Causes.{OneRead, StepsFrom}
-use Rattle.item_tree.specs.Counts.{element_count}
+use Rattle.xml_items.specs.Counts.{element_count}
 use Rattle.validity_check.proofs.Counting.{on-ok}
-use Rattle.command_line.proofs.Joined.{passed, refused}
+use Rattle.transcode_words.proofs.Joined.{passed, refused}
 use Rattle.transcode_core.proofs.prepared.Prepared.check_input.Goals as goal
 
 pub returns-in-Ok-clause-due : goal.returns-in-Ok-clause-due

@@ -2,8 +2,8 @@ use Rattle.std.proofs.Common.{ℕ}
 use Rattle.std.proofs.lemmas.Result.{IfOk-weaker}
 use Rattle.std.specs.Prelude.{Vec}
 use Rattle.std.specs.declared.alloc.Global.{Global}
-use Rattle.command_line.specs.Order.{Then}
-use Rattle.command_line.proofs.Joined.{passed}
+use Rattle.transcode_words.specs.Order.{Then}
+use Rattle.transcode_words.proofs.Joined.{passed}
 use Rattle.transcode_core.specs.Private.Seen.{type_seen}
 use Rattle.transcode_core.specs.Preparing.{prepared_seen}
 use Rattle.transcode_core.specs.Steps.{RootType, Typed, Decoded, Written}

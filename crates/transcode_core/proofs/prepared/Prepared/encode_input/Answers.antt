@@ -2,9 +2,9 @@ use Rattle.std.proofs.Common.{◌+◌, ◌≤◌, inl, inr}
 use Rattle.std.specs.Prelude.{Ok}
 use Rattle.transcode_core.specs.Private.Seen.{type_seen}
 use Rattle.transcode_core.specs.Due.{ItemsIn}
-use Rattle.command_line.specs.Answers.{NoMemory}
+use Rattle.transcode_words.specs.Answers.{NoMemory}
 use Rattle.transcode_core.specs.Causes.{OneRead, StepsFrom}
-use Rattle.item_tree.specs.Counts.{element_count}
+use Rattle.xml_items.specs.Counts.{element_count}
 use Rattle.validity_check.proofs.Counting.{on-ok}
 use Rattle.transcode_core.proofs.Ready.{encodes, encodes_nothing}
 use Rattle.transcode_core.proofs.prepared.Prepared.encode_input.Goals as goal

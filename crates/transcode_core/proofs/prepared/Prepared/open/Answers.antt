@@ -1,6 +1,6 @@
 use Rattle.std.proofs.Common.{inl}
-use Rattle.command_line.specs.Seen.{root_seen}
-use Rattle.command_line.specs.Answers.{NoMemory}
+use Rattle.transcode_words.specs.Seen.{root_seen}
+use Rattle.transcode_words.specs.Answers.{NoMemory}
 use Rattle.transcode_core.specs.Private.Seen.{opened_seen}
 use Rattle.transcode_core.specs.Preparing.{prepared_seen}
 use Rattle.transcode_core.specs.Due.{Opened}

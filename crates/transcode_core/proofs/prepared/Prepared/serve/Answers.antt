@@ -1,4 +1,4 @@
-use Rattle.command_line.proofs.Joined.{nothing_said}
+use Rattle.transcode_words.proofs.Joined.{nothing_said}
 use Rattle.transcode_core.proofs.prepared.Prepared.serve.Goals as goal
 
 pub returns-in-Check-clause-due : goal.returns-in-Check-clause-due

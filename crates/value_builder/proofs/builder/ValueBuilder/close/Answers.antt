@@ -1,5 +1,5 @@
 use Rattle.std.proofs.Common.{◌≤◌, refl, subst}
-use Rattle.flat_tree.specs.Zips.{closed}
+use Rattle.base_flat_trees.specs.Zips.{closed}
 use Rattle.value_builder.proofs.Counts.{count-closed, closed-outside}
 use Rattle.value_builder.proofs.Putting.{puts-same}
 use Rattle.value_builder.proofs.builder.ValueBuilder.close.Goals as goal

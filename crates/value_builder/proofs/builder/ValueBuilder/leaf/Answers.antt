@@ -1,6 +1,6 @@
 use Rattle.std.proofs.Common.{refl}
-use Rattle.label_tree.specs.Rose.{node, none}
-use Rattle.flat_tree.specs.Zips.{added}
+use Rattle.base_trees.specs.Rose.{node, none}
+use Rattle.base_flat_trees.specs.Zips.{added}
 use Rattle.value_builder.proofs.Counts.{count-added}
 use Rattle.value_builder.proofs.Putting.{puts-more, puts-unkept}
 use Rattle.value_builder.proofs.builder.ValueBuilder.leaf.Goals as goal

@@ -1,5 +1,5 @@
 use Rattle.std.proofs.Common.{◌≡◌, ◌<◌, ◌^◌, None, replicate, length, refl, ap, ◌∙◌, arith}
-use Rattle.label_tree.specs.Rose.{kids_of}
+use Rattle.base_trees.specs.Rose.{kids_of}
 use Rattle.xer_read.proofs.Slots.{keeps-none, keeps-off}
 use Rattle.xer_read.proofs.gathering.Gathered.new.Goals.{then-most-gt0+else-kids-test, else-most-gt0}
 use Rattle.xer_read.proofs.gathering.Gathered.new.Goals as goal

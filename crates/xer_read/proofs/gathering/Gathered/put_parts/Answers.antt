@@ -1,5 +1,5 @@
 use Rattle.std.proofs.Common.{◌≤◌, ◌∙◌, sym, subst}
-use Rattle.label_tree.specs.Rose.{roses_of, count_all}
+use Rattle.base_trees.specs.Rose.{roses_of, count_all}
 use Rattle.value_builder.specs.Built.{with_parts}
 use Rattle.value_builder.proofs.Counts.{count-with_parts}
 use Rattle.xer_read.specs.Private.Slots.{flags_of, values_of}

@@ -1,7 +1,7 @@
 use Rattle.std.proofs.Common.{◌≡◌, false, [], ◌∷◌, length, length-append, sym, ap, subst, ◌∙◌, ◌==◌, IsUtf8, arith, refl}
 use Rattle.std.specs.Prelude.{map}
-use Rattle.plain_items.specs.Mixing.{text_before}
-use Rattle.label_tree.specs.Rose.{none}
+use Rattle.xml_items.specs.Mixing.{text_before}
+use Rattle.base_trees.specs.Rose.{none}
 use Rattle.xer_items.specs.Items.{given}
 use Rattle.xer_write.specs.declared.contents.Contents.{Contents}
 use Rattle.xer_write.specs.Private.Gaining.{Gains, first_text, value_text}

@@ -1,0 +1,13 @@
+//! Converts XML names to ASN.1 names, keeps them distinct in a scope, and restores the XML name.
+//!
+//! Read first: docs/NAMES.md, `specs/Conversion`, then `src/scope.rt`.
+#![tactic(auto)]
+
+mod conversion;
+mod reserved;
+mod restoration;
+mod scope;
+
+pub use conversion::{NameKind, convert};
+pub use restoration::{NameForm, restoring};
+pub use scope::Scope;

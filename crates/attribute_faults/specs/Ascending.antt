@@ -1,8 +1,0 @@
--- Attribute uses in the order of their names.
-use Rattle.std.specs.Prelude.{List, map}
-use Rattle.std.specs.List.Sorted.{IsStrictlySortedBy}
-use Rattle.xa_base.specs.Names.{name_cmp}
-use Rattle.schema_parts.specs.declared.components.AttributeUse.{AttributeUse}
-
-abbrev pub Ascend : List AttributeUse → Type 0
-Ascend us = IsStrictlySortedBy name_cmp (map (λ (u : AttributeUse). u.name) us)

@@ -1,4 +1,0 @@
-pub mod Ascending
-pub mod First
-pub mod Texts
-pub mod Uses

@@ -1,0 +1,12 @@
+pub mod BitLemmas
+pub mod Taking
+pub mod BitSplit
+pub mod FewBits
+pub mod Writing
+pub mod Padding
+pub mod Across
+pub mod Codecs
+pub mod Lists
+pub mod Sequences
+pub mod Steps
+pub mod Told

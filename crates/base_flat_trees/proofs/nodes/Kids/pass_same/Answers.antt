@@ -1,0 +1,10 @@
+use Rattle.std.proofs.Common.{◌<◌, ◌^◌, length, ap, arith}
+use Rattle.base_trees.proofs.Roses.{length-le-count_all}
+use Rattle.base_flat_trees.specs.Entries.{forest}
+use Rattle.base_flat_trees.proofs.Forests.{count_below}
+use Rattle.base_flat_trees.proofs.nodes.Kids.pass_same.Goals as goal
+
+pub overflow_add-count : goal.overflow_add-count
+overflow_add-count g c =
+    let fits : length c.args.self.now < 2 ^ 64 = omega (arith, c.self.told, ap length c.self.view_is, length-le-count_all (forest c.self.inside.left.now), count_below c.self.inside.left.now c.self.invariant) in
+    omega (arith, fits, c.same.invariant, ap length c.same-test.ensures.1)

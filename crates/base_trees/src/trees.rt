@@ -1,0 +1,137 @@
+//! Trees of labels.
+ghost use Rattle.std.specs.Prelude.{◌≡◌, ◌<◌, ◌↔◌, [], Some, IfOk, IsTrue, length, slice_get};
+ghost use Rattle.base_trees.specs.Rose.{node, roses_of, label_of, kids_of, Allowed, shown_count, shown_depth};
+
+use crate::shapes::Shape;
+use base_texts::Memory;
+use std::alloc::Global;
+use std::marker::Model;
+
+/// A node with its label and its kids, seen as just these two: equal trees may differ in the capacities of their
+/// lists.
+///
+/// A tree is dropped, copied and sealed by recursion, so the stack that these take grows with its depth, which the
+/// type doesn't bound. With a label of a few words, 8 MB of stack serve about 30,000 levels. Whoever builds a tree
+/// from input has to bound its depth.
+#[derive(Drop)]
+pub struct Tree<L> {
+    label: L,
+    kids: Vec<Tree<L>>,
+}
+
+impl<L> Model for Tree<L> {
+    ghost use Rattle.std.proofs.Common.{arith};
+    ghost use Rattle.base_trees.specs.Rose.{Rose, node, roses_of, node_count, coded_rose};
+    ghost use Rattle.base_trees.specs.Falls.{most_le-node_count};
+
+    ghost Value = { Rose L };
+
+    ghost coded = { coded_rose L.code };
+
+    ghost view = { λ a. node a.label (roses_of a.kids.items) };
+
+    ghost size = { node_count };
+
+    ghost size_decreases = { λ a h. omega (arith, most_le-node_count a.kids.items) };
+}
+
+impl<L> Tree<L> {
+    /// A node with no kids. It takes no memory.
+    pub fn leaf(alloc: Global, label: L) -> Tree<L>
+        ensures { result ≡ node label (roses_of []) }
+    {
+        Tree {
+            label,
+            kids: Vec::new(alloc),
+        }
+    }
+
+    /// A node with these kids. It takes no memory.
+    pub fn join(label: L, kids: Vec<Tree<L>>) -> Tree<L>
+        ensures { result ≡ node label (roses_of kids.items) }
+    {
+        Tree { label, kids }
+    }
+
+    /// The label of the root.
+    pub fn label(&self) -> &L
+        ensures { result.now ≡ label_of self.now }
+    {
+        &self.label
+    }
+
+    /// The kids of the root.
+    pub fn kids(&self) -> &[Tree<L>]
+        ensures { result.now ≡ kids_of self.now }
+    {
+        &self.kids
+    }
+
+    /// The kid of the root with this number. The first has the number 0.
+    pub fn kid(&self, i: usize) -> &Tree<L>
+        requires { i < length (kids_of self.now) }
+        ensures { slice_get (kids_of self.now) i ≡ Some result.now }
+    {
+        &self.kids()[i]
+    }
+
+    /// The number of nodes, of which it visits each. 2^64 - 1 stands for that number and every greater one.
+    pub fn count(&self) -> u64
+        ensures { result ≡ shown_count self.now }
+    {
+        let kids = self.kids.as_slice();
+        let mut count: u64 = 1;
+        for kid in kids {
+            count = count.saturating_add(kid.count());
+        }
+        count
+    }
+
+    /// The number of levels, which is 1 for a leaf. 2^32 - 1 stands for that number and every greater one. It visits
+    /// each node.
+    pub fn depth(&self) -> u32
+        ensures { result ≡ shown_depth self.now }
+    {
+        let kids = self.kids.as_slice();
+        let mut depth: u32 = 0;
+        for kid in kids {
+            depth = depth.max(kid.depth());
+        }
+        depth.saturating_add(1)
+    }
+}
+
+impl<L: Shape> Tree<L> {
+    /// An equal tree.
+    pub fn copy(&self, alloc: Global) -> Result<Tree<L>, Memory>
+        ensures { IfOk result (λ tree. tree ≡ self.now) }
+    {
+        let label = self.label.copy(alloc)?;
+        let kids = self.kids.as_slice();
+        let mut copies = Vec::with_capacity(alloc, kids.len())?;
+        for kid in kids {
+            let copied = kid.copy(alloc)?;
+            copies.push_reserved(copied);
+        }
+        Ok(Tree {
+            label,
+            kids: copies,
+        })
+    }
+
+    /// Whether the label of each node allows its number of kids.
+    pub(crate) fn is_allowed(&self) -> bool
+        ensures { IsTrue result ↔ Allowed L.allowed self.now }
+    {
+        let kids = self.kids.as_slice();
+        if !self.label.allows(kids.len() as u64) {
+            return false;
+        }
+        for kid in kids {
+            if !kid.is_allowed() {
+                return false;
+            }
+        }
+        true
+    }
+}

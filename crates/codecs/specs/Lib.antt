@@ -1,4 +1,0 @@
-pub mod Reading
-pub mod Codec
-pub mod Sequences
-pub mod Stopping

@@ -1,0 +1,6 @@
+-- By recursion on the levels of nodes.
+use Rattle.der_fields.proofs.StopLaw.{stops_as_read, one_of_two}
+use Rattle.der_fields.proofs.stop_laws.stops_first.Goals as goal
+
+pub returns : goal.returns
+returns c = record { as_read = stops_as_read; one_of_two = one_of_two }

@@ -1,5 +1,0 @@
-pub mod Lists
-mod Spelling
-mod InScope
-mod Hashed
-mod Repeated

@@ -1,6 +1,0 @@
-use Rattle.std.proofs.Common.{rules, length}
-use Rattle.doc_names.proofs.InScope.{entered}
-use Rattle.doc_names.proofs.scope.BindingsInScope.push.Goals as goal
-
-pub invariant_of-self-in-Ok : goal.invariant_of-self-in-Ok
-invariant_of-self-in-Ok c = entered c.self.inside.bindings.items c.push.new.self.items c.self.inside.innermost c.insert.new.self _ (length c.as_slice-place.result.now) c.self.invariant c.in_ok-push.ensures.items (search rules) (search rules) c.in-Ok.ensures.updates

@@ -1,3 +1,0 @@
-pub mod Namespaces
-pub mod Plain
-pub mod Private

@@ -1,5 +1,0 @@
-pub mod Pieces
-pub mod Reading
-pub mod Found
-pub mod Reasons
-pub mod QNames

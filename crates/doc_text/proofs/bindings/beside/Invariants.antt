@@ -1,7 +1,0 @@
-use Rattle.std.proofs.Common.{◌≡◌, drop}
-use Rattle.xa_base.specs.Entries.{beside}
-use Rattle.doc_text.proofs.bindings.beside.Given as goal
-
--- it is among those that are left
-abbrev pub invariant-loop-bound : goal.invariant-loop-bound
-invariant-loop-bound l = beside l.prefix (drop l.bound-index l.bindings) ≡ beside l.prefix l.bindings

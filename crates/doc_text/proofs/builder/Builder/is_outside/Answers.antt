@@ -1,6 +1,0 @@
-use Rattle.std.proofs.Common.{rules}
-use Rattle.doc_text.proofs.Built.{outside_is}
-use Rattle.doc_text.proofs.builder.Builder.is_outside.Goals as goal
-
-pub returns : goal.returns
-returns c = outside_is c.args.self.now c.is_empty.result (search rules)

@@ -1,9 +1,0 @@
-use Rattle.std.proofs.Common.{rules}
-use Rattle.doc_text.proofs.Noted.{none_noted}
-use Rattle.doc_text.proofs.builder.Builder.new.Goals as goal
-
-pub returns : goal.returns
-returns c = record {
-  steps = search rules;
-  scoped = record { scope_is = search rules; named = search rules; nodes = search rules; noted = none_noted _ _ _ _ c.new-notes.ensures.written c.new-notes.ensures.names };
-}

@@ -1,4 +1,0 @@
-use Rattle.doc_text.proofs.notes.Notes.find.Goals as goal
-
-pub returns-then-eq-clause-known : goal.returns-then-eq-clause-known
-returns-then-eq-clause-known c = c.in-Some.ensures

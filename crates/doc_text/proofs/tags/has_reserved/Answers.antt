@@ -1,6 +1,0 @@
-use Rattle.std.proofs.Common.{rules}
-use Rattle.doc_text.proofs.TagTests.{reserved_is}
-use Rattle.doc_text.proofs.tags.has_reserved.Goals as goal
-
-pub returns : goal.returns
-returns c = reserved_is c.args.tag.now _ (search rules)

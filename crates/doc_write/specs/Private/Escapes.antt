@@ -1,9 +1,0 @@
--- What is written of a byte where it stands. Only private contracts use this.
-use Rattle.std.specs.Prelude.{ℕ, List}
-use Rattle.doc_write.specs.declared.writing.CharacterPlace.{CharacterPlace}
-use Rattle.doc_write.specs.declared.writing.CharacterPlace.TheVariants as places
-use Rattle.doc_written.specs.Written.{text_escape, value_escape}
-
-abbrev pub escape_in : CharacterPlace → ℕ → List ℕ
-escape_in places.Content = text_escape
-escape_in places.Value = value_escape

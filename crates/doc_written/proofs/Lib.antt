@@ -1,9 +1,0 @@
-pub mod Lists
-pub mod Texts
-pub mod Escapes
-pub mod Parts
-pub mod Table
-pub mod Tags
-pub mod Again
-pub mod Trees
-pub mod Document

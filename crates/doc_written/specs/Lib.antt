@@ -1,4 +1,0 @@
-pub mod Spaces
-pub mod Written
-pub mod Same
-pub mod ReadBack

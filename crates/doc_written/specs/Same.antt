@@ -1,2 +1,0 @@
--- Items that differ at most in their places and bindings, and in the order of attributes.
-pub use Rattle.doc_text.specs.Same.{value_of, SameAttributes, SameItems, AllSameItems}

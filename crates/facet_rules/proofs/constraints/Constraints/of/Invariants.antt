@@ -1,7 +1,0 @@
-use Rattle.std.proofs.Common.{◌≡◌, drop}
-use Rattle.simple_types.specs.Seen.{space_of}
-use Rattle.facet_rules.specs.Restricting.{no_constraints, with_facets}
-use Rattle.facet_rules.proofs.constraints.Constraints.of.Given as goal
-
-abbrev pub invariant-facets : goal.invariant-facets
-invariant-facets l = with_facets (space_of l.base) no_constraints l.facets ≡ with_facets (space_of l.base) l.asked (drop l.facet-index l.facets)

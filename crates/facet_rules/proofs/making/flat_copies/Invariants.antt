@@ -1,8 +1,0 @@
-use Rattle.std.proofs.Common.{◌≡◌, drop}
-use Rattle.simple_types.specs.Seen.{spaces_in}
-use Rattle.simple_types.specs.Joining.{joined, flattened}
-use Rattle.facet_rules.specs.Making.{lent_spaces}
-use Rattle.facet_rules.proofs.making.flat_copies.Given as goal
-
-abbrev pub invariant-members : goal.invariant-members
-invariant-members l = joined (spaces_in l.flat.items) (flattened (lent_spaces (drop l.member-index l.members))) ≡ flattened (lent_spaces l.members)

@@ -1,8 +1,0 @@
-use Rattle.std.proofs.Common.{◌≡◌, drop}
-use Rattle.simple_types.specs.Seen.{spaces_in}
-use Rattle.simple_types.specs.Joining.{joined}
-use Rattle.facet_rules.specs.Making.{lent_spaces}
-use Rattle.facet_rules.proofs.making.lent_all.Given as goal
-
-abbrev pub invariant-members : goal.invariant-members
-invariant-members l = joined (lent_spaces l.lent.items) (spaces_in (drop l.member-index l.members)) ≡ spaces_in l.members

@@ -1,5 +1,0 @@
-use Rattle.std.proofs.Common.{◌≡◌, ◌+◌, length}
-use Rattle.flat_tree.proofs.nodes.Kids.len.Given as goal
-
-abbrev pub invariant-sizes : goal.invariant-sizes
-invariant-sizes g l = l.count + length l.kids ≡ length l.fn.self

@@ -1,6 +1,0 @@
-use Rattle.std.proofs.Common.{◌≡◌, min, ◌-◌, ◌^◌, take}
-use Rattle.label_tree.specs.Rose.{roses_of, depth_all}
-use Rattle.label_tree.proofs.trees.Tree.+depth.Given as goal
-
-abbrev pub invariant-loop-kid : goal.invariant-loop-kid
-invariant-loop-kid g l = l.depth ≡ min (depth_all (roses_of (take l.kid-index l.kids))) (2 ^ 32 - 1)

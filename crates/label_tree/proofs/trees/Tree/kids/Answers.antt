@@ -1,7 +1,0 @@
--- The kids are those of the view.
-use Rattle.std.proofs.Common.{◌∙◌, sym}
-use Rattle.label_tree.proofs.Roses.{list_of-roses_of}
-use Rattle.label_tree.proofs.trees.Tree.kids.Goals as goal
-
-pub returns : goal.returns
-returns g c = rw (← c.self.view_is) (c.deref.ensures.value ∙ sym (list_of-roses_of c.self.inside.kids.items))

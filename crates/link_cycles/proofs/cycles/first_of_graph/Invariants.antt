@@ -1,8 +1,0 @@
-use Rattle.link_names.specs.Order.{IsFirstSuch}
-use Rattle.link_cycles.specs.Cycles.{IsCircularBelow}
-use Rattle.link_cycles.specs.Seen.{definitions_of}
-use Rattle.link_cycles.proofs.cycles.first_of_graph.Given as goal
-
--- the first of those before this one
-abbrev pub invariant-numbers : goal.invariant-numbers
-invariant-numbers l = IsFirstSuch (IsCircularBelow (definitions_of l.definitions) l.n) l.found

@@ -1,0 +1,106 @@
+//! The first simple type that is made of itself.
+ghost use Rattle.std.specs.Prelude.{◌≡◌, ◌<◌, ◌≤◌, ◌↔◌, ℕ, true, length, map, slice_index, IsTrue, IfOk};
+ghost use Rattle.schema_components.specs.Documents.{doc_of};
+ghost use Rattle.link_names.specs.Order.{IsFirstSuch};
+ghost use Rattle.link_names.specs.Cycles.{edges, IsCircularOf, IsCircular};
+ghost use Rattle.link_names.specs.Private.Keeping.{Keeps, IsNext};
+ghost use Rattle.link_names.specs.Graphs.{rows_of, IsEdge, IsOnCycle};
+ghost use Rattle.link_names.specs.CyclesSeen.{definitions_of};
+
+use crate::definitions::{SimpleType, simple_types};
+use crate::faults::{LinkWhy, LinkingFault, earlier};
+use crate::graphs::{falls_from, is_falling, is_on_cycle};
+use crate::numbers::graph_of;
+use crate::ranks::ranks_of;
+use base_texts::Memory;
+use schema_components::RawDoc;
+use std::alloc::Global;
+
+// Whether what was found stays the first beside one more.
+fn is_kept(found: Option<LinkingFault>, fault: LinkingFault) -> bool
+    ensures { result ≡ true → Keeps found fault }
+{
+    match found {
+        Some(first) => !fault.precedes(first),
+        None => false,
+    }
+}
+
+// Whether a cycle goes through the node. Ranks that fall along edges rule most nodes out; a search is needed for those
+// that are left.
+fn is_circular(
+    alloc: Global,
+    graph: &[Vec<usize>],
+    ranks: &[usize],
+    falling: bool,
+    n: usize,
+) -> Result<bool, Memory>
+    requires within { n < length graph.now }
+    requires falls { falling ≡ true → (a b : ℕ) → IsEdge (rows_of graph.now) a b → slice_index ranks.now b ≤ slice_index ranks.now a }
+    ensures { IfOk result (λ cycle. IsTrue cycle ↔ IsOnCycle (rows_of graph.now) n) }
+{
+    if falling {
+        if falls_from(graph, ranks, n) {
+            return Ok(false);
+        }
+    }
+    is_on_cycle(alloc, graph, n)
+}
+
+// The first of what was found and of the fault of this node, which it has if a cycle goes through it. It is not looked
+// for where it would come later.
+fn next_found(
+    alloc: Global,
+    graph: &[Vec<usize>],
+    ranks: &[usize],
+    falling: bool,
+    n: usize,
+    fault: LinkingFault,
+    found: Option<LinkingFault>,
+) -> Result<Option<LinkingFault>, Memory>
+    requires within { n < length graph.now }
+    requires falls { falling ≡ true → (a b : ℕ) → IsEdge (rows_of graph.now) a b → slice_index ranks.now b ≤ slice_index ranks.now a }
+    ensures { IfOk result (λ first. IsNext (IsOnCycle (rows_of graph.now) n) found fault first) }
+{
+    if is_kept(found, fault) {
+        return Ok(found);
+    }
+    let cycle = is_circular(alloc, graph, ranks, falling, n)?;
+    if cycle {
+        return Ok(earlier(found, fault));
+    }
+    Ok(found)
+}
+
+fn first_of_graph(
+    alloc: Global,
+    definitions: &[SimpleType<'_>],
+    graph: &[Vec<usize>],
+) -> Result<Option<LinkingFault>, Memory>
+    requires { rows_of graph.now ≡ edges (definitions_of definitions.now) }
+    ensures { IfOk result (λ found. IsFirstSuch (IsCircularOf (definitions_of definitions.now)) found) }
+{
+    let ranks = ranks_of(alloc, graph)?;
+    let falling = is_falling(graph, &ranks);
+    let mut found = None;
+    'numbers: for n in 0..definitions.len() {
+        let definition = definitions[n];
+        let fault = LinkingFault {
+            place: definition.place,
+            why: LinkWhy::CircularType,
+        };
+        found = next_found(alloc, graph, &ranks, falling, n, fault, found)?;
+    }
+    Ok(found)
+}
+
+/// The first simple type that is made of itself. The time grows with the number of parts of simple types, and as
+/// n log n with that of names and places, where each list of a document stands in the order written; one search more is
+/// made each time that a type on a cycle stands before all found so far.
+pub fn first_circular(alloc: Global, docs: &[RawDoc]) -> Result<Option<LinkingFault>, Memory>
+    ensures { IfOk result (λ found. IsFirstSuch (IsCircular (map doc_of docs.now)) found) }
+{
+    let definitions = simple_types(alloc, docs)?;
+    let graph = graph_of(alloc, &definitions)?;
+    first_of_graph(alloc, &definitions, &graph)
+}

@@ -1,0 +1,13 @@
+use Rattle.std.proofs.Common.{map, ◌∷◌, []}
+use Rattle.schema_components.specs.Documents.{doc_of}
+use Rattle.link_schemas.specs.Passes.{Valuing, Comparing, Clearing}
+use Rattle.link_schemas.proofs.Passing.{goes_on, ends}
+use Rattle.link_schemas.proofs.linking.checked.Goals as goal
+
+pub returns-in-Ok : goal.returns-in-Ok
+returns-in-Ok c =
+    goes_on (map doc_of c.args.docs.now) Valuing (Comparing ∷ Clearing ∷ []) tt c.check_content.result c.in-Ok.ensures c.check_content.ensures
+
+pub returns-in-Err : goal.returns-in-Err
+returns-in-Err c =
+    ends (map doc_of c.args.docs.now) Valuing (Comparing ∷ Clearing ∷ []) c.in-Err.error c.in-Err.ensures

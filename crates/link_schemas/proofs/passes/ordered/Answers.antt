@@ -1,0 +1,10 @@
+use Rattle.std.proofs.Common.{map}
+use Rattle.schema_components.specs.Documents.{doc_of}
+use Rattle.link_schemas.specs.Passes.{Ordering}
+use Rattle.link_schemas.proofs.Passing.{alone}
+use Rattle.link_schemas.proofs.passes.ordered.Goals as goal
+
+pub returns-in-Ok : goal.returns-in-Ok
+returns-in-Ok c =
+    let docs = map doc_of c.args.docs.now in
+    alone docs Ordering c.in-Ok.found c.unless.result c.in-Ok.ensures c.unless.ensures

@@ -1,2 +1,0 @@
-mod Declaring
-mod Misfits

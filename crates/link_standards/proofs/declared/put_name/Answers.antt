@@ -1,5 +1,0 @@
-use Rattle.link_cycles.proofs.Numbering.{put_named}
-use Rattle.link_standards.proofs.declared.put_name.Goals as goal
-
-pub returns : goal.returns
-returns c = λ a. put_named c.args.table.now c.insert.new.self c.args.name c.args.n c.in_ok-insert.ensures.updates a

@@ -1,4 +1,0 @@
-pub mod Found
-pub mod Seen
-pub mod Spellings
-pub mod Standards

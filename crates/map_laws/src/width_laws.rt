@@ -1,0 +1,19 @@
+//! The laws of the widths of maps. Each is proved for all sets.
+ghost use Rattle.std.specs.Prelude.{List};
+ghost use Rattle.schema_components.specs.Components.{Set};
+ghost use Rattle.schema_components.specs.Linked.{IsLinked};
+ghost use Rattle.asn_types.specs.declared.modules.Assignment.{Assignment};
+ghost use Rattle.asn_types.specs.Modules.{IsModule};
+ghost use Rattle.asn_types.specs.Bounds.{IsBounded};
+ghost use Rattle.map_assignments.specs.Mapped.{IsMapOf};
+ghost use Rattle.map_laws.specs.Widths.{HasWidths};
+
+/// The map of a linked set is a module.
+pub fn maps_are_modules()
+    ensures { (s : Set) (M : List Assignment) → IsLinked s → IsMapOf s M → IsModule M }
+{}
+
+/// Where a set is within the widths that the code has for numbers and sizes, so is its map.
+pub fn maps_are_bounded()
+    ensures { (s : Set) (M : List Assignment) → HasWidths s → IsMapOf s M → IsBounded M }
+{}

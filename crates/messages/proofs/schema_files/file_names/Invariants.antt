@@ -1,6 +1,0 @@
-use Rattle.std.proofs.Common.{◌≡◌, ◌++◌, drop}
-use Rattle.messages.specs.Messages.{names_of}
-use Rattle.messages.proofs.schema_files.file_names.Given as goal
-
-abbrev pub invariant-files : goal.invariant-files
-invariant-files l = l.names.items ++ names_of (drop l.file-index l.files) ≡ names_of l.files

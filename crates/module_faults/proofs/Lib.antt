@@ -1,3 +1,0 @@
-pub mod PrintedBounds
-pub mod Ranking
-mod Rows

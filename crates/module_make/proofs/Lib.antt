@@ -1,7 +1,0 @@
-pub mod Making
-mod Names
-pub mod Numbered
-pub mod Readiness
-pub mod Room
-mod Standards
-mod Worded

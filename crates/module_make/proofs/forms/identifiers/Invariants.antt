@@ -1,6 +1,0 @@
-use Rattle.std.proofs.Common.{◌≡◌, ◌++◌, drop}
-use Rattle.module_faults.specs.Meaning.{names_of}
-use Rattle.module_make.proofs.forms.identifiers.Given as goal
-
-abbrev pub invariant-items : goal.invariant-items
-invariant-items l = l.names.items ++ names_of (drop l.item-index l.items) ≡ names_of l.items

@@ -1,8 +1,0 @@
-use Rattle.std.proofs.Common.{sym, subst}
-use Rattle.module_make.specs.Ready.{IsTypeMarkReady}
-use Rattle.module_make.proofs.marks.type_mark.Goals as goal
-
-pub text_mark-requires : goal.text_mark-requires
-text_mark-requires c =
-    let is = subst (IsTypeMarkReady c.args.spot c.args.form.now c.args.least) c.in-Text.is c.requires.mark in
-    record { room = c.requires.room; utf8 = is.0; number = is.1 }

@@ -1,4 +1,0 @@
-mod Free
-mod Copied
-mod Valued
-mod Plainly

@@ -1,0 +1,39 @@
+-- Faults, how lists of them are made, and which of them is the first.
+use Rattle.std.specs.Prelude.{◌≡◌, ℕ, ◌<◌, ◌≤◌, ◌⊎◌, Bool, Option, Some, None, List, [], ◌∷◌, All, if◌then◌else◌}
+use Rattle.module_text.specs.declared.reasons.ModuleWhy.{ModuleWhy}
+use Rattle.module_text.specs.declared.reasons.ModuleWhy.TheVariants as why
+use Rattle.module_text.specs.declared.reasons.Fault.{Fault}
+
+abbrev pub fault : ℕ → ModuleWhy → Fault
+fault at reason = record { at = at; why = reason }
+
+-- a fault here, for this reason, unless it is so
+abbrev pub unless : Bool → ℕ → ModuleWhy → List Fault
+unless b at reason = if b then [] else fault at reason ∷ []
+
+unfoldable pub first : List Fault → Option Fault
+first [] = None
+first (f ∷ fs) = Some f
+
+-- one of them is so
+abbrev pub SomeFault : (Fault → Type 0) → List Fault → Type 0
+SomeFault P [] = ⊥
+SomeFault P (f ∷ fs) = P f ⊎ SomeFault P fs
+
+-- ---- the first fault: that of the least place, and of those there the first in the order of the reasons
+
+abbrev pub order : ModuleWhy → ℕ
+order why.NotUtf8 = 0
+order why.Syntax = 1
+order why.TooDeep = 2
+order why.Duplicate = 3
+order why.Unresolved = 4
+order why.LongChain = 5
+order why.Spelling = 6
+
+abbrev pub Comes : Fault → Fault → Type 0
+Comes f g = (f.at < g.at) ⊎ ((f.at ≡ g.at) × (order f.why ≤ order g.why))
+
+pub record IsLeast (faults : List Fault) (f : Fault) : Type 0 where
+  pub one : SomeFault (λ g. g ≡ f) faults
+  pub least : All (Comes f) faults

@@ -1,0 +1,6 @@
+mod Wholes
+mod Ends
+mod Feeds
+mod Gathered
+mod Parts
+mod Ways

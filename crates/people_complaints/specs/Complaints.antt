@@ -1,0 +1,69 @@
+-- What is told of an outcome.
+use Rattle.std.specs.Prelude.{◌≡◌, ◌⊎◌, ◌≤◌, ℕ, List, [], ◌++◌, length, codes, decimal, Option, Some, None, MatchOption}
+use Rattle.base_trees.specs.Rose.{Rose}
+use Rattle.xml_items.specs.declared.label.ItemLabel.{ItemLabel}
+use Rattle.xml_read.specs.Documents.{DocOf}
+use Rattle.transcode_words.specs.declared.outcome.Outcome.{Outcome}
+use Rattle.transcode_words.specs.declared.outcome.Outcome.TheVariants.{Done, Usage, SchemaSyntax, SchemaFault, LinkFault, UnknownRoot, DocSyntax, Invalid, PerFault, RecordFault, DerFault, ModuleFault, Trailing, TooLong, TooManyNodes, LoadFault, ReadFault, WriteFault, OutOfMemory}
+use Rattle.transcode_words.specs.Lines as lines
+use Rattle.people_complaints.specs.Paths.{IsPath}
+use Rattle.people_complaints.specs.Telling.{IsPlaced, explained}
+
+-- The name of a reason is that of the fixed program's line, where a facet's reason has a word before it, or else of the outcome.
+abbrev pub IsNamed : Outcome → List ℕ → Type 0
+IsNamed (SchemaSyntax k at why) name = name ≡ lines.reason_name why
+IsNamed (SchemaFault k at why) name = name ≡ lines.schema_reason why
+IsNamed (LinkFault k at why) name = (lines.link_reason why ≡ name) ⊎ (lines.link_reason why ≡ codes "Facet " ++ name)
+IsNamed (DocSyntax at why) name = name ≡ lines.reason_name why
+IsNamed (Invalid at why) name = name ≡ lines.invalid_reason why
+IsNamed (PerFault bit why) name = name ≡ lines.per_reason why
+IsNamed (RecordFault number bit why) name = name ≡ lines.per_reason why
+IsNamed (DerFault at why) name = name ≡ lines.der_reason why
+IsNamed (ModuleFault at why) name = name ≡ lines.module_reason why
+IsNamed Done name = name ≡ codes "Done"
+IsNamed Usage name = name ≡ codes "Usage"
+IsNamed UnknownRoot name = name ≡ codes "UnknownRoot"
+IsNamed (Trailing at) name = name ≡ codes "Trailing"
+IsNamed (TooLong k) name = name ≡ codes "TooLong"
+IsNamed (TooManyNodes count) name = name ≡ codes "TooManyNodes"
+IsNamed (LoadFault k) name = name ≡ codes "LoadFault"
+IsNamed ReadFault name = name ≡ codes "ReadFault"
+IsNamed WriteFault name = name ≡ codes "WriteFault"
+IsNamed OutOfMemory name = name ≡ codes "OutOfMemory"
+
+-- the byte of a text at which an outcome stands
+abbrev pub byte_of : Outcome → Option ℕ
+byte_of (SchemaSyntax k at why) = Some at
+byte_of (SchemaFault k at why) = Some at
+byte_of (LinkFault k at why) = Some at
+byte_of (DocSyntax at why) = Some at
+byte_of (Invalid at why) = Some at
+byte_of (ModuleFault at why) = Some at
+byte_of _ = None
+
+-- the reason, its meaning and its remedy are told at this byte
+abbrev pub IsTold : Outcome → List ℕ → List ℕ → List ℕ → ℕ → List ℕ → Type 0
+IsTold o name contents within at told =
+    (reason means remedy : List ℕ) × IsNamed o reason × IsPlaced name contents at within reason means remedy told
+
+-- they are told of a whole
+abbrev pub IsToldWhole : Outcome → List ℕ → List ℕ → Type 0
+IsToldWhole o name told = (reason means remedy : List ℕ) × IsNamed o reason × (told ≡ name ++ explained reason means remedy [] [])
+
+-- The complaint of an outcome about the text of this name with these contents: one at a byte of them tells its line and its column, one at a
+-- bit, also of a record, or an octet tells this, and the others are of the whole.
+abbrev pub IsComplaint : Outcome → List ℕ → List ℕ → List ℕ → List ℕ → Type 0
+IsComplaint (PerFault bit why) name contents within told =
+    (means remedy : List ℕ) × (told ≡ name ++ codes ": bit " ++ decimal bit ++ explained (lines.per_reason why) means remedy [] [])
+IsComplaint (RecordFault number bit why) name contents within told =
+    (means remedy : List ℕ)
+    × (told ≡ name ++ codes ": record " ++ decimal number ++ codes ", bit " ++ decimal bit ++ explained (lines.per_reason why) means remedy [] [])
+IsComplaint (DerFault at why) name contents within told =
+    (means remedy : List ℕ) × (told ≡ name ++ codes ": octet " ++ decimal at ++ explained (lines.der_reason why) means remedy [] [])
+IsComplaint (Trailing at) name contents within told =
+    (means remedy : List ℕ) × (told ≡ name ++ codes ": octet " ++ decimal at ++ explained (codes "Trailing") means remedy [] [])
+IsComplaint o name contents within told = MatchOption (byte_of o) (IsToldWhole o name told) (λ at. at ≤ length contents → IsTold o name contents within at told)
+
+-- nothing, or the path to the innermost element that stands round the byte of the document in the text
+abbrev pub IsPathIn : List ℕ → ℕ → List ℕ → Type 0
+IsPathIn text at path = (path ≡ []) ⊎ ((items : Rose ItemLabel) × DocOf text items × IsPath at items path)

@@ -1,0 +1,5 @@
+pub mod Complaints
+pub mod Lines
+pub mod Excerpts
+pub mod Telling
+pub mod Paths

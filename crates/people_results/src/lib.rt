@@ -1,0 +1,11 @@
+//! Computes the result of a command as a value, with the schemas' stamp before its octets.
+//!
+//! Read first: `specs/Results`, then `stamped` and `behind_stamp` in `src/results.rt`.
+#![tactic(auto)]
+
+mod answering;
+mod results;
+mod stamps;
+
+pub use results::{Fault, behind_stamp, due_of, module_of, stamp_of_files, stamped};
+pub use stamps::{LENGTH, stamp_line, stamp_of};

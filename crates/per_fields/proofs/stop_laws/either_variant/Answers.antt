@@ -1,0 +1,6 @@
+-- By recursion on the levels of nodes.
+use Rattle.per_fields.proofs.StopLaw.{stops_as_read, one_of_two}
+use Rattle.per_fields.proofs.stop_laws.either_variant.Goals as goal
+
+pub returns : goal.returns
+returns c = record { as_read = stops_as_read; one_of_two = one_of_two }

@@ -1,0 +1,16 @@
+//! The law of the first stop, as a relation. It is proved for all modules and octets.
+ghost use Rattle.std.specs.Prelude.{Bool};
+ghost use Rattle.per_fields.specs.StopLaws.{StopsAsRead, OneOfTwo, StopsAsReadBy, OneOfTwoBy};
+
+/// Octets stop where a field or a node is the first that has a fault, everything before it being the bits of values: this is
+/// the stop that reading gives. So octets begin with the complete encoding of one value, or they have one such fault.
+pub fn stops_first()
+    ensures as_read { StopsAsRead }
+    ensures one_of_two { OneOfTwo }
+{}
+
+/// The same of either variant.
+pub fn either_variant()
+    ensures as_read { (aligned : Bool) → StopsAsReadBy aligned }
+    ensures one_of_two { (aligned : Bool) → OneOfTwoBy aligned }
+{}

@@ -1,6 +1,0 @@
--- By recursion on the levels of nodes.
-use Rattle.per_stops.proofs.Law.{stops_as_read, one_of_two}
-use Rattle.per_stops.proofs.laws.either_variant.Goals as goal
-
-pub returns : goal.returns
-returns c = record { as_read = stops_as_read; one_of_two = one_of_two }

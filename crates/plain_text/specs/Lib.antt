@@ -1,6 +1,0 @@
-pub mod Reading
-pub mod Shapes
-pub mod Laws
-pub mod Verdicts
-pub mod Reached
-pub mod Nested

@@ -1,0 +1,9 @@
+//! What holds of schema documents.
+ghost use Rattle.schema_components.specs.declared.documents.RawDoc.{RawDoc};
+ghost use Rattle.schema_components.specs.Documents.{doc_of};
+ghost use Rattle.schema_components.specs.TypedUses.{AreTyped};
+
+/// In each document an attribute use is a reference just where it has no type of its own.
+pub fn uses_are_typed()
+    ensures { (d : RawDoc) → AreTyped (doc_of d) }
+{}

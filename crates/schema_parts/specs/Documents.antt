@@ -1,7 +1,0 @@
--- What a document tells.
-use Rattle.schema_parts.specs.Raw.{Document}
-use Rattle.schema_parts.specs.declared.documents.RawDoc.{RawDoc}
-pub use Rattle.schema_parts.specs.Parts.{parts_of}
-
-abbrev pub doc_of : RawDoc → Document
-doc_of d = parts_of d.file d.target d.elements.items d.attributes.items d.types.items d.locals.items d.counted.items

@@ -1,7 +1,0 @@
-use Rattle.std.proofs.Common.{◌≡◌, drop}
-use Rattle.xa_base.specs.Entries.{beside}
-use Rattle.schema_rules.proofs.attributes.value_of.Given as goal
-
--- it is among those that are left
-abbrev pub invariant-loop-written : goal.invariant-loop-written
-invariant-loop-written l = beside l.name (drop l.written-index l.own) ≡ beside l.name l.own

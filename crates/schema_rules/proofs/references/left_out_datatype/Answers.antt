@@ -1,7 +1,0 @@
-use Rattle.std.proofs.Common.{rules}
-use Rattle.schema_rules.specs.References.{left_out_datatypes}
-use Rattle.schema_rules.proofs.Tables.{none_beside}
-use Rattle.schema_rules.proofs.references.left_out_datatype.Goals as goal
-
-pub returns-in_default : goal.returns-in_default
-returns-in_default c = none_beside c.args.name.now left_out_datatypes (search rules)

@@ -1,7 +1,0 @@
-use Rattle.std.proofs.Common.{rules}
-use Rattle.schema_rules.specs.Elements.{schema_children}
-use Rattle.schema_rules.proofs.Tables.{none_beside}
-use Rattle.schema_rules.proofs.roles.child_of_schema.Goals as goal
-
-pub returns-in_default : goal.returns-in_default
-returns-in_default c = none_beside c.args.name.now schema_children (search rules)

@@ -1,0 +1,19 @@
+-- How the code answers.
+use Rattle.std.specs.Prelude.{ℕ, Result, Ok, Err, List}
+use Rattle.std.specs.Option.{IfSome}
+use Rattle.simple_types.specs.declared.simples.Simple.{Simple}
+use Rattle.simple_types.specs.Space.{Space}
+use Rattle.simple_types.specs.Seen.{space_of}
+use Rattle.simple_facets.specs.declared.refusals.FacetWhy.{FacetWhy}
+use Rattle.simple_facets.specs.declared.refusals.FacetError.{FacetError}
+use Rattle.simple_facets.specs.Refusals.{why_of}
+
+-- with what is due, or for want of memory
+abbrev pub AnswersFacets : {A : Type 0} → Result A FacetError → (Result A FacetWhy → Type 0) → Type 0
+AnswersFacets (Ok value) Due = Due (Ok value)
+AnswersFacets (Err error) Due = IfSome (why_of error) (λ w. Due (Err w))
+
+-- with a type of the space that is due
+abbrev pub AnswersSpace : Result Simple FacetError → (Result Space FacetWhy → Type 0) → Type 0
+AnswersSpace (Ok simple) Due = Due (Ok (space_of simple))
+AnswersSpace (Err error) Due = IfSome (why_of error) (λ w. Due (Err w))

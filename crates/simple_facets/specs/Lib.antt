@@ -1,0 +1,14 @@
+pub use Rattle.simple_types.specs.Builtins
+pub use Rattle.simple_types.specs.Joining
+pub use Rattle.simple_types.specs.Labels
+pub use Rattle.simple_types.specs.Seen
+pub use Rattle.simple_types.specs.Sound
+pub use Rattle.simple_types.specs.Space
+pub use Rattle.simple_types.specs.Lexical
+pub use Rattle.simple_types.specs.Reading
+pub mod Answering
+pub mod Applying
+pub mod Making
+pub mod Refusals
+pub mod Restricting
+pub mod Private

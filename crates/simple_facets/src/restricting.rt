@@ -1,0 +1,31 @@
+//! Restricting a type by facets.
+ghost use Rattle.std.specs.Prelude.{◌<◌, ◌^◌, IfOk, length};
+ghost use Rattle.simple_types.specs.Seen.{space_of};
+ghost use Rattle.simple_types.specs.Sound.{Sound};
+ghost use Rattle.simple_facets.specs.Answering.{AnswersSpace};
+ghost use Rattle.simple_facets.specs.Restricting.{Restricted, items_of};
+
+use crate::constraints::Constraints;
+use crate::enumerating::enumerated;
+use crate::narrowing::{is_empty, narrowed};
+use crate::refusals::FacetError;
+use simple_types::{Facet, Simple};
+use std::alloc::Global;
+
+/// The type of the base's values that meet the facets. First come the facets but `enumeration`, in their order; then
+/// whether bounds or lengths cross or no number and no word is left; then the enumerations, in their order, each of which
+/// must name a value of what is left. Where there are some, their values are the space, ascending, each once. The first
+/// reason against the facets is answered, or `Memory`. `length` may stand beside `minLength` and `maxLength`.
+pub fn restrict(alloc: Global, base: &Simple, facets: &[Facet]) -> Result<Simple, FacetError>
+    requires sound { Sound (space_of base.now) }
+    requires few { length (items_of facets.now) < 2 ^ 32 }
+    ensures made { AnswersSpace result (Restricted (space_of base.now) facets.now) }
+    ensures sound { IfOk result (λ simple. Sound (space_of simple)) }
+{
+    let asked = Constraints::of(base, facets)?;
+    let now = narrowed(alloc, base, asked)?;
+    if is_empty(&now) {
+        return Err(FacetError::EmptySpace);
+    }
+    enumerated(alloc, now, facets)
+}

@@ -1,0 +1,20 @@
+-- How the code answers.
+use Rattle.std.specs.Prelude.{◌≡◌, Result, Ok, Err}
+use Rattle.simple_types.specs.declared.reading.SimpleError.{SimpleError}
+use Rattle.simple_types.specs.declared.reading.SimpleError.TheVariants as error
+use Rattle.simple_types.specs.declared.labels.ValueLabel.{ValueLabel}
+use Rattle.simple_types.specs.Reading.{Refusal, Wide, Bad, Reading, leaf}
+
+-- with what is due, or for want of memory
+abbrev pub AnswersReading : {A : Type 0} → Result A SimpleError → Result A Refusal → Type 0
+AnswersReading (Ok value) due = due ≡ Ok value
+AnswersReading (Err error.BadText) due = due ≡ Err Bad
+AnswersReading (Err error.TooWide) due = due ≡ Err Wide
+AnswersReading (Err error.Memory) due = Unit {0}
+
+-- the same, with the label of a value that has no parts
+abbrev pub AnswersLeaf : Result ValueLabel SimpleError → Reading → Type 0
+AnswersLeaf (Ok label) due = due ≡ Ok (leaf label)
+AnswersLeaf (Err error.BadText) due = due ≡ Err Bad
+AnswersLeaf (Err error.TooWide) due = due ≡ Err Wide
+AnswersLeaf (Err error.Memory) due = Unit {0}

@@ -1,7 +1,0 @@
-use Rattle.std.proofs.Common.{take}
-use Rattle.std.specs.List.{All}
-use Rattle.simple_values.proofs.PlainTexts.{IsPlain}
-use Rattle.simple_values.proofs.classes.are_plain.Given as goal
-
-abbrev pub invariant-loop-b : goal.invariant-loop-b
-invariant-loop-b l = All IsPlain (take l.b-index l.bytes)

@@ -1,5 +1,0 @@
-use Rattle.std.proofs.Common.{◌≡◌, take}
-use Rattle.simple_values.proofs.holding.same_flags.Given as goal
-
-abbrev pub invariant-flags : goal.invariant-flags
-invariant-flags l = take l.i l.a ≡ take l.i l.b

@@ -1,6 +1,0 @@
--- The law is proved by induction over types.
-use Rattle.simple_values.proofs.OwnSpellings.{holds_again}
-use Rattle.simple_values.proofs.laws.accepted_holds.Goals as goal
-
-pub returns : goal.returns
-returns c = holds_again

@@ -1,6 +1,0 @@
-pub mod Answering
-pub mod Chains
-pub mod Lexical
-pub mod Reading
-pub mod Written
-pub mod Small

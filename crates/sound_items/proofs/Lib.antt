@@ -1,8 +1,0 @@
-pub mod Names
-pub mod Leaves
-pub mod Spelled
-pub mod Mixed
-pub mod Complexes
-pub mod Declarations
-mod Reading
-pub mod Documents

@@ -1,5 +1,0 @@
-mod Ends
-mod Feeds
-mod Gathered
-mod Parts
-mod Ways

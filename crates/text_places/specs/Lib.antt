@@ -1,4 +1,0 @@
-pub mod Lines
-pub mod Excerpts
-pub mod Telling
-pub mod Paths

@@ -1,0 +1,105 @@
+//! All that is wrong with the attributes of an element, of which each is looked up once.
+ghost use Rattle.std.specs.Prelude.{◌≡◌, ◌∷◌, ℕ, List, true, false, All, map, MatchOption, IfOk};
+ghost use Rattle.base_texts.specs.declared.texts.Name.{Name};
+ghost use Rattle.schema_components.specs.Linked.{IsUse, IsLinked};
+ghost use Rattle.schema_components.specs.SetParts.{SetParts, parts_of};
+ghost use Rattle.validity_rules.specs.Asked.{attribute_in};
+ghost use Rattle.validity_rules.specs.Attributes as rule;
+ghost use Rattle.validity_check.specs.Ascending.{Ascend};
+ghost use Rattle.validity_check.specs.Uses.{IsPlace};
+ghost use Rattle.validity_check.specs.First.{IsFirst};
+
+use crate::attributes::{fault_at, first_wrong, is_special, lacks_among, lacks_among_few};
+use crate::places::{Run, place_of};
+use crate::texts::{are_few, no_texts};
+use base_texts::{Memory, Name, Text};
+use schema_components::{AttributeUse, SchemaSet};
+use std::alloc::Global;
+use validity_rules::InvalidWhy;
+
+/// What is wrong with the attributes of an element.
+#[derive(Clone, Copy)]
+pub struct Judged {
+    /// Why the first attribute that is wrong is so, if there is one.
+    pub wrong: Option<InvalidWhy>,
+    /// Whether an attribute that is required is missing.
+    pub lacks: bool,
+}
+
+// Why the first of the attributes from this one on is wrong, if one is, where this is so of those behind it.
+fn first_from(
+    alloc: Global,
+    set: &SchemaSet,
+    uses: &[AttributeUse],
+    place: Option<usize>,
+    found: &(Name, Text),
+    behind: Option<InvalidWhy>,
+) -> Result<Option<InvalidWhy>, Memory>
+    requires linked { IsLinked set.now }
+    requires uses { All (IsUse set.now) uses.now }
+    requires ascending { Ascend uses.now }
+    requires place { IsPlace uses.now found.now.0 place }
+    ensures { IfOk result (λ first. (xs : List (Name × List ℕ)) → IsFirst (map (attribute_in (parts_of set.now)) uses.now) xs behind
+        → IsFirst (map (attribute_in (parts_of set.now)) uses.now) (found.now ∷ xs) first) }
+{
+    if is_special(&found.0) {
+        return Ok(behind);
+    }
+    match fault_at(alloc, set, uses, place, &found.0, &found.1)? {
+        Some(why) => Ok(Some(why)),
+        None => Ok(behind),
+    }
+}
+
+// The same of many attributes or uses.
+fn judge_many(
+    alloc: Global,
+    set: &SchemaSet,
+    uses: &[AttributeUse],
+    attributes: &[(Name, Text)],
+) -> Result<Judged, Memory>
+    requires linked { IsLinked set.now }
+    requires uses { All (IsUse set.now) uses.now }
+    requires ascending { Ascend uses.now }
+    ensures wrong { IfOk result (λ judged. IsFirst (map (attribute_in (parts_of set.now)) uses.now) attributes.now judged.wrong) }
+    ensures lacks { IfOk result (λ judged. judged.lacks ≡ true → (s : SetParts) → rule.OneMissing (map (attribute_in s) uses.now) attributes.now) }
+    ensures stand { IfOk result (λ judged. judged.lacks ≡ false → (s : SetParts) → rule.AllStand (map (attribute_in s) uses.now) attributes.now) }
+{
+    let mut texts = no_texts(alloc, uses.len())?;
+    let mut run = Run::none();
+    let mut wrong = None;
+    let mut left = attributes.len();
+    'attributes: while 0 < left {
+        left -= 1;
+        let found = &attributes[left];
+        let place = place_of(uses, &found.0, &mut run);
+        wrong = first_from(alloc, set, uses, place, found, wrong)?;
+        if let Some(place) = place {
+            texts[place] = Some(&found.1);
+        }
+    }
+    let lacks = lacks_among(uses, attributes, &texts);
+    Ok(Judged { wrong, lacks })
+}
+
+/// What is wrong with the attributes of an element of a type with these uses.
+pub(crate) fn judge(
+    alloc: Global,
+    set: &SchemaSet,
+    uses: &[AttributeUse],
+    attributes: &[(Name, Text)],
+) -> Result<Judged, Memory>
+    requires linked { IsLinked set.now }
+    requires uses { All (IsUse set.now) uses.now }
+    requires ascending { Ascend uses.now }
+    ensures wrong { IfOk result (λ judged. IsFirst (map (attribute_in (parts_of set.now)) uses.now) attributes.now judged.wrong) }
+    ensures lacks { IfOk result (λ judged. judged.lacks ≡ true → (s : SetParts) → rule.OneMissing (map (attribute_in s) uses.now) attributes.now) }
+    ensures stand { IfOk result (λ judged. judged.lacks ≡ false → (s : SetParts) → rule.AllStand (map (attribute_in s) uses.now) attributes.now) }
+{
+    if !are_few(uses, attributes) {
+        return judge_many(alloc, set, uses, attributes);
+    }
+    let wrong = first_wrong(alloc, set, uses, attributes)?;
+    let lacks = lacks_among_few(uses, attributes);
+    Ok(Judged { wrong, lacks })
+}

@@ -1,0 +1,34 @@
+pub mod Groups
+pub mod Simples
+pub mod Walking
+pub mod Attributes
+pub mod Mixed
+pub mod Complexes
+pub mod Declarations
+pub mod Own
+pub mod Spelled
+pub mod Treating
+pub mod Orders
+pub mod OwnAttributes
+pub mod OwnElements
+pub mod OwnComplexes
+pub mod ComplexItems
+pub mod Owning
+pub mod OwnDeclarations
+pub mod Encoded
+pub mod Accepted
+pub mod Texts
+pub mod Filling
+pub mod Kids
+pub mod Elements
+pub mod Existence
+mod WorkedTypes
+pub mod Worked
+pub mod Names
+pub mod Leaves
+pub mod SoundSpelled
+pub mod SoundMixed
+pub mod SoundComplexes
+pub mod SoundDeclarations
+mod Reading
+pub mod Documents

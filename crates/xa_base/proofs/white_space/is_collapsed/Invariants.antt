@@ -1,6 +1,0 @@
-use Rattle.std.proofs.Common.{◌≡◌, drop, true}
-use Rattle.xa_base.proofs.Collapsing.{well_spaced}
-use Rattle.xa_base.proofs.white_space.is_collapsed.Given as goal
-
-abbrev pub invariant-loop-b : goal.invariant-loop-b
-invariant-loop-b l = well_spaced l.is_apart (drop l.b-index l.bytes) ≡ well_spaced true l.bytes

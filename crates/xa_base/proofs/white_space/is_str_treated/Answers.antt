@@ -1,5 +1,0 @@
-use Rattle.xa_base.proofs.Replacing.{none_replaced}
-use Rattle.xa_base.proofs.white_space.is_str_treated.Goals as goal
-
-pub returns-in-Replace : goal.returns-in-Replace
-returns-in-Replace c = rw c.in-Replace.is (none_replaced _ _ _ _ c.as_bytes.ensures.value c.first_replaced.ensures c.is_none.ensures)

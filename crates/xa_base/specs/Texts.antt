@@ -1,9 +1,0 @@
--- Texts as they are kept: in place, or shared.
-use Rattle.std.specs.Prelude.{List, ℕ}
-use Rattle.std.specs.Rc.{rc_str_bytes}
-use Rattle.xa_base.specs.declared.texts.Kept.{Kept}
-use Rattle.xa_base.specs.declared.texts.Kept.TheVariants.{Here, There}
-
-abbrev pub kept_bytes : Kept → List ℕ
-kept_bytes (Here short) = short
-kept_bytes (There long) = rc_str_bytes long

@@ -1,0 +1,4 @@
+pub mod Mapped
+pub mod Growth
+pub mod Steps
+pub mod Mixing

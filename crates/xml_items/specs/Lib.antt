@@ -1,0 +1,11 @@
+pub mod Labels
+pub mod Growing
+pub mod Meaning
+pub mod Building
+pub mod Seen
+pub mod Counts
+pub mod Lying
+pub mod Plain
+pub mod Unplaced
+pub mod Mixing
+pub mod MixedLaws

@@ -1,0 +1,220 @@
+//! Nodes of items that stand elsewhere, and their kids.
+ghost use Rattle.std.specs.Prelude.{◌≡◌, ◌<◌, ◌≤◌, IfOk, IsTrue, ◌↔◌, [], Some, length, slice_get};
+ghost use Rattle.std.specs.Iterator.{YieldsFirst, item_count};
+ghost use Rattle.base_trees.specs.Rose.{label_of, kids_of, node_count};
+ghost use Rattle.xml_items.specs.Labels.{item_place};
+ghost use Rattle.xml_items.specs.Seen.{item_seen};
+
+use crate::characters::Characters;
+use crate::entries::Kept;
+use crate::label::{Attributes, Bindings, ItemLabel};
+use crate::store::Store;
+use base_flat_trees::{Kids, Node};
+use base_texts::{Memory, Name, Text};
+use std::alloc::Global;
+use std::iter::Iterator;
+use std::marker::Model;
+
+/// What stands at a node of a document, as `ItemLabel` has it.
+#[derive(Drop)]
+pub enum ItemRef<'a> {
+    Element {
+        name: &'a Name,
+        attributes: &'a [(Name, Text)],
+        declares: &'a [(Text, Text)],
+        at: u64,
+    },
+    Text {
+        text: Characters<'a>,
+        at: u64,
+    },
+}
+
+impl<'a> ItemRef<'a> {
+    /// The byte of the document at which the element or the text begins, from 0.
+    #[inline(always)]
+    pub fn place(&self) -> u64
+        ensures { result ≡ item_place (item_seen self.now) }
+    {
+        match self {
+            ItemRef::Element { at, .. } | ItemRef::Text { at, .. } => *at,
+        }
+    }
+
+    /// The label itself.
+    pub fn to_label(self, alloc: Global) -> Result<ItemLabel, Memory>
+        ensures { IfOk result (λ label. label ≡ item_seen self.entry) }
+    {
+        match self {
+            ItemRef::Element {
+                name,
+                attributes,
+                declares,
+                at,
+            } => {
+                let name = name.copy(alloc)?;
+                let attributes = Attributes::copy_of(alloc, attributes)?;
+                let declares = Bindings::copy_of(alloc, declares)?;
+                Ok(ItemLabel::Element {
+                    name,
+                    attributes,
+                    declares,
+                    at,
+                })
+            }
+            ItemRef::Text { text, at } => {
+                let text = text.to_text(alloc)?;
+                Ok(ItemLabel::Text { text, at })
+            }
+        }
+    }
+}
+
+/// A node of a document, seen as the tree below it.
+#[derive(Drop)]
+pub struct ItemNode<'a> {
+    pub(crate) node: Node<'a, Kept>,
+    pub(crate) store: &'a Store,
+}
+
+impl<'a> Model for ItemNode<'a> {
+    ghost use Rattle.base_trees.specs.Rose.{Rose, coded_rose};
+    ghost use Rattle.xml_items.specs.declared.label.ItemLabel.{ItemLabel};
+    ghost use Rattle.xml_items.specs.contracts.label.ItemLabel as item_label;
+
+    ghost Value = { Rose ItemLabel };
+
+    ghost coded = { coded_rose item_label.the_row.coded };
+
+    ghost use Rattle.xml_items.specs.Meaning.{map_rose, meaning, FitTree};
+
+    ghost view = { λ a. map_rose (meaning a.store.now) a.node };
+
+    ghost invariant = { λ a. FitTree a.store.now a.node };
+}
+
+/// Nodes of a document side by side, of which the first comes next.
+#[derive(Drop)]
+pub struct ItemKids<'a> {
+    kids: Kids<'a, Kept>,
+    store: &'a Store,
+}
+
+impl<'a> Model for ItemKids<'a> {
+    ghost use Rattle.std.specs.Prelude.{List, map};
+    ghost use Rattle.std.specs.Coded.{coded_list};
+    ghost use Rattle.base_trees.specs.Rose.{Rose, coded_rose};
+    ghost use Rattle.xml_items.specs.declared.label.ItemLabel.{ItemLabel};
+    ghost use Rattle.xml_items.specs.contracts.label.ItemLabel as item_label;
+
+    ghost Value = { List (Rose ItemLabel) };
+
+    ghost coded = { coded_list (coded_rose item_label.the_row.coded) };
+
+    ghost use Rattle.xml_items.specs.Meaning.{map_rose, meaning, FitAll};
+
+    ghost view = { λ a. map (map_rose (meaning a.store.now)) a.kids };
+
+    ghost invariant = { λ a. FitAll a.store.now a.kids };
+}
+
+impl<'a> ItemNode<'a> {
+    /// The label of the node.
+    #[inline(always)]
+    pub fn label(&self) -> ItemRef<'a>
+        ensures { item_seen result ≡ label_of self.now }
+    {
+        let kept = self.node.label();
+        self.store.item(*kept)
+    }
+
+    /// The kids of the node.
+    #[inline(always)]
+    pub fn kids(&self) -> ItemKids<'a>
+        ensures { result ≡ kids_of self.now }
+    {
+        let kids = self.node.kids();
+        ItemKids {
+            kids,
+            store: self.store,
+        }
+    }
+
+    /// The same node again.
+    #[inline(always)]
+    pub fn again(&self) -> ItemNode<'a>
+        ensures { result ≡ self.now }
+    {
+        ItemNode {
+            node: self.node.again(),
+            store: self.store,
+        }
+    }
+
+    /// About how many elements a document has whose root this is, at once: enough to reserve memory by. Each node but a text
+    /// is one.
+    pub fn element_hint(&self) -> usize
+        ensures { result ≤ node_count self.now }
+    {
+        (self.node.count() as usize).saturating_sub(self.store.text_count())
+    }
+
+    /// The kid of the node with this number, for which it visits those before it. The first has the number 0.
+    pub fn kid(&self, i: usize) -> ItemNode<'a>
+        requires { i < length (kids_of self.now) }
+        ensures { slice_get (kids_of self.now) i ≡ Some result }
+    {
+        let node = self.node.kid(i);
+        ItemNode {
+            node,
+            store: self.store,
+        }
+    }
+}
+
+impl<'a> ItemKids<'a> {
+    /// The same nodes again.
+    #[inline(always)]
+    pub fn again(&self) -> ItemKids<'a>
+        ensures { result ≡ self.now }
+    {
+        ItemKids {
+            kids: self.kids.again(),
+            store: self.store,
+        }
+    }
+
+    /// The number of nodes, each of which it visits.
+    pub fn len(&self) -> usize
+        ensures { result ≡ length self.now }
+    {
+        self.kids.len()
+    }
+
+    /// Whether no node is left.
+    #[inline(always)]
+    pub fn is_empty(&self) -> bool
+        ensures { IsTrue result ↔ (self.now ≡ []) }
+    {
+        self.kids.is_empty()
+    }
+}
+
+impl<'a> Iterator for ItemKids<'a> {
+    type Item = ItemNode<'a>;
+
+    ghost next_gives = { YieldsFirst (λ kids. kids) };
+
+    ghost remaining = { item_count (λ kids. kids) };
+
+    #[inline(always)]
+    fn next(&mut self) -> Option<ItemNode<'a>> {
+        match self.kids.next() {
+            None => None,
+            Some(node) => Some(ItemNode {
+                node,
+                store: self.store,
+            }),
+        }
+    }
+}

@@ -1,0 +1,6 @@
+use Rattle.std.proofs.Common.{arith}
+use Rattle.xml_read.proofs.Utf8.{named_at}
+use Rattle.xml_read.proofs.tags.read_attributes.Goals as goal
+
+pub from_utf8-requires : goal.from_utf8-requires
+from_utf8-requires c = rw c.value_of.ensures (named_at c.each.rest.now 0 c.attribute-item.result c.each.invariant.named (omega (arith, c.in-len1-up.len_at_least)) c.attribute-item.is).1
