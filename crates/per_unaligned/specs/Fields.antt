@@ -25,10 +25,11 @@ abbrev pub Fragment : Type 0
 Fragment = (ws : List Writer) (p : ℕ) → unit ≤ length ws → let n = units_of (length ws) in
     counted_bits false ws p ≡ then_bits (bits 8 (192 + n)) (λ q. then_bits (in_turn (take (n * unit) ws) q) (counted_bits false (drop (n * unit) ws)) q) p
 
--- the items of SIZE (least..most): where the greatest is below 65,536, the count as a number of the bounds (clause 20.5),
+-- The items of SIZE (least..most). Where the greatest is below 65,536, the count is a number within the bounds (clause 20.6 with
+-- 11.9.4.1),
 abbrev pub SizedBits : Type 0
 SizedBits = (least most : ℕ) (ws : List Writer) (p : ℕ) → most < 65536 → list_bits false least (Some most) ws p ≡ then_bits (bits (width_of (most - least)) (length ws - least)) (in_turn ws) p
 
--- else as its general length (clause 20.6)
+-- otherwise it is a general length (clause 20.6 with 11.9.4.2).
 abbrev pub ListBits : Type 0
 ListBits = (least : ℕ) (ws : List Writer) (p : ℕ) → (list_bits false least None ws p ≡ counted_bits false ws p) × ((most : ℕ) → 65536 ≤ most → list_bits false least (Some most) ws p ≡ counted_bits false ws p)
