@@ -108,7 +108,7 @@ impl BitSink {
         Ok(())
     }
 
-    // The same for any bits, and room for them is made.
+    // Appends the `n` low bits of the number and reserves room for them.
     #[inline(never)]
     fn put_many(&mut self, number: u64, n: u32) -> Result<(), Memory>
         requires { n ≤ 64 }
@@ -156,7 +156,7 @@ impl BitSink {
         self.put_across(octets)
     }
 
-    // The same, behind a part.
+    // Appends the octets after an octet that is not full.
     #[inline(never)]
     fn put_across(&mut self, octets: &[u8]) -> Result<(), Memory>
         ensures ok { OnOk result (self.new ≡ self.old ++ octet_bits octets.now) }

@@ -93,7 +93,7 @@ impl<'a, S: Source> BitSource<'a, S> {
         Ok((all >> left) as u64)
     }
 
-    // The same of a few bits, where so many of the last octet are not taken yet.
+    // Takes at most 8 bits. `unread` is the number of bits of the last octet that are not taken yet.
     #[inline(always)]
     fn take_few(&mut self, n: u32, unread: u32) -> Result<u64, CursorError>
         requires few { n ≤ 8 }

@@ -16,7 +16,7 @@ pub(crate) fn gather(held: u8, unread: u32, buf: &[u8]) -> u128
     all
 }
 
-/// The same with one octet.
+/// The number whose bits are those of `held` and of one octet.
 #[inline(always)]
 pub(crate) fn gather_octet(held: u8, unread: u32, octet: u8) -> u32
     requires part { unread ≤ 7 }

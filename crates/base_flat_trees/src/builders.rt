@@ -49,7 +49,7 @@ impl<L> Builder<L> {
         }
     }
 
-    /// The same, with room for so many nodes.
+    /// Returns an empty builder with room for `count` nodes.
     pub fn with_capacity(alloc: Global, count: usize) -> Result<Builder<L>, AllocError>
         ensures { IfOk result (λ builder. builder ≡ nothing) }
     {

@@ -67,7 +67,7 @@ impl<'a, L> Node<'a, L> {
         Kids { left: self.below }
     }
 
-    /// The same node again.
+    /// Returns another handle to this node.
     pub fn again(&self) -> Node<'a, L>
         ensures { result ≡ self.now }
     {
@@ -110,7 +110,7 @@ impl<'a, L> Node<'a, L> {
 }
 
 impl<'a, L> Kids<'a, L> {
-    /// The same trees again.
+    /// Returns another handle to these trees.
     pub fn again(&self) -> Kids<'a, L>
         ensures { result ≡ self.now }
     {

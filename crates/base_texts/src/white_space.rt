@@ -145,7 +145,7 @@ pub fn is_treated(how: WhiteSpace, text: &Text) -> bool
     is_str_treated(how, text.as_str())
 }
 
-/// The same of a text as the language has it.
+/// Returns whether a `str` is as `how` leaves it.
 #[tactic(auto, unfolding(crate::specs::WhiteSpace::treated))]
 pub fn is_str_treated(how: WhiteSpace, text: &str) -> bool
     ensures { IsTrue result ↔ IsTreated how text.now }

@@ -1,4 +1,4 @@
--- The same texts, with values of another form, which may have the place of the text in them.
+-- Texts of a reader whose values are mapped to another form, which may contain the place of the text.
 use Rattle.std.proofs.Common.{◌≡◌, ℕ, ◌<◌, ◌≤◌, List, ◌++◌, length, drop, refl, sym, ap, ◌∙◌, subst, Option, Some}
 use Rattle.module_grammar.specs.Reading.{Answer, Found, Fails, Deep, Reader, far, answer_map, as_at}
 use Rattle.module_grammar.specs.Shapes.{Sunk}

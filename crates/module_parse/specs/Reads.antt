@@ -91,7 +91,7 @@ abbrev pub Moves : {A : Type 0} → ℕ → Reach → Result (A × Reach) Stop �
 Moves n from (Ok x) = (from.at < x.1.at) × (x.1.at ≤ n)
 Moves n from (Err e) = ⊤
 
--- The same place again, where nothing was read there.
+-- Reading goes on at the place from which nothing could be read.
 pub record IsAgain (from : Reach) (e : Stop) (to : Reach) : Type 0 where
   pub failed : e ≡ stop.Fails to.far
   pub same : to ≡ reach from.at to.far

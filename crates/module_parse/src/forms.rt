@@ -102,7 +102,7 @@ fn simple_form(
     }
 }
 
-// The same on the heap. Types are read inside one another, and what this takes of the stack is to be taken once.
+// Reads the form into a box. Types nest, so each level is to take little of the stack.
 #[inline(never)]
 fn boxed_form(
     alloc: Global,

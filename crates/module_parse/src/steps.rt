@@ -72,7 +72,7 @@ pub fn byte(class: ByteClass, bytes: &[u8], from: Reach) -> Result<Reach, Stop>
     })
 }
 
-/// The same place again, where nothing was read there; else the stop itself.
+/// Returns to the place `from` if nothing could be read there; otherwise returns the stop itself.
 pub fn again(from: Reach, stop: Stop) -> Result<Reach, Stop>
     ensures { MatchResult result (λ next. IsAgain from stop next) (λ other. (other ≡ stop) × IsFinal other) }
 {

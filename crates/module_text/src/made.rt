@@ -100,7 +100,7 @@ pub enum BoxedForm {
 }
 
 impl BoxedForm {
-    /// The same without boxes.
+    /// Returns the form without boxes.
     pub fn plain(self) -> PlainForm
         ensures { result ≡ formed self }
     {

@@ -9,7 +9,7 @@ pub fn stops_first()
     ensures one_of_two { OneOfTwo }
 {}
 
-/// The same of either variant.
+/// The law of the first stop, for the aligned and the unaligned variant.
 pub fn either_variant()
     ensures as_read { (aligned : Bool) → StopsAsReadBy aligned }
     ensures one_of_two { (aligned : Bool) → OneOfTwoBy aligned }

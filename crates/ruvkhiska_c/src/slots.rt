@@ -17,7 +17,7 @@ pub struct Converter {
     ghost tied: { IsTrue is_open ↔ IsSome kept.value },
 }
 
-/// The same of the files that are added.
+/// In C `struct { bool is_open; void *at; }`, zeros at first: the schema files that were added.
 #[repr(C)]
 #[derive(Drop)]
 pub struct Files {

@@ -21,7 +21,7 @@ pub enum ChildSet {
     Derivations,
     /// What a group is made of.
     Particles,
-    /// The same without those that are left out.
+    /// The particles of the profile: those above without the ones that it leaves out.
     TakenParticles,
     /// `attribute`.
     Attributes,

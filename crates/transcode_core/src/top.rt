@@ -68,7 +68,7 @@ fn show<F: Library>(alloc: Global, files: &mut F, names: &[Text]) -> Result<Vec<
     }
 }
 
-// The same of a task that wants the map of the set.
+// Serves a task that needs the map of the set.
 fn serve_prepared<S: Source, L: Ledger>(
     alloc: Global,
     task: Task,

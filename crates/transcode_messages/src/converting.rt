@@ -35,7 +35,7 @@ fn check_counted<L: Ledger>(
     prepared.check(alloc, document, &mut steps)
 }
 
-// The same.
+// Encodes a document, and counts the steps.
 fn encode_counted<L: Ledger>(
     alloc: Global,
     prepared: &Prepared,

@@ -51,7 +51,7 @@ fn first_from(
     }
 }
 
-// The same of many attributes or uses.
+// Judges many attributes, or attributes against many uses, in time linear in both.
 fn judge_many(
     alloc: Global,
     set: &SchemaSet,

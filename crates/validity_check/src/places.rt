@@ -48,7 +48,7 @@ impl Run {
         }
     }
 
-    // The same uses where they have the namespace of the name, else none.
+    // Returns the run itself if its uses have the namespace of the name, else the empty run.
     fn of(self, uses: &[AttributeUse], name: &Name) -> Run
         requires { IsRun uses.now self }
         ensures { IsRunOf uses.now name.now.space result }
@@ -90,7 +90,7 @@ impl Run {
         }
     }
 
-    // The same uses, where a name was found at this place.
+    // Returns the run with this place as the last one at which a name was found.
     fn found(self, place: usize) -> Run
         ensures { (us : List AttributeUse) (space : List ℕ) → IsRunOf us space self → IsRunOf us space result }
     {

@@ -54,7 +54,7 @@ impl ValueBuilder {
         }
     }
 
-    /// The same, with room for so many nodes, but for no more than may be kept.
+    /// Returns an empty builder with room for `count` nodes, or for `most` if that is less.
     pub fn with_capacity(alloc: Global, most: u32, count: usize) -> Result<ValueBuilder, Memory>
         ensures { IfOk result (λ values. values ≡ nothing_of most) }
     {
@@ -167,7 +167,7 @@ impl ValueBuilder {
         Ok(())
     }
 
-    // The same of a text of so many bytes that stand first, which are copied where they are kept alone.
+    // Appends the value of the text that the first `len` bytes are. The bytes are copied only where they are kept.
     #[inline(always)]
     fn front(&mut self, simple: &Simple, bytes: &[u8], len: usize) -> Result<(), SimpleError>
         requires sound { Sound (space_of simple.now) }
@@ -187,7 +187,7 @@ impl ValueBuilder {
         Ok(())
     }
 
-    /// The same of characters where they lie.
+    /// Appends the value of characters, which are read in the document itself.
     #[inline(always)]
     pub fn characters(
         &mut self,

@@ -1,4 +1,4 @@
--- The same for a whole content model.
+-- What a step of the matcher writes, for a complete content model.
 use Rattle.std.proofs.Common.{◌≡◌, ℕ, inl, inr, Bool, true, false, cond, List, [], ◌∷◌, ◌++◌, Option, Some, refl, ◌∙◌, subst}
 use Rattle.base_trees.specs.Rose.{Rose}
 use Rattle.base_flat_trees.specs.Zips.{Zip, added}

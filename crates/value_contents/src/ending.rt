@@ -78,7 +78,7 @@ pub(crate) fn end_term(
     }
 }
 
-// The same among the particles of a sequence. Those behind the way stand empty.
+// Closes what is open among the particles of a sequence, and writes those after the path as empty.
 #[cycle(ending)]
 pub(crate) fn end_order(
     particles: &[Tree<ParticleLabel>],
@@ -99,7 +99,7 @@ pub(crate) fn end_order(
     }
 }
 
-// The same. Most often the leaf is the last particle itself, which is single: then nothing is put.
+// Does what `end_order` does. Most often the leaf is the last particle itself and single, and nothing is written.
 #[inline(always)]
 pub(crate) fn end_parts(
     particles: &[Tree<ParticleLabel>],

@@ -49,7 +49,7 @@ pub(crate) fn enter(
     enter_term(particle, to, values)
 }
 
-// The same within one occurrence.
+// Opens the path within one occurrence of a particle.
 #[cycle(entering)]
 pub(crate) fn enter_term(
     particle: &Tree<ParticleLabel>,
@@ -84,7 +84,7 @@ pub(crate) fn enter_term(
     }
 }
 
-// The same among the particles of a sequence. Those before the way stand empty.
+// Opens the path among the particles of a sequence, and writes those before it as empty.
 #[cycle(entering)]
 pub(crate) fn enter_order(
     particles: &[Tree<ParticleLabel>],
@@ -106,7 +106,7 @@ pub(crate) fn enter_order(
     }
 }
 
-// The same. Most often the leaf is the first particle itself, which is single: then a flag alone is put.
+// Does what `enter_order` does. Most often the leaf is the first particle itself and single, and only a flag is written.
 #[inline(always)]
 pub(crate) fn enter_parts(
     particles: &[Tree<ParticleLabel>],
