@@ -242,7 +242,7 @@ fn text_of(alloc: Global, work: &mut Work<'_>, fault: Fault) -> Result<String, M
     match fault {
         Fault::Stamp => tell_whole(alloc, work.asked.input.unwrap_or("input"), STAMP),
         Fault::Outcome(outcome) => {
-            if outcome != Outcome::UnknownRoot {
+            if !matches!(outcome, Outcome::UnknownRoot) {
                 return complaint_of(alloc, work, outcome);
             }
             let mut text = match work.asked.root {

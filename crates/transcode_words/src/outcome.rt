@@ -11,7 +11,7 @@ use validity_rules::InvalidWhy;
 use xml_read::DocWhy;
 
 /// What a call of the program ends with. Files are numbered from 1 in the order of the words; number 0 is the input.
-#[derive(Clone, Copy, PartialEq, Eq)]
+#[derive(Clone, Copy)]
 pub enum Outcome {
     /// The whole result was written.
     Done,
