@@ -1,3 +1,4 @@
+//! Gathers bits of octets into a number.
 ghost use Rattle.std.specs.Prelude.{◌≡◌, ℕ, ◌<◌, ◌≤◌, ◌+◌, ◌*◌, ◌^◌, ◌++◌, length, [], ◌∷◌};
 ghost use Rattle.base_codecs.specs.Bits.{bits, octet_bits};
 

@@ -1,6 +1,6 @@
 //! Implements the environment over the system: a source over a reader, a sink over a writer, a library over files.
 //!
-//! Read first: the traits in `src/moves.rt` and `src/libraries.rt` of `base_texts`, then `src/adapters.rt`.
+//! Read first: the traits in `src/sources.rt`, `src/sinks.rt` and `src/libraries.rt` of `base_texts`, then `src/adapters.rt`.
 #![tactic(auto)]
 
 mod adapters;

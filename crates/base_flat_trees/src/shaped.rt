@@ -1,4 +1,4 @@
-//! Trees whose labels allow the kids of each node.
+//! Flat trees whose labels determine how many children each node has.
 ghost use Rattle.std.specs.Prelude.{◌≡◌};
 ghost use Rattle.base_trees.specs.Rose.{Allowed, node_count};
 

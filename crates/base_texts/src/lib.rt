@@ -1,8 +1,8 @@
 //! Defines texts, names and byte places, a counter of steps, and the traits of the environment: sources, sinks and libraries of
 //! files.
 //!
-//! Read first: `specs/Characters`, `WhiteSpace` and `Digits` (tables of the standards), then the traits in `src/moves.rt` and
-//! `src/libraries.rt`.
+//! Read first: `specs/Characters`, `WhiteSpace` and `Digits` (tables of the standards), then the traits in
+//! `src/sources.rt`, `src/sinks.rt` and `src/libraries.rt`.
 #![tactic(auto)]
 
 mod characters;

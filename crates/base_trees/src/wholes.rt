@@ -1,4 +1,4 @@
-//! Trees whose labels allow the kids of each node.
+//! Trees whose labels determine how many children each node has.
 ghost use Rattle.std.specs.Prelude.{◌≡◌, IfOk, MatchResult};
 ghost use Rattle.base_trees.specs.Rose.{Allowed, shown_count, shown_depth};
 

@@ -2,7 +2,7 @@
 //! simple types.
 //!
 //! Read first: `specs/Parts` (all components in one list), `specs/Order` (which fault is first) and `specs/References`, then
-//! `src/references.rt`; `specs/Cycles`, then `first_circular` in `src/cycles.rt`.
+//! `first_unresolved` in `src/resolution.rt`; `specs/Cycles`, then `first_circular` in `src/cycles.rt`.
 #![tactic(auto)]
 
 mod cycles;

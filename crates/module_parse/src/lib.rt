@@ -2,6 +2,8 @@
 //!
 //! Each function reads one thing at a place of the bytes, as `module_grammar` defines it. It returns the thing and the place
 //! after it, or the longest prefix that begins a text, or the place of a type or a value that is nested too deep.
+//!
+//! Read first: `specs/Parsed`, then `parse` in `src/modules.rt`.
 #![tactic(auto)]
 
 mod bounds;

@@ -1,4 +1,4 @@
-//! What holds of schema documents.
+//! Laws of the components of one schema document.
 ghost use Rattle.schema_components.specs.declared.documents.RawDoc.{RawDoc};
 ghost use Rattle.schema_components.specs.Documents.{doc_of};
 ghost use Rattle.schema_components.specs.TypedUses.{AreTyped};

@@ -1,4 +1,4 @@
-//! What holds of schema documents.
+//! Laws of the first fault of a schema document.
 ghost use Rattle.std.specs.Prelude.{◌≡◌, ◌⊎◌, ◌↔◌, ℕ, Some, None};
 ghost use Rattle.base_trees.specs.Rose.{Rose};
 ghost use Rattle.xml_read.specs.Tokens.{tokens, Ascend};

@@ -1,15 +1,14 @@
-//! Octets.
-ghost use Rattle.std.specs.Prelude.{◌<◌, All};
+//! Octets as numbers below 256.
+ghost use Rattle.std.specs.Prelude.{◌<◌, ℕ, All, slice_index};
 
-fn see_octet(octet: u8)
-    ensures { octet < 256 }
+// Octets are below 256: their type says so, and here it becomes a fact.
+fn each_octet(octets: &[u8])
+    ensures { (k : ℕ) → slice_index octets.now k < 256 }
 {}
 
-/// Octets have 8 bits: their type says so, and here it becomes a fact on them.
+/// States that all octets are below 256. Does nothing when it runs.
 pub fn see_octets(octets: &[u8])
     ensures { All (λ x. x < 256) octets.now }
 {
-    'octets: for octet in octets {
-        see_octet(*octet);
-    }
+    each_octet(octets);
 }

@@ -1,4 +1,4 @@
-//! The file and the input.
+//! Loading files and reading the input, with their limit, and the reasons for which they fail.
 ghost use Rattle.std.specs.Prelude.{◌≡◌, ◌≤◌, length, IfOk, IfErr, OnOk};
 ghost use Rattle.xml_read.specs.Tokens.{tokens, Ascend};
 ghost use Rattle.schema_components.specs.Documents.{doc_of};

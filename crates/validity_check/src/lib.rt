@@ -1,6 +1,6 @@
 //! Checks the start tag of an element, its attributes, and its content where the type has no content model.
 //!
-//! The traversal of a document is `xer_read`, above. It takes the declarations and the compiled content models from here; each
+//! The complete check of a document is `check_items` of `xer_read`, above. It takes the declarations and the compiled content models from here; each
 //! model is compiled on first use.
 //!
 //! Read first: `specs/Told` and `specs/Answers`, then `check_tag` in `src/tags.rt`; `specs/Attributes` of `validity_rules`,
