@@ -82,10 +82,7 @@ impl<'a, S: Source> BitSource<'a, S> {
         let mut buf = [0u8; 8];
         let (count, end) = fetch(self.source, self.limit - self.taken, &mut buf[..need]);
         self.taken += count as u64;
-        match end {
-            Err(error) => return Err(error),
-            Ok(()) => {}
-        }
+        end?;
         let all = gather(self.held, unread, &buf[..need]);
         let left = unread + 8 * need as u32 - n;
         self.position += n as u64;
@@ -125,10 +122,7 @@ impl<'a, S: Source> BitSource<'a, S> {
         let mut octet = [0u8; 1];
         let (count, end) = fetch(self.source, self.limit - self.taken, &mut octet);
         self.taken += count as u64;
-        match end {
-            Err(error) => return Err(error),
-            Ok(()) => {}
-        }
+        end?;
         let all = gather_octet(self.held, unread, octet[0]);
         let left = unread + 8 - n;
         self.position += n as u64;
@@ -202,10 +196,7 @@ impl<'a, S: Source> BitSource<'a, S> {
     {
         let (count, end) = fetch(self.source, self.limit - self.taken, octets);
         self.taken += count as u64;
-        match end {
-            Err(error) => return Err(error),
-            Ok(()) => {}
-        }
+        end?;
         self.position += 8 * octets.len() as u64;
         Ok(())
     }
@@ -232,10 +223,7 @@ impl<'a, S: Source> BitSource<'a, S> {
         let unread = (8 * self.taken - self.position) as u32;
         let (count, end) = fetch(self.source, self.limit - self.taken, octets);
         self.taken += count as u64;
-        match end {
-            Err(error) => return Err(error),
-            Ok(()) => {}
-        }
+        end?;
         let held = carry(octets, self.held, unread);
         self.position += 8 * octets.len() as u64;
         self.held = held;

@@ -108,10 +108,8 @@ fn number_items(alloc: Global, now: &Simple, facets: &[Facet]) -> Result<Vec<i12
     let mut items = Vec::new(alloc);
     'facets: for facet in facets {
         if let Some(text) = enumeration_of(facet) {
-            match number_item(now, text) {
-                Ok(n) => items.push(n)?,
-                Err(error) => return Err(error),
-            }
+            let n = number_item(now, text)?;
+            items.push(n)?;
         }
     }
     Ok(items)
@@ -132,10 +130,8 @@ fn word_items(
     let mut items = Vec::new(alloc);
     'facets: for facet in facets {
         if let Some(text) = enumeration_of(facet) {
-            match word_item(alloc, space, now, text) {
-                Ok(word) => items.push(word)?,
-                Err(error) => return Err(error),
-            }
+            let word = word_item(alloc, space, now, text)?;
+            items.push(word)?;
         }
     }
     Ok(items)

@@ -1,12 +1,13 @@
 use Rattle.std.proofs.Common.{◌≡◌, [], ◌∷◌, ◌++◌, ◌+◌, drop, sym, ap, ◌∙◌, subst, rules}
 use Rattle.std.specs.Prelude.{FitsSigned}
 use Rattle.std.proofs.lemmas.Int.{to_z-of_z}
+use Rattle.std.proofs.lemmas.Result.{err_from_is_err_and}
 use mir.Syntax.{w128}
 use Rattle.simple_types.specs.Seen.{space_of}
 use Rattle.simple_facets.specs.Restricting.{each_item, number_item, items_of}
 use Rattle.simple_facets.proofs.Enumerations.{behind_items, each_more, each_past, each_stops_if, each_all, none_behind}
 use Rattle.simple_facets.proofs.enumerating.number_items.Goals as goal
-use Rattle.simple_facets.proofs.enumerating.number_items.Goals.{in-Some+in-Ok+in_ok-push-in-Ok, in_default}
+use Rattle.simple_facets.proofs.enumerating.number_items.Goals.{in-Some+in_ok-n+in_ok-push, in_default}
 
 pub facets-init : goal.facets-init
 facets-init c =
@@ -19,12 +20,12 @@ facets-preserved c =
     let i = c.facets.facet-index in
     let rest = each_item (number_item (space_of c.args.now.now)) (items_of (drop (i + 1) facets)) in
     elim c.match-enumeration_of.branch [
-      | in-Some+in-Ok+in_ok-push-in-Ok w ↦ (
+      | in-Some+in_ok-n+in_ok-push w ↦ (
           let one = subst (λ f. items_of (f ∷ []) ≡ w.in-Some.text.now ∷ []) c.facet-item.is w.in-Some.ensures in
-          let x = w.in-Ok.n in
+          let x = w.in_ok-n.n in
           let fits : FitsSigned w128 x = search rules in
-          let pushed : w.push.new.self.items ≡ c.facets.items.items ++ x ∷ [] = subst (λ m. w.push.new.self.items ≡ c.facets.items.items ++ m ∷ []) (to_z-of_z w128 x fits) w.in_ok-push-in-Ok.ensures.items in
-          each_more (number_item (space_of c.args.now.now)) facets i c.facet-item.result c.facets-test.true c.facets.items.items c.facets.invariant w.in-Some.text.now x one (sym w.in-Ok.ensures)
+          let pushed : w.push.new.self.items ≡ c.facets.items.items ++ x ∷ [] = subst (λ m. w.push.new.self.items ≡ c.facets.items.items ++ m ∷ []) (to_z-of_z w128 x fits) w.in_ok-push.ensures.items in
+          each_more (number_item (space_of c.args.now.now)) facets i c.facet-item.result c.facets-test.true c.facets.items.items c.facets.invariant w.in-Some.text.now x one (sym w.in_ok-n.ensures)
           ∙ ap (λ l. behind_items l rest) (sym (ap (λ v. v.items) w.items-is ∙ pushed))
           )
       | in_default w ↦ (
@@ -37,8 +38,9 @@ facets-preserved c =
 pub returns : goal.returns
 returns c = each_all (number_item (space_of c.args.now.now)) c.args.facets.now c.facets.facet-index c.facets.items.items c.facets-test.false c.facets.invariant
 
-pub returns-in-Err : goal.returns-in-Err
-returns-in-Err c =
+pub returns-in_err-n : goal.returns-in_err-n
+returns-in_err-n c =
     let facets = c.args.facets.now in
     let one = subst (λ f. items_of (f ∷ []) ≡ c.in-Some.text.now ∷ []) c.facet-item.is c.in-Some.ensures in
-    each_stops_if (number_item (space_of c.args.now.now)) facets c.facets.facet-index c.facet-item.result c.facets-test.true c.facets.items.items c.facets.invariant c.in-Some.text.now _ one c.in-Err.ensures
+    let p = err_from_is_err_and c.from_residual.result c.from_residual.ensures.1 in
+    rw (p.1, p.2) (each_stops_if (number_item (space_of c.args.now.now)) facets c.facets.facet-index c.facet-item.result c.facets-test.true c.facets.items.items c.facets.invariant c.in-Some.text.now _ one c.in_err-n.ensures)

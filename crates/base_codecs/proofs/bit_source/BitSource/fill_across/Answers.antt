@@ -20,6 +20,6 @@ returns-clause-octets g c = λ left is.
     let old = c.args.self.now in
     let came = c.fetch-count.new.buf in
     let k = c.fetch-count.result.0 in
-    let count : k ≡ length came = rw c.in-Ok.is at c.fetch-count.ensures.ok in
+    let count : k ≡ length came = search rules in
     fills old.position old.taken old.limit old.held c.carry-held.result k _ came c.carry-held.new.octets left (g.S.Source.left old.source.now) (g.S.Source.left c.fetch-count.new.source)
     (omega (arith, count, c.carry-held.ensures.length)) (omega (arith, c.requires.in_step)) old.behind c.carry-held.ensures.same count c.fetch-count.ensures.count.1 c.fetch-count.ensures.bytes is

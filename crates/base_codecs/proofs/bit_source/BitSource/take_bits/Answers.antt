@@ -38,7 +38,8 @@ returns-clause-bits g c = λ left is.
     let unread = 8 * old.taken - old.position in
     let m = (c.saturating_sub.result + 7) / 8 in
     let long : length c.fetch-count.new.buf ≡ m = omega (arith, length-take {A = ℕ}, c.fetch-count.auto.buf) in
-    let count : c.fetch-count.result.0 ≡ m = omega (arith, rw c.in-Ok.is at c.fetch-count.ensures.ok, long) in
+    let whole : c.fetch-count.result.0 ≡ length c.fetch-count.new.buf = search rules in
+    let count : c.fetch-count.result.0 ≡ m = omega (arith, whole, long) in
     reads_bits old.position old.taken old.limit old.held c.gather-all.result c.args.n (unread + 8 * m - c.args.n) c.fetch-count.result.0 m
     c.fetch-count.new.buf _ left (g.S.Source.left old.source.now) (g.S.Source.left c.fetch-count.new.source)
     long old.behind c.gather-all.ensures.below c.gather-all.ensures.same (omega arith) (omega arith) count c.fetch-count.ensures.count.1 c.fetch-count.ensures.bytes is
