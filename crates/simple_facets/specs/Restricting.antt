@@ -120,7 +120,7 @@ each_item item (text ∷ texts) =
       | Ok x ↦ elim (each_item item texts) [ Err w ↦ Err w | Ok xs ↦ Ok (x ∷ xs) ]
     ]
 
--- the same elements, ascending, each once
+-- the elements of `items`, ascending, each once
 abbrev pub IsAscendingOf : {A : Type 0} → (A → A → Ordering) → List A → List A → Type 0
 IsAscendingOf {A} cmp items made = IsStrictlySortedBy cmp made × ((x : A) → Contains made x ↔ Contains items x)
 

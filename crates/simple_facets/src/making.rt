@@ -2,12 +2,12 @@
 ghost use Rattle.std.specs.Prelude.{◌≡◌, ◌+◌, ◌<◌, ◌≤◌, ◌↔◌, IfOk, OnOk, IsTrue, MatchResult, MatchOption, true, false, length};
 ghost use Rattle.simple_types.specs.Space.{UnionOf, none, more, count_members};
 ghost use Rattle.simple_types.specs.Seen.{space_of, spaces_in};
-ghost use Rattle.simple_types.specs.Sound.{Sound, is_union, has_list, have_list};
+ghost use Rattle.simple_types.specs.Sound.{Sound, is_union, has_list};
 ghost use Rattle.simple_types.specs.Joining.{joined, flattened};
 ghost use Rattle.simple_facets.specs.Making.{count_items, count_all_items, AreWithinLimits, AreEachSound, IsListOf, IsUnionOf, lent_spaces};
 
 use base_texts::Memory;
-use simple_types::{Simple, SimpleList, append_copies, copy};
+use simple_types::{Simple, SimpleList, append_copies, copy, has_list};
 use std::alloc::Global;
 use thiserror::Error;
 
@@ -35,34 +35,6 @@ pub enum UnionError {
     Limit,
     #[error("out of memory")]
     Memory,
-}
-
-#[cycle(listing)]
-fn have_list(members: &[Simple]) -> bool
-    ensures { result ≡ have_list (spaces_in members.now) }
-{
-    'members: for member in members {
-        if has_list(member) {
-            return true;
-        }
-    }
-    false
-}
-
-#[cycle(listing)]
-#[tactic(auto, unfolding(simple_types::specs::Seen::space_of))]
-fn has_list(simple: &Simple) -> bool
-    ensures { result ≡ has_list (space_of simple.now) }
-{
-    match simple {
-        Simple::List { .. } => true,
-        Simple::Union(members) => have_list(members.items()),
-        Simple::Bool => false,
-        Simple::Whole { .. } => false,
-        Simple::Numbers(_) => false,
-        Simple::Words { .. } => false,
-        Simple::Chars { .. } => false,
-    }
 }
 
 /// The type of lists of any number of items.

@@ -82,7 +82,7 @@ module _ {K : Type 0} {R : K → K → Ordering} (o : IsTotalOrder R) where
           | inr behind ↦ ap is_eq (cut.1 j d behind below)
         ]))
 
--- the same by the equality of texts
+-- the place of a text is the one that the equality of texts finds
 same_from : (p q : List ℕ → Bool) (xs : List (List ℕ)) (k : ℕ) → ((y : List ℕ) → p y ≡ q y) → position_from p k xs ≡ position_from q k xs
 same_from p q [] k same = refl
 same_from p q (y ∷ ys) k same = rw (same y, same_from p q ys (k + 1) same) refl

@@ -12,7 +12,7 @@ AnswersReading (Err error.BadText) due = due ≡ Err Bad
 AnswersReading (Err error.TooWide) due = due ≡ Err Wide
 AnswersReading (Err error.Memory) due = Unit {0}
 
--- the same, with the label of a value that has no parts
+-- with the label of the value that is expected, which has no parts, or with the expected error, or out of memory
 abbrev pub AnswersLeaf : Result ValueLabel SimpleError → Reading → Type 0
 AnswersLeaf (Ok label) due = due ≡ Ok (leaf label)
 AnswersLeaf (Err error.BadText) due = due ≡ Err Bad

@@ -302,7 +302,7 @@ fn put_text(
     Ok(())
 }
 
-/// The same, put behind what is built of a value so far, which an error leaves as it was.
+/// Appends the value of a text to what is built so far. An error leaves that as it was.
 pub fn accept_into(
     alloc: Global,
     simple: &Simple,
@@ -379,7 +379,8 @@ fn put_whole(
     }
 }
 
-/// The same of a text of so many bytes that stand first, which isn't copied but where it is a value.
+/// Appends the value of the text of the first `len` bytes to what is built so far. An error leaves that as it was. The text
+/// is copied only if it is a value.
 pub fn accept_front_into(
     alloc: Global,
     simple: &Simple,

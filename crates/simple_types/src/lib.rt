@@ -20,6 +20,7 @@ mod reading;
 mod simples;
 mod spelling;
 mod standards;
+mod unions;
 
 pub use accepting::{accept, accept_front_into, accept_into, accept_label};
 pub use builtins::builtin;
@@ -34,5 +35,8 @@ pub use lists::{Flags, NumberList, TextList};
 pub use numbers::{Whole, boolean_of, collapsed_number, only_word};
 pub use reading::{SimpleError, is_within, place_of, place_of_word};
 pub use simples::{Builtin, Class, Simple, SimpleList};
-pub use spelling::spell;
+pub use spelling::{
+    choice_of, spell, word_of, write_boolean, write_number, write_text, write_whole, write_word,
+};
 pub use standards::Standard;
+pub use unions::{has_list, is_union};

@@ -1,5 +1,5 @@
 //! The canonical spelling of values.
-ghost use Rattle.std.specs.Prelude.{◌≡◌, ◌++◌, IfOk, OnOk, MatchOption, Some, None, map, string_bytes};
+ghost use Rattle.std.specs.Prelude.{◌≡◌, ◌++◌, [], IfOk, OnOk, MatchOption, Some, None, map, string_bytes};
 ghost use Rattle.base_trees.specs.Rose.{label_of, kids_of};
 ghost use Rattle.std.specs.List.{join_with_byte};
 ghost use Rattle.simple_types.specs.Space.{UnionOf};
@@ -15,7 +15,8 @@ use itoa::Buffer;
 use std::alloc::Global;
 use std::iter::Iterator;
 
-fn write_boolean(out: &mut String, label: &ValueLabel) -> Result<(), Memory>
+/// Appends the spelling of a truth value, and nothing of any other value.
+pub fn write_boolean(out: &mut String, label: &ValueLabel) -> Result<(), Memory>
     ensures { OnOk result (string_bytes out.new ≡ string_bytes out.old ++ spelled_boolean label.now) }
 {
     match label {
@@ -26,7 +27,8 @@ fn write_boolean(out: &mut String, label: &ValueLabel) -> Result<(), Memory>
     Ok(())
 }
 
-fn write_whole(out: &mut String, label: &ValueLabel) -> Result<(), Memory>
+/// Appends the digits of a whole number, and nothing of any other value.
+pub fn write_whole(out: &mut String, label: &ValueLabel) -> Result<(), Memory>
     ensures { OnOk result (string_bytes out.new ≡ string_bytes out.old ++ spelled_whole label.now) }
 {
     if let ValueLabel::Int(n) = label {
@@ -35,7 +37,8 @@ fn write_whole(out: &mut String, label: &ValueLabel) -> Result<(), Memory>
     Ok(())
 }
 
-fn write_number(out: &mut String, numbers: &[i128], label: &ValueLabel) -> Result<(), Memory>
+/// Appends the number that a value chooses of these, and nothing of a value that chooses none.
+pub fn write_number(out: &mut String, numbers: &[i128], label: &ValueLabel) -> Result<(), Memory>
     ensures { OnOk result (string_bytes out.new ≡ string_bytes out.old ++ spelled_number numbers.now label.now) }
 {
     if let ValueLabel::Enum(i) = label {
@@ -46,18 +49,28 @@ fn write_number(out: &mut String, numbers: &[i128], label: &ValueLabel) -> Resul
     Ok(())
 }
 
-fn write_word(out: &mut String, words: &[Text], label: &ValueLabel) -> Result<(), Memory>
+/// Returns the word that a value chooses of these.
+pub fn word_of<'a>(words: &'a [Text], label: &ValueLabel) -> Option<&'a Text>
+    ensures { MatchOption result (spelled_word words.now label.now ≡ []) (λ word. spelled_word words.now label.now ≡ word.now) }
+{
+    match label {
+        ValueLabel::Enum(i) => words.get(*i as usize),
+        _ => None,
+    }
+}
+
+/// Appends the word that a value chooses of these, and nothing of a value that chooses none.
+pub fn write_word(out: &mut String, words: &[Text], label: &ValueLabel) -> Result<(), Memory>
     ensures { OnOk result (string_bytes out.new ≡ string_bytes out.old ++ spelled_word words.now label.now) }
 {
-    if let ValueLabel::Enum(i) = label {
-        if let Some(word) = words.get(*i as usize) {
-            out.push_str(word.as_str())?;
-        }
+    if let Some(word) = word_of(words, label) {
+        out.push_str(word.as_str())?;
     }
     Ok(())
 }
 
-fn write_text(out: &mut String, label: &ValueLabel) -> Result<(), Memory>
+/// Appends a text, and nothing of any other value.
+pub fn write_text(out: &mut String, label: &ValueLabel) -> Result<(), Memory>
     ensures { OnOk result (string_bytes out.new ≡ string_bytes out.old ++ spelled_text label.now) }
 {
     if let ValueLabel::Utf8(text) = label {
@@ -83,8 +96,8 @@ fn write_items(out: &mut String, item: &Simple, values: &Kids<'_, ValueLabel>) -
     Ok(())
 }
 
-// The alternative that a value chooses, and the value of it.
-fn choice_of<'a>(value: &Node<'a, ValueLabel>) -> Option<(u32, Node<'a, ValueLabel>)>
+/// Returns the alternative that a value chooses, and the value of it.
+pub fn choice_of<'a>(value: &Node<'a, ValueLabel>) -> Option<(u32, Node<'a, ValueLabel>)>
     ensures { MatchOption result
         (choice_at (label_of value.now) (kids_of value.now) ≡ None)
         (λ choice. choice_at (label_of value.now) (kids_of value.now) ≡ Some (choice.0, choice.1)) }

@@ -2,7 +2,7 @@ use Rattle.std.proofs.Common.{◌≡◌, ◌+◌, ◌*◌, drop}
 use Rattle.simple_types.specs.Space.{count_parts, count_all_parts}
 use Rattle.simple_types.specs.Seen.{space_of, spaces_in}
 use Rattle.simple_types.specs.Sound.{have_list}
-use Rattle.simple_facets.proofs.making.+listing.Given as goal
+use Rattle.simple_types.proofs.unions.+listing.Given as goal
 
 abbrev pub decreases-has_list : goal.decreases-has_list
 decreases-has_list l = 2 * count_parts (space_of l.simple.now)

@@ -4,7 +4,7 @@ use Rattle.simple_types.specs.Seen.{space_of}
 use Rattle.simple_types.specs.Sound.{has_list}
 use Rattle.simple_types.proofs.Seen.{union_is, list_space}
 use Rattle.simple_types.proofs.Members.{part_member}
-use Rattle.simple_facets.proofs.making.+listing.Goals as goal
+use Rattle.simple_types.proofs.unions.+listing.Goals as goal
 
 pub has_list-have_list-requires : goal.has_list-have_list-requires
 has_list-have_list-requires t c =
