@@ -43,26 +43,26 @@ impl Why {
             Why::Short => Reason {
                 name: "Short",
                 means: "the octets end before the node, its length or its contents do",
-                remedy: "send it whole, with its length",
+                remedy: "send the complete message, with its length",
             },
             Why::Missing => Reason {
                 name: "Missing",
-                means: "the contents end where a component that isn't optional must follow",
+                means: "the contents end where a required component must follow",
                 remedy: "send the same module, with a checksum",
             },
             Why::Tag => Reason {
                 name: "Tag",
-                means: "no node that may follow here has this identifier",
+                means: "no node that is allowed here has this identifier",
                 remedy: "send the same module, with a checksum",
             },
             Why::TooDeep => Reason {
                 name: "TooDeep",
-                means: "the 65th element in one another",
-                remedy: "take these octets for none",
+                means: "elements are nested more than 64 deep",
+                remedy: "reject these octets",
             },
             Why::TooMany => Reason {
                 name: "TooMany",
-                means: "the 1,048,577th node",
+                means: "more than 1,048,576 nodes",
                 remedy: "split the message",
             },
             Why::NotShortest => Reason {
@@ -77,12 +77,12 @@ impl Why {
             },
             Why::TooWide => Reason {
                 name: "TooWide",
-                means: "a whole number of more than 128 bits",
+                means: "a whole number needs more than 128 bits",
                 remedy: "send the same module, with a checksum",
             },
             Why::Range => Reason {
                 name: "Range",
-                means: "a number or a count outside its bounds, or that of no item",
+                means: "a number or a count is out of range, or no item has the number",
                 remedy: "send the same module, with a checksum",
             },
             Why::NotUtf8 => Reason {
@@ -92,12 +92,12 @@ impl Why {
             },
             Why::DefaultWritten => Reason {
                 name: "DefaultWritten",
-                means: "a component that may be absent has its default or fixed value",
+                means: "an optional component is encoded with its default or fixed value",
                 remedy: "encode by DER: BER isn't enough",
             },
             Why::NotAValue => Reason {
                 name: "NotAValue",
-                means: "the node was read whole, but it breaks a rule of values",
+                means: "the node was read completely, but it breaks a rule for values",
                 remedy: "docs/INTEROP.md has the rules; both ends need the same schemas",
             },
         }

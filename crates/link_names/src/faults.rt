@@ -46,18 +46,18 @@ impl LinkWhy {
             LinkWhy::Facet(why) => why.reason(),
             LinkWhy::Limit => Reason {
                 name: "Limit",
-                means: "more than this program takes",
+                means: "more than this program accepts",
                 remedy: "split the type or the set",
             },
             LinkWhy::Duplicate => Reason {
                 name: "Duplicate",
-                means: "a global element, a global attribute or a type whose name an earlier one of its kind has",
-                remedy: "hand each file in once",
+                means: "two global elements, two global attributes or two types have the same name",
+                remedy: "pass each file once",
             },
             LinkWhy::Unresolved => Reason {
                 name: "Unresolved",
                 means: "a reference names nothing",
-                remedy: "hand in all files of the set",
+                remedy: "pass all files of the set",
             },
             LinkWhy::ComplexBase => Reason {
                 name: "ComplexBase",
@@ -66,13 +66,13 @@ impl LinkWhy {
             },
             LinkWhy::CircularType => Reason {
                 name: "CircularType",
-                means: "a simple type is made of itself",
+                means: "a simple type is defined in terms of itself",
                 remedy: "break the circle",
             },
             LinkWhy::BadItem => Reason {
                 name: "BadItem",
                 means: "the item of a list is itself a list, or a union with a list in it",
-                remedy: "a list of single values",
+                remedy: "use a list of single values",
             },
             LinkWhy::BadDefault => Reason {
                 name: "BadDefault",
@@ -81,22 +81,22 @@ impl LinkWhy {
             },
             LinkWhy::FixedDiffers => Reason {
                 name: "FixedDiffers",
-                means: "a reference to a global attribute with a fixed value has a default value, or another fixed one",
-                remedy: "drop it, the reference has the fixed value anyway",
+                means: "a reference to a global attribute with a fixed value has a default value or another fixed value",
+                remedy: "drop it: the reference has the fixed value anyway",
             },
             LinkWhy::DuplicateUse => Reason {
                 name: "DuplicateUse",
-                means: "two attributes of one name in a type",
+                means: "a type has two attributes with the same name",
                 remedy: "drop one",
             },
             LinkWhy::TypesDiffer => Reason {
                 name: "TypesDiffer",
                 means: "two elements of one name in one content model have different types",
-                remedy: "one type with a name for both",
+                remedy: "use one named type for both",
             },
             LinkWhy::NotClear => Reason {
                 name: "NotClear",
-                means: "one document could have two values by this particle, or one element of look-ahead doesn't decide",
+                means: "a document could have two values under this particle, or one element of lookahead doesn't decide",
                 remedy: "docs/CONTENT-MODELS.md has recipes",
             },
         }

@@ -40,17 +40,17 @@ impl ModuleWhy {
             },
             ModuleWhy::Syntax => Reason {
                 name: "Syntax",
-                means: "nothing that show writes goes on so",
-                remedy: "write the module again, with show: other notations of ASN.1 aren't read",
+                means: "show never writes this text here",
+                remedy: "write the module again, with show: other ASN.1 notation isn't read",
             },
             ModuleWhy::TooDeep => Reason {
                 name: "TooDeep",
-                means: "the 1,025th type or value in one another",
-                remedy: "take this text for none",
+                means: "types or values are nested more than 1,024 deep",
+                remedy: "reject this text",
             },
             ModuleWhy::Duplicate => Reason {
                 name: "Duplicate",
-                means: "a reference or an identifier that stood before, or a reserved word",
+                means: "a reference or an identifier appears twice, or is a reserved word",
                 remedy: "write the module again, with show",
             },
             ModuleWhy::Unresolved => Reason {
@@ -60,13 +60,13 @@ impl ModuleWhy {
             },
             ModuleWhy::LongChain => Reason {
                 name: "LongChain",
-                means: "more than four references in a row go out from here",
+                means: "a chain of more than four references begins here",
                 remedy: "write the module again, with show",
             },
             ModuleWhy::Spelling => Reason {
                 name: "Spelling",
-                means: "show writes this otherwise, or never here",
-                remedy: "docs/MODULE-READ.md has what stands where",
+                means: "show writes this differently, or not here",
+                remedy: "docs/MODULE-READ.md lists what is written where",
             },
         }
     }

@@ -34,7 +34,7 @@ impl FacetWhy {
         match self {
             FacetWhy::Misplaced => Reason {
                 name: "Misplaced",
-                means: "the base has no such facet, or it stood before",
+                means: "the base has no such facet, or the facet appears twice",
                 remedy: "drop it",
             },
             FacetWhy::Widens => Reason {
@@ -44,23 +44,23 @@ impl FacetWhy {
             },
             FacetWhy::NotInBase => Reason {
                 name: "NotInBase",
-                means: "an enumeration isn't a value of what the other facets leave",
-                remedy: "mend the word or the bounds",
+                means: "an enumeration isn't a value that the other facets allow",
+                remedy: "fix the word or the bounds",
             },
             FacetWhy::EmptySpace => Reason {
                 name: "EmptySpace",
-                means: "bounds cross, or none of the base's values is left",
-                remedy: "mend the bounds",
+                means: "the bounds cross, or exclude every value of the base",
+                remedy: "fix the bounds",
             },
             FacetWhy::BadNumber => Reason {
                 name: "BadNumber",
-                means: "the facet's text is no whole number, no digits where it is a length, no treatment of white space",
+                means: "the facet's value isn't a whole number, digits for a length, or a value of whiteSpace",
                 remedy: "write a whole number",
             },
             FacetWhy::TooWide => Reason {
                 name: "TooWide",
-                means: "a bound or an enumeration past 128 bits, a length of 2^32 or more",
-                remedy: "a lesser bound",
+                means: "a bound or an enumeration needs more than 128 bits, or a length is 2^32 or more",
+                remedy: "a smaller bound",
             },
         }
     }

@@ -212,13 +212,13 @@ impl Outcome {
             Outcome::ModuleFault { why, .. } => why.reason(),
             Outcome::Done => Reason {
                 name: "Done",
-                means: "all is done",
-                remedy: "none is wanted",
+                means: "the complete result was written",
+                remedy: "none is needed",
             },
             Outcome::Usage => Reason {
                 name: "Usage",
-                means: "the words are no command",
-                remedy: "ruvkhiska --help has them; a root is name or {namespace}name, and files are 1 to 64",
+                means: "the arguments are not a command",
+                remedy: "ruvkhiska --help lists the commands; a root is name or {namespace}name, and there are 1 to 64 files",
             },
             Outcome::UnknownRoot => Reason {
                 name: "UnknownRoot",
@@ -227,8 +227,8 @@ impl Outcome {
             },
             Outcome::Trailing { .. } => Reason {
                 name: "Trailing",
-                means: "behind the encoding something stands",
-                remedy: "cut the messages apart first",
+                means: "bytes follow the encoding",
+                remedy: "split the input into messages first",
             },
             Outcome::TooLong { .. } => Reason {
                 name: "TooLong",
@@ -243,22 +243,22 @@ impl Outcome {
             Outcome::LoadFault { .. } => Reason {
                 name: "LoadFault",
                 means: "it can't be opened or read",
-                remedy: "mend the path, or the rights to read it",
+                remedy: "fix the path, or the permission to read it",
             },
             Outcome::ReadFault => Reason {
                 name: "ReadFault",
                 means: "it can't be opened or read",
-                remedy: "mend the path, or the rights to read it",
+                remedy: "fix the path, or the permission to read it",
             },
             Outcome::WriteFault => Reason {
                 name: "WriteFault",
-                means: "it can't be written whole",
-                remedy: "see that its folder is there, and that its disk has room; what was written to a pipe is to be thrown away",
+                means: "it can't be written completely",
+                remedy: "check that its folder exists and that its disk has room; discard what was written to a pipe",
             },
             Outcome::OutOfMemory => Reason {
                 name: "OutOfMemory",
-                means: "memory is missing",
-                remedy: "give it more; docs/LIMITS.md has what to expect",
+                means: "there is not enough memory",
+                remedy: "give it more; docs/LIMITS.md lists what it needs",
             },
         }
     }

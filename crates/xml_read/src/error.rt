@@ -64,37 +64,37 @@ impl DocWhy {
             },
             DocWhy::Version => Reason {
                 name: "Version",
-                means: "an XML declaration with another version than 1.0",
+                means: "an XML declaration with a version other than 1.0",
                 remedy: "write version=\"1.0\"",
             },
             DocWhy::Encoding => Reason {
                 name: "Encoding",
-                means: "an XML declaration with another encoding than UTF-8 and US-ASCII",
+                means: "an XML declaration with an encoding other than UTF-8 and US-ASCII",
                 remedy: "convert the file: xmllint --encode UTF-8",
             },
             DocWhy::BadReference => Reason {
                 name: "BadReference",
-                means: "a & that begins no reference",
+                means: "a & that doesn't begin a reference",
                 remedy: "write &amp;, or &#160;",
             },
             DocWhy::NoPiece => Reason {
                 name: "NoPiece",
-                means: "the text isn't well-formed here, for no other reason",
-                remedy: "&lt;; xmllint --noout FILE tells more",
+                means: "the text isn't well-formed here",
+                remedy: "write &lt; for <; xmllint --noout FILE gives details",
             },
             DocWhy::BadName => Reason {
                 name: "BadName",
                 means: "a name with two colons, or with nothing on one side of one",
-                remedy: "mend the name",
+                remedy: "fix the name",
             },
             DocWhy::LongName => Reason {
                 name: "LongName",
-                means: "a prefix or a local name over 255 bytes, a namespace over 1,023",
+                means: "a prefix or a local name has over 255 bytes, or a namespace over 1,023",
                 remedy: "shorten it",
             },
             DocWhy::ReservedPrefix => Reason {
                 name: "ReservedPrefix",
-                means: "xml or xmlns, or their namespaces, are bound, or a prefix is bound to nothing",
+                means: "xml, xmlns or one of their namespaces is bound, or a prefix is bound to the empty string",
                 remedy: "drop the binding",
             },
             DocWhy::UnboundPrefix => Reason {
@@ -104,23 +104,23 @@ impl DocWhy {
             },
             DocWhy::DuplicateAttribute => Reason {
                 name: "DuplicateAttribute",
-                means: "an attribute twice in a tag, also by two prefixes of one namespace",
+                means: "an attribute appears twice in a tag, perhaps under two prefixes of one namespace",
                 remedy: "drop one",
             },
             DocWhy::ExtraRoot => Reason {
                 name: "ExtraRoot",
-                means: "an element behind the end of the root",
-                remedy: "one document an input",
+                means: "an element after the end of the root",
+                remedy: "pass one document per input",
             },
             DocWhy::TooDeep => Reason {
                 name: "TooDeep",
-                means: "the 65th element in one another",
+                means: "elements are nested more than 64 deep",
                 remedy: "flatten the document",
             },
             DocWhy::WrongEnd => Reason {
                 name: "WrongEnd",
                 means: "an end tag that isn't that of the open element",
-                remedy: "mend the document",
+                remedy: "fix the document",
             },
             DocWhy::TextOutside => Reason {
                 name: "TextOutside",
@@ -129,8 +129,8 @@ impl DocWhy {
             },
             DocWhy::Unfinished => Reason {
                 name: "Unfinished",
-                means: "the root isn't closed, or hasn't begun",
-                remedy: "hand in the whole file",
+                means: "the text ends before the root is closed, or without a root",
+                remedy: "pass the complete file",
             },
         }
     }
