@@ -2,9 +2,7 @@
 """Tries what README.md and docs/ say.
 
 - README.md has less than 12 KB, each file that a page names is there, and so is each name of the code.
-- docs/REASONS.md has each reason of the program, from A to Z, and no other; each is told by a row of crates/transcode_rows.
-- crates/people_complaints/src/words.rt, the words of bin/ruvkhiska, says of each reason what docs/REASONS.md does, and the page has all its
-  words.
+- docs/REASONS.md has each reason of the source with its meaning and its remedy, and no other: tests/reasons.py.
 - Each command of a page, a line `$ ...` with `bin/ruvkhiska` or `bin/transcode` in it, answers what the page says.
 - The recipes of docs/CONTENT-MODELS.md: the first model is refused as NotClear, the second is taken, and takes the same documents,
   tried with all of up to four (with the option --long six) child elements.
@@ -24,23 +22,12 @@ import subprocess
 import sys
 import tempfile
 
+from reasons import try_reasons
+
 HERE = os.path.dirname(os.path.dirname(os.path.abspath(__file__)))
 PROGRAM = os.path.abspath(os.environ.get("PROGRAM", os.path.join(HERE, "bin/transcode")))
 PEOPLE = os.path.abspath(os.environ.get("PEOPLE", os.path.join(HERE, "bin/ruvkhiska")))
 XSD = '<xs:schema xmlns:xs="http://www.w3.org/2001/XMLSchema">%s</xs:schema>'
-# The reasons: the table as it is told, the file, the enum.
-TABLES = {
-    "syntax": ("crates/xml_read/src/error.rt", "DocWhy"),
-    "schema": ("crates/schema_syntax/src/why.rt", "SchemaWhy"),
-    "link": ("crates/link_names/src/faults.rt", "LinkWhy"),
-    "link: Facet": ("crates/simple_facets/src/refusals.rt", "FacetWhy"),
-    "invalid": ("crates/validity_rules/src/why.rt", "InvalidWhy"),
-    "per": ("crates/per_fields/src/stops.rt", "Why"),
-    "der": ("crates/der_fields/src/stops.rt", "Why"),
-    "module": ("crates/module_text/src/reasons.rt", "ModuleWhy"),
-}
-# Enums of reasons that are passed on under the names of the others.
-PASSED_ON = {"NoneWhy"}
 
 
 def text_of(path):
@@ -112,66 +99,6 @@ def try_code(docs):
         for name in re.findall(r"`([A-Za-z]\w*)`", re.sub(r"(?ms)^```.*?^```|^    .*?$", "", text_of(page))):
             if "_" in name or re.search("[A-Z].*[a-z]", name):
                 docs.holds(name in names, page, "names", name, "which isn't in the code")
-
-
-def try_reasons(docs):
-    due = set()
-    for table, (path, enum) in TABLES.items():
-        body = re.search(rf"pub enum {enum} {{\n(.*?)\n}}", text_of(path), re.S)[1]
-        due |= {(table, it) for it in re.findall(r"(?m)^    (\w+)(?=[,({ ])", body) if it != "Facet"}
-    for folder, _, names in os.walk(f"{HERE}/crates"):
-        for name in names if folder.endswith("/src") else []:
-            for enum in re.findall(r"pub enum (\w*Why)\b", text_of(f"{folder}/{name}")):
-                docs.holds(enum in PASSED_ON or enum in [it for _, it in TABLES.values()], "a table without rows in REASONS:", enum)
-    rows, names = set(), []
-    for line in text_of("docs/REASONS.md").split("\n"):
-        cells = [it.strip() for it in line.split("|")]
-        if len(cells) == 8 and cells[1] not in ("Reason", "---"):
-            names.append((cells[1].lower(), cells[1]))
-            rows |= {(table, cells[1]) for table in re.split(r", ", cells[2])}
-            for page in cells[6].split(", "):
-                docs.holds(os.path.isfile(f"{HERE}/docs/{page}.md"), "REASONS names the page", page)
-    docs.holds(names == sorted(names), "docs/REASONS.md isn't in the order of names")
-    for missing in sorted(due - rows):
-        docs.holds(False, "docs/REASONS.md lacks", missing)
-    for more in sorted(rows - due):
-        docs.holds(False, "docs/REASONS.md has what the program doesn't tell:", more)
-    table_of_rows = text_of("crates/transcode_rows/stdin")
-    for table, reason in sorted(due):
-        told = f": {table}{': ' if ':' not in table else ' '}{reason}\n"
-        docs.holds(told in table_of_rows, "no row tells", table, reason)
-
-
-# The words of bin/ruvkhiska: which function has those of which table.
-WORDS = {
-    "syntax": "text_reason",
-    "schema": "schema_reason",
-    "link": "link_reason",
-    "link: Facet": "facet_reason",
-    "invalid": "invalid_reason",
-    "per": "octets_reason",
-    "der": "der_reason",
-    "module": "module_reason",
-}
-
-
-def try_words(docs):
-    """A reason means and asks for the same in both places, but for the marks of code, which a terminal doesn't show."""
-    said = {}
-    for line in text_of("docs/REASONS.md").split("\n"):
-        cells = [it.strip() for it in line.split("|")]
-        if len(cells) == 8 and cells[1] not in ("Reason", "---"):
-            for table in re.split(r", ", cells[2]):
-                said[table, cells[1]] = cells[3].replace("`", ""), cells[5].replace("`", "")
-    words = text_of("crates/people_complaints/src/words.rt")
-    for table, function in WORDS.items():
-        body = words[words.index(f"pub fn {function}(") :]
-        body = body[: body.index("\n}\n")]
-        for name, means, remedy in re.findall(r'name: "(\w+)",\s+means: "((?:[^"\\]|\\.)*)",\s+remedy: "((?:[^"\\]|\\.)*)"', body):
-            told = means.replace('\\"', '"'), remedy.replace('\\"', '"')
-            docs.holds(said.get((table, name)) == told, table, name, "is", told, "and in docs/REASONS.md", said.get((table, name)))
-    for name in re.findall(r'name: "(\w+)"', words[words.index("pub fn reason_of(") :]):
-        docs.holds(name == "Done" or f"`{name}`" in text_of("docs/REASONS.md"), "docs/REASONS.md lacks the word", name)
 
 
 def try_commands(docs):
@@ -371,8 +298,7 @@ def main():
         docs = Docs(work)
         try_names(docs)
         try_code(docs)
-        try_reasons(docs)
-        try_words(docs)
+        try_reasons(docs.holds)
         try_remedies(docs)
         try_agreement(docs)
         try_commands(docs)

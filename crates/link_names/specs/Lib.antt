@@ -4,6 +4,7 @@ pub mod Order
 pub mod References
 pub mod Resolution
 pub mod Seen
+pub mod Reasons
 pub mod Private
 pub mod Parts
 pub mod WalkSeen

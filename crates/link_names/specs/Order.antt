@@ -1,41 +1,16 @@
 -- The order of faults: by files and places, and at one place by their reasons.
 use Rattle.std.specs.Prelude.{◌≡◌, ℕ, Bool, false, ◌&&◌, ◌||◌, not, nat_eq, nat_lt, ◌⊎◌, List, [], ◌∷◌, Option, Some, None, MatchOption, if◌then◌else◌}
 use Rattle.base_texts.specs.Lists.{HasItem}
-use Rattle.simple_facets.specs.declared.refusals.FacetWhy.{FacetWhy}
-use Rattle.simple_facets.specs.declared.refusals.FacetWhy.TheVariants as facet
 use Rattle.link_names.specs.declared.places.Place.{Place}
 use Rattle.link_names.specs.declared.faults.LinkWhy.{LinkWhy}
-use Rattle.link_names.specs.declared.faults.LinkWhy.TheVariants as why
 use Rattle.link_names.specs.declared.faults.LinkingFault.{LinkingFault}
+pub use Rattle.link_names.specs.Reasons.{rank_of, rank_of_facet}
 
 abbrev pub place : ℕ → ℕ → Place
 place file at = record { file = file; at = at }
 
 abbrev pub is_before : Place → Place → Bool
 is_before a b = nat_lt a.file b.file || (nat_eq a.file b.file && nat_lt a.at b.at)
-
--- each reason has a rank of its own, so of two faults that differ one precedes the other
-abbrev pub rank_of_facet : FacetWhy → ℕ
-rank_of_facet facet.Misplaced = 5
-rank_of_facet facet.Widens = 6
-rank_of_facet facet.NotInBase = 7
-rank_of_facet facet.EmptySpace = 8
-rank_of_facet facet.BadNumber = 9
-rank_of_facet facet.TooWide = 10
-
-abbrev pub rank_of : LinkWhy → ℕ
-rank_of why.Limit = 0
-rank_of why.Duplicate = 1
-rank_of why.Unresolved = 2
-rank_of why.ComplexBase = 3
-rank_of why.CircularType = 4
-rank_of (why.Facet reason) = rank_of_facet reason
-rank_of why.BadItem = 11
-rank_of why.BadDefault = 12
-rank_of why.FixedDiffers = 13
-rank_of why.DuplicateUse = 14
-rank_of why.TypesDiffer = 15
-rank_of why.NotClear = 16
 
 abbrev pub fault : LinkWhy → Place → LinkingFault
 fault w p = record { place = p; why = w }

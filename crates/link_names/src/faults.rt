@@ -1,8 +1,10 @@
 //! Faults of linking, and the first of several.
 ghost use Rattle.std.specs.Prelude.{◌≡◌};
-ghost use Rattle.link_names.specs.Order.{rank_of, rank_of_facet, precedes, earlier, first_of};
+ghost use Rattle.link_names.specs.Reasons.{own_name, rank_of, rank_of_facet};
+ghost use Rattle.link_names.specs.Order.{precedes, earlier, first_of};
 
 use crate::places::Place;
+use base_texts::Reason;
 use simple_facets::FacetWhy;
 
 /// Why documents can't be linked. At one place the reasons come in this order,
@@ -33,6 +35,72 @@ pub enum LinkWhy {
     TypesDiffer,
     /// A particle that can't be told apart without looking ahead.
     NotClear,
+}
+
+impl LinkWhy {
+    /// Returns the row of this reason: its name, what it means and what fixes it.
+    pub fn reason(self) -> Reason
+        ensures { result.name.now ≡ own_name self }
+    {
+        match self {
+            LinkWhy::Facet(why) => why.reason(),
+            LinkWhy::Limit => Reason {
+                name: "Limit",
+                means: "more than this program accepts",
+                remedy: "split the type or the set",
+            },
+            LinkWhy::Duplicate => Reason {
+                name: "Duplicate",
+                means: "two global elements, two global attributes or two types have the same name",
+                remedy: "pass each file once",
+            },
+            LinkWhy::Unresolved => Reason {
+                name: "Unresolved",
+                means: "a reference names nothing",
+                remedy: "pass all files of the set",
+            },
+            LinkWhy::ComplexBase => Reason {
+                name: "ComplexBase",
+                means: "a complex type where a simple one is needed",
+                remedy: "name a simple type",
+            },
+            LinkWhy::CircularType => Reason {
+                name: "CircularType",
+                means: "a simple type is defined in terms of itself",
+                remedy: "break the circle",
+            },
+            LinkWhy::BadItem => Reason {
+                name: "BadItem",
+                means: "the item of a list is itself a list, or a union with a list in it",
+                remedy: "use a list of single values",
+            },
+            LinkWhy::BadDefault => Reason {
+                name: "BadDefault",
+                means: "an attribute's type doesn't accept its default or fixed value",
+                remedy: "write a value of the type",
+            },
+            LinkWhy::FixedDiffers => Reason {
+                name: "FixedDiffers",
+                means: "a reference to a global attribute with a fixed value has a default value or another fixed value",
+                remedy: "drop it: the reference has the fixed value anyway",
+            },
+            LinkWhy::DuplicateUse => Reason {
+                name: "DuplicateUse",
+                means: "a type has two attributes with the same name",
+                remedy: "drop one",
+            },
+            LinkWhy::TypesDiffer => Reason {
+                name: "TypesDiffer",
+                means: "two elements of one name in one content model have different types",
+                remedy: "use one named type for both",
+            },
+            LinkWhy::NotClear => Reason {
+                name: "NotClear",
+                means: "a document could have two values under this particle, or one element of lookahead doesn't decide",
+                remedy: "docs/CONTENT-MODELS.md has recipes",
+            },
+        }
+    }
 }
 
 /// A fault of several documents as one set.

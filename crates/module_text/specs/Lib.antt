@@ -18,3 +18,4 @@ pub mod Meaning
 pub mod Printable
 pub mod ReadBack
 pub mod Made
+pub mod Reasons

@@ -1,34 +1,83 @@
 //! Why bytes are no printed module.
 ghost use Rattle.std.specs.Prelude.{◌≡◌};
+ghost use Rattle.module_text.specs.Reasons.{module_reason};
 ghost use Rattle.module_text.specs.declared.reasons.ModuleError.TheVariants.{Memory as NoMemory};
 
-use base_texts::Memory;
+use base_texts::{Memory, Reason};
+use std::fmt;
 use thiserror::Error;
 
 /// Why bytes are no printed module.
-#[derive(Clone, Copy, Debug, PartialEq, Eq, Error)]
+#[derive(Clone, Copy, Debug, PartialEq, Eq)]
 pub enum ModuleWhy {
-    #[error("not valid UTF-8")]
+    /// The bytes aren't UTF-8.
     NotUtf8,
     /// Nothing of the form of a printed module begins so.
-    #[error("not of the form of a printed module")]
     Syntax,
     /// 1,024 types, or as many values, stand round this one.
-    #[error("nested too deeply")]
     TooDeep,
     /// A reference or an identifier that stood before, or a reference that is a reserved word.
-    #[error("a name that is taken")]
     Duplicate,
     /// A reference without an assignment.
-    #[error("no such assignment")]
     Unresolved,
     /// More than four references in a row.
-    #[error("too many references in a row")]
     LongChain,
     /// What no printed module has here.
-    #[error("not as a module is printed")]
     Spelling,
 }
+
+impl ModuleWhy {
+    /// Returns the row of this reason: its name, what it means and what fixes it.
+    pub fn reason(self) -> Reason
+        ensures { result.name.now ≡ module_reason self }
+    {
+        match self {
+            ModuleWhy::NotUtf8 => Reason {
+                name: "NotUtf8",
+                means: "the bytes aren't UTF-8",
+                remedy: "write the module again, with show",
+            },
+            ModuleWhy::Syntax => Reason {
+                name: "Syntax",
+                means: "show never writes this text here",
+                remedy: "write the module again, with show: other ASN.1 notation isn't read",
+            },
+            ModuleWhy::TooDeep => Reason {
+                name: "TooDeep",
+                means: "types or values are nested more than 1,024 deep",
+                remedy: "reject this text",
+            },
+            ModuleWhy::Duplicate => Reason {
+                name: "Duplicate",
+                means: "a reference or an identifier appears twice, or is a reserved word",
+                remedy: "write the module again, with show",
+            },
+            ModuleWhy::Unresolved => Reason {
+                name: "Unresolved",
+                means: "no assignment has this reference",
+                remedy: "write the module again, with show",
+            },
+            ModuleWhy::LongChain => Reason {
+                name: "LongChain",
+                means: "a chain of more than four references begins here",
+                remedy: "write the module again, with show",
+            },
+            ModuleWhy::Spelling => Reason {
+                name: "Spelling",
+                means: "show writes this differently, or not here",
+                remedy: "docs/MODULE-READ.md lists what is written where",
+            },
+        }
+    }
+}
+
+impl fmt::Display for ModuleWhy {
+    fn fmt<W: fmt::Write>(&self, f: &mut fmt::Formatter<W>) -> fmt::Result {
+        f.write_str(self.reason().means)
+    }
+}
+
+impl std::error::Error for ModuleWhy {}
 
 /// What is wrong with a text, and where.
 #[derive(Clone, Copy)]

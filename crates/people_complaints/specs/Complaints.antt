@@ -6,30 +6,9 @@ use Rattle.xml_read.specs.Documents.{DocOf}
 use Rattle.transcode_words.specs.declared.outcome.Outcome.{Outcome}
 use Rattle.transcode_words.specs.declared.outcome.Outcome.TheVariants.{Done, Usage, SchemaSyntax, SchemaFault, LinkFault, UnknownRoot, DocSyntax, Invalid, PerFault, RecordFault, DerFault, ModuleFault, Trailing, TooLong, TooManyNodes, LoadFault, ReadFault, WriteFault, OutOfMemory}
 use Rattle.transcode_words.specs.Lines as lines
+pub use Rattle.transcode_words.specs.Status.{IsNamed}
 use Rattle.people_complaints.specs.Paths.{IsPath}
 use Rattle.people_complaints.specs.Telling.{IsPlaced, explained}
-
--- The name of a reason is that of the fixed program's line, where a facet's reason has a word before it, or else of the outcome.
-abbrev pub IsNamed : Outcome → List ℕ → Type 0
-IsNamed (SchemaSyntax k at why) name = name ≡ lines.reason_name why
-IsNamed (SchemaFault k at why) name = name ≡ lines.schema_reason why
-IsNamed (LinkFault k at why) name = (lines.link_reason why ≡ name) ⊎ (lines.link_reason why ≡ codes "Facet " ++ name)
-IsNamed (DocSyntax at why) name = name ≡ lines.reason_name why
-IsNamed (Invalid at why) name = name ≡ lines.invalid_reason why
-IsNamed (PerFault bit why) name = name ≡ lines.per_reason why
-IsNamed (RecordFault number bit why) name = name ≡ lines.per_reason why
-IsNamed (DerFault at why) name = name ≡ lines.der_reason why
-IsNamed (ModuleFault at why) name = name ≡ lines.module_reason why
-IsNamed Done name = name ≡ codes "Done"
-IsNamed Usage name = name ≡ codes "Usage"
-IsNamed UnknownRoot name = name ≡ codes "UnknownRoot"
-IsNamed (Trailing at) name = name ≡ codes "Trailing"
-IsNamed (TooLong k) name = name ≡ codes "TooLong"
-IsNamed (TooManyNodes count) name = name ≡ codes "TooManyNodes"
-IsNamed (LoadFault k) name = name ≡ codes "LoadFault"
-IsNamed ReadFault name = name ≡ codes "ReadFault"
-IsNamed WriteFault name = name ≡ codes "WriteFault"
-IsNamed OutOfMemory name = name ≡ codes "OutOfMemory"
 
 -- the byte of a text at which an outcome stands
 abbrev pub byte_of : Outcome → Option ℕ

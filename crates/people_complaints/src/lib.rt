@@ -13,11 +13,12 @@ mod text_paths;
 mod text_telling;
 mod words;
 
+pub use base_texts::Reason;
 pub use excerpts::excerpt;
 pub use lines::{Spot, spot_at};
 pub use paths::path_at;
 pub use roots::global_names;
 pub use telling::complaint;
 pub use text_paths::path_of;
-pub use text_telling::{Reason, tell_place, tell_unit, tell_whole};
-pub use words::{NOTE, READ, ROOT, SEVERAL_ROOTS, STAMP, reason_of};
+pub use text_telling::{tell_place, tell_unit, tell_whole};
+pub use words::{NOTE, READ, ROOT, SEVERAL_ROOTS, STAMP};

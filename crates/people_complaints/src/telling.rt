@@ -3,9 +3,8 @@ ghost use Rattle.std.specs.Prelude.{◌≡◌, ◌++◌, [], codes, decimal, IfO
 ghost use Rattle.people_complaints.specs.Telling.{explained};
 ghost use Rattle.people_complaints.specs.Complaints.{IsComplaint};
 
-use crate::text_telling::{Reason, tell_place, tell_unit, tell_whole};
-use crate::words::reason_of;
-use base_texts::Memory;
+use crate::text_telling::{tell_place, tell_unit, tell_whole};
+use base_texts::{Memory, Reason};
 use itoa::Buffer;
 use std::alloc::{AllocError, Global};
 use transcode_words::Outcome;
@@ -45,7 +44,7 @@ pub fn complaint(
 ) -> Result<String, Memory>
     ensures { IfOk result (λ told. IsComplaint outcome name.now contents.now within.now (string_bytes told)) }
 {
-    let reason = reason_of(outcome);
+    let reason = outcome.reason();
     match outcome {
         Outcome::SchemaSyntax { at, .. }
         | Outcome::SchemaFault { at, .. }

@@ -4,17 +4,9 @@ ghost use Rattle.people_complaints.specs.Telling.{IsPlaced, explained};
 
 use crate::excerpts::excerpt;
 use crate::lines::spot_at;
-use base_texts::Memory;
+use base_texts::{Memory, Reason};
 use itoa::Buffer;
 use std::alloc::{AllocError, Global};
-
-/// A reason in words: its name, what it means, and what mends it.
-#[derive(Clone, Copy)]
-pub struct Reason {
-    pub name: &'static str,
-    pub means: &'static str,
-    pub remedy: &'static str,
-}
 
 fn put_three(text: &mut String, first: &str, second: &str, third: &str) -> Result<(), AllocError>
     ensures { OnOk result (string_bytes text.new ≡ string_bytes text.old ++ first.now ++ second.now ++ third.now) }

@@ -6,4 +6,5 @@ pub mod References
 pub mod Scopes
 pub mod Seen
 pub mod Values
+pub mod Reasons
 pub mod Private

@@ -11,4 +11,5 @@ pub mod Applying
 pub mod Making
 pub mod Refusals
 pub mod Restricting
+pub mod Reasons
 pub mod Private

@@ -11,7 +11,7 @@ ghost use Rattle.simple_facets.specs.Private.Deciding.{has_number, has_word, IsT
 ghost use Rattle.simple_facets.specs.Refusals.{why_of};
 ghost use Rattle.simple_facets.specs.Restricting as rule;
 
-use crate::refusals::FacetError;
+use crate::refusals::{FacetError, FacetWhy};
 use base_texts::{Memory, Text, WhiteSpace, treat};
 use simple_types::{
     Facet, NumberList, Simple, TextList, Whole, collapsed_number, has_characters, is_within,
@@ -38,13 +38,13 @@ fn number_item(now: &Simple, text: &Text) -> Result<i128, FacetError>
     ensures { AnswersFacets result (λ due. due ≡ rule.number_item (space_of now.now) text.now) }
 {
     match collapsed_number(text.as_str()) {
-        None => Err(FacetError::NotInBase),
-        Some(Whole::Above | Whole::Below) => Err(FacetError::TooWide),
+        None => Err(FacetError::Refused(FacetWhy::NotInBase)),
+        Some(Whole::Above | Whole::Below) => Err(FacetError::Refused(FacetWhy::TooWide)),
         Some(Whole::Within(n)) => {
             if has_number(now, n) {
                 Ok(n)
             } else {
-                Err(FacetError::NotInBase)
+                Err(FacetError::Refused(FacetWhy::NotInBase))
             }
         }
     }
@@ -82,7 +82,7 @@ fn word_item(
     if has_word(now, &word) {
         Ok(word)
     } else {
-        Err(FacetError::NotInBase)
+        Err(FacetError::Refused(FacetWhy::NotInBase))
     }
 }
 
@@ -217,6 +217,6 @@ pub(crate) fn enumerated(alloc: Global, now: Simple, facets: &[Facet]) -> Result
         Simple::Numbers(_) => enumerated_numbers(alloc, &now, facets),
         Simple::Words { space, .. } => enumerated_words(alloc, *space, &now, facets),
         Simple::Chars { space, .. } => enumerated_words(alloc, *space, &now, facets),
-        _ => Err(FacetError::Misplaced),
+        _ => Err(FacetError::Refused(FacetWhy::Misplaced)),
     }
 }

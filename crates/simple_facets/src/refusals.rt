@@ -1,9 +1,11 @@
 //! Why a type can't be restricted.
 ghost use Rattle.std.specs.Prelude.{◌≡◌};
+ghost use Rattle.simple_facets.specs.Reasons.{facet_reason};
 ghost use Rattle.simple_facets.specs.Refusals.{why_of};
 
-use base_texts::Memory;
+use base_texts::{Memory, Reason};
 use std::alloc::AllocFailed;
+use std::fmt;
 use thiserror::Error;
 
 /// Why a type can't be restricted by its facets (XML Schema Part 2, section 4.3).
@@ -23,37 +25,68 @@ pub enum FacetWhy {
     TooWide,
 }
 
+impl FacetWhy {
+    /// Returns the row of this reason: its name, what it means and what fixes it.
+    pub fn reason(self) -> Reason
+        ensures { result.name.now ≡ facet_reason self }
+    {
+        match self {
+            FacetWhy::Misplaced => Reason {
+                name: "Misplaced",
+                means: "the base has no such facet, or the facet appears twice",
+                remedy: "drop it",
+            },
+            FacetWhy::Widens => Reason {
+                name: "Widens",
+                means: "a facet reaches past the base's own bound on its side",
+                remedy: "a lesser bound, or a wider base",
+            },
+            FacetWhy::NotInBase => Reason {
+                name: "NotInBase",
+                means: "an enumeration isn't a value that the other facets allow",
+                remedy: "fix the word or the bounds",
+            },
+            FacetWhy::EmptySpace => Reason {
+                name: "EmptySpace",
+                means: "the bounds cross, or exclude every value of the base",
+                remedy: "fix the bounds",
+            },
+            FacetWhy::BadNumber => Reason {
+                name: "BadNumber",
+                means: "the facet's value isn't a whole number, digits for a length, or a value of whiteSpace",
+                remedy: "write a whole number",
+            },
+            FacetWhy::TooWide => Reason {
+                name: "TooWide",
+                means: "a bound or an enumeration needs more than 128 bits, or a length is 2^32 or more",
+                remedy: "a smaller bound",
+            },
+        }
+    }
+}
+
+impl fmt::Display for FacetWhy {
+    fn fmt<W: fmt::Write>(&self, f: &mut fmt::Formatter<W>) -> fmt::Result {
+        f.write_str(self.reason().means)
+    }
+}
+
 /// Why no type is made.
 #[derive(Clone, Copy, Debug, PartialEq, Eq, Error)]
 pub enum FacetError {
-    #[error("a facet that the base has not, or a second time")]
-    Misplaced,
-    #[error("a facet that reaches outside the base")]
-    Widens,
-    #[error("an enumeration that is no value of the base")]
-    NotInBase,
-    #[error("no value is left")]
-    EmptySpace,
-    #[error("a facet that is no number")]
-    BadNumber,
-    #[error("a facet with too large a number")]
-    TooWide,
+    #[error("{0}")]
+    Refused(FacetWhy),
     #[error("out of memory")]
     Memory,
 }
 
 impl FacetError {
-    /// The reason, where it isn't want of memory.
+    /// Returns the reason, or nothing where memory is missing.
     pub fn why(self) -> Option<FacetWhy>
         ensures { result ≡ why_of self }
     {
         match self {
-            FacetError::Misplaced => Some(FacetWhy::Misplaced),
-            FacetError::Widens => Some(FacetWhy::Widens),
-            FacetError::NotInBase => Some(FacetWhy::NotInBase),
-            FacetError::EmptySpace => Some(FacetWhy::EmptySpace),
-            FacetError::BadNumber => Some(FacetWhy::BadNumber),
-            FacetError::TooWide => Some(FacetWhy::TooWide),
+            FacetError::Refused(why) => Some(why),
             FacetError::Memory => None,
         }
     }
@@ -66,14 +99,7 @@ impl From<FacetWhy> for FacetError {
     ghost from_gives = { λ why error. why_of error ≡ Some why };
 
     fn from(why: FacetWhy) -> FacetError {
-        match why {
-            FacetWhy::Misplaced => FacetError::Misplaced,
-            FacetWhy::Widens => FacetError::Widens,
-            FacetWhy::NotInBase => FacetError::NotInBase,
-            FacetWhy::EmptySpace => FacetError::EmptySpace,
-            FacetWhy::BadNumber => FacetError::BadNumber,
-            FacetWhy::TooWide => FacetError::TooWide,
-        }
+        FacetError::Refused(why)
     }
 }
 

@@ -8,7 +8,7 @@ ghost use Rattle.simple_facets.specs.Restricting.{Restricted, items_of};
 use crate::constraints::Constraints;
 use crate::enumerating::enumerated;
 use crate::narrowing::{is_empty, narrowed};
-use crate::refusals::FacetError;
+use crate::refusals::{FacetError, FacetWhy};
 use simple_types::{Facet, Simple};
 use std::alloc::Global;
 
@@ -25,7 +25,7 @@ pub fn restrict(alloc: Global, base: &Simple, facets: &[Facet]) -> Result<Simple
     let asked = Constraints::of(base, facets)?;
     let now = narrowed(alloc, base, asked)?;
     if is_empty(&now) {
-        return Err(FacetError::EmptySpace);
+        return Err(FacetError::Refused(FacetWhy::EmptySpace));
     }
     enumerated(alloc, now, facets)
 }

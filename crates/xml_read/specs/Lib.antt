@@ -4,4 +4,5 @@ pub mod Contexts
 pub mod Documents
 pub mod Bindings
 pub mod Same
+pub mod Reasons
 pub mod Private

@@ -1,8 +1,9 @@
 //! Why bytes are no document.
 ghost use Rattle.std.specs.Prelude.{◌≡◌};
+ghost use Rattle.xml_read.specs.Reasons.{reason_name};
 ghost use Rattle.xml_read.specs.declared.error.DocError.TheVariants.{Memory as NoMemory};
 
-use base_texts::Memory;
+use base_texts::{Memory, Reason};
 use std::alloc::{AllocError, AllocFailed};
 use std::fmt;
 use thiserror::Error;
@@ -45,32 +46,98 @@ pub enum DocWhy {
 }
 
 impl DocWhy {
-    /// What is said of this reason, in English.
-    pub fn text(self) -> &'static str {
+    /// Returns the row of this reason: its name, what it means and what fixes it.
+    pub fn reason(self) -> Reason
+        ensures { result.name.now ≡ reason_name self }
+    {
         match self {
-            DocWhy::NotUtf8 => "not valid UTF-8",
-            DocWhy::Doctype => "a document type declaration",
-            DocWhy::Version => "the version isn't 1.0",
-            DocWhy::Encoding => "the encoding is neither UTF-8 nor US-ASCII",
-            DocWhy::BadReference => "no reference to a character that is known",
-            DocWhy::NoPiece => "not well-formed",
-            DocWhy::BadName => "not a qualified name",
-            DocWhy::LongName => "a name is too long",
-            DocWhy::ReservedPrefix => "a reserved prefix or namespace is bound",
-            DocWhy::UnboundPrefix => "a prefix isn't bound",
-            DocWhy::DuplicateAttribute => "an attribute stands twice",
-            DocWhy::ExtraRoot => "an element behind the root",
-            DocWhy::TooDeep => "elements are nested too deep",
-            DocWhy::WrongEnd => "an end tag without its start tag",
-            DocWhy::TextOutside => "text outside the root",
-            DocWhy::Unfinished => "the document isn't finished",
+            DocWhy::NotUtf8 => Reason {
+                name: "NotUtf8",
+                means: "the bytes aren't UTF-8",
+                remedy: "convert the file",
+            },
+            DocWhy::Doctype => Reason {
+                name: "Doctype",
+                means: "a document type declaration",
+                remedy: "drop it, with the entities replaced",
+            },
+            DocWhy::Version => Reason {
+                name: "Version",
+                means: "an XML declaration with a version other than 1.0",
+                remedy: "write version=\"1.0\"",
+            },
+            DocWhy::Encoding => Reason {
+                name: "Encoding",
+                means: "an XML declaration with an encoding other than UTF-8 and US-ASCII",
+                remedy: "convert the file: xmllint --encode UTF-8",
+            },
+            DocWhy::BadReference => Reason {
+                name: "BadReference",
+                means: "a & that doesn't begin a reference",
+                remedy: "write &amp;, or &#160;",
+            },
+            DocWhy::NoPiece => Reason {
+                name: "NoPiece",
+                means: "the text isn't well-formed here",
+                remedy: "write &lt; for <; xmllint --noout FILE gives details",
+            },
+            DocWhy::BadName => Reason {
+                name: "BadName",
+                means: "a name with two colons, or with nothing on one side of one",
+                remedy: "fix the name",
+            },
+            DocWhy::LongName => Reason {
+                name: "LongName",
+                means: "a prefix or a local name has over 255 bytes, or a namespace over 1,023",
+                remedy: "shorten it",
+            },
+            DocWhy::ReservedPrefix => Reason {
+                name: "ReservedPrefix",
+                means: "xml, xmlns or one of their namespaces is bound, or a prefix is bound to the empty string",
+                remedy: "drop the binding",
+            },
+            DocWhy::UnboundPrefix => Reason {
+                name: "UnboundPrefix",
+                means: "a prefix isn't bound",
+                remedy: "bind it",
+            },
+            DocWhy::DuplicateAttribute => Reason {
+                name: "DuplicateAttribute",
+                means: "an attribute appears twice in a tag, perhaps under two prefixes of one namespace",
+                remedy: "drop one",
+            },
+            DocWhy::ExtraRoot => Reason {
+                name: "ExtraRoot",
+                means: "an element after the end of the root",
+                remedy: "pass one document per input",
+            },
+            DocWhy::TooDeep => Reason {
+                name: "TooDeep",
+                means: "elements are nested more than 64 deep",
+                remedy: "flatten the document",
+            },
+            DocWhy::WrongEnd => Reason {
+                name: "WrongEnd",
+                means: "an end tag that isn't that of the open element",
+                remedy: "fix the document",
+            },
+            DocWhy::TextOutside => Reason {
+                name: "TextOutside",
+                means: "characters outside the root",
+                remedy: "drop it",
+            },
+            DocWhy::Unfinished => Reason {
+                name: "Unfinished",
+                means: "the text ends before the root is closed, or without a root",
+                remedy: "pass the complete file",
+            },
         }
     }
 }
 
 impl fmt::Display for DocWhy {
     fn fmt<W: fmt::Write>(&self, f: &mut fmt::Formatter<W>) -> fmt::Result {
-        f.write_str(self.text())
+        f.write_str(self.reason().means)
     }
 }
 
