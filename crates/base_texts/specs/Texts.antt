@@ -1,9 +1,9 @@
 -- Texts as they are kept: in place, or shared.
 use Rattle.std.specs.Prelude.{List, ℕ}
 use Rattle.std.specs.Rc.{rc_str_bytes}
-use Rattle.base_texts.specs.declared.texts.Kept.{Kept}
-use Rattle.base_texts.specs.declared.texts.Kept.TheVariants.{Here, There}
+use Rattle.base_texts.specs.declared.texts.Storage.{Storage}
+use Rattle.base_texts.specs.declared.texts.Storage.TheVariants.{Here, There}
 
-abbrev pub kept_bytes : Kept → List ℕ
+abbrev pub kept_bytes : Storage → List ℕ
 kept_bytes (Here short) = short
 kept_bytes (There long) = rc_str_bytes long

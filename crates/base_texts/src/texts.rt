@@ -146,22 +146,22 @@ impl Short {
 
 // Where the bytes of a text lie. A long text is shared by its copies.
 #[derive(Drop)]
-enum Kept {
+enum Storage {
     Here(Short),
     There(RcStr),
 }
 
-impl Kept {
+impl Storage {
     // Whether both lie in place and are the same there.
     #[inline(always)]
-    fn is_alike(&self, other: &Kept) -> bool
+    fn is_alike(&self, other: &Storage) -> bool
         ensures { IsTrue result → kept_bytes self.now ≡ kept_bytes other.now }
     {
         match self {
-            Kept::There(_) => false,
-            Kept::Here(one) => match other {
-                Kept::There(_) => false,
-                Kept::Here(other) => one.is_alike(other),
+            Storage::There(_) => false,
+            Storage::Here(one) => match other {
+                Storage::There(_) => false,
+                Storage::Here(other) => one.is_alike(other),
             },
         }
     }
@@ -171,7 +171,7 @@ impl Kept {
 /// beside it.
 #[derive(Drop)]
 pub struct Text {
-    kept: Kept,
+    kept: Storage,
 }
 
 impl Model for Text {
@@ -198,7 +198,7 @@ impl Text {
         ensures { result ≡ text.now }
     {
         Text {
-            kept: Kept::Here(Short::of(text)),
+            kept: Storage::Here(Short::of(text)),
         }
     }
 
@@ -211,7 +211,7 @@ impl Text {
         }
         let long = RcStr::from_str(alloc, text)?;
         Ok(Text {
-            kept: Kept::There(long),
+            kept: Storage::There(long),
         })
     }
 
@@ -233,7 +233,7 @@ impl Text {
         }
         let long = RcStr::from_string(string)?;
         Ok(Text {
-            kept: Kept::There(long),
+            kept: Storage::There(long),
         })
     }
 
@@ -262,7 +262,7 @@ impl Text {
             return None;
         }
         Some(Text {
-            kept: Kept::Here(Short {
+            kept: Storage::Here(Short {
                 len: len as u8,
                 bytes,
             }),
@@ -280,7 +280,7 @@ impl Text {
         if len <= ROOM {
             if let Some(front) = bytes.first_chunk::<ROOM>() {
                 return Ok(Text {
-                    kept: Kept::Here(Short {
+                    kept: Storage::Here(Short {
                         len: len as u8,
                         bytes: *front,
                     }),
@@ -295,16 +295,16 @@ impl Text {
         ensures { IfOk result (λ text. text ≡ self.now) }
     {
         match &self.kept {
-            Kept::Here(short) => Ok(Text {
-                kept: Kept::Here(Short {
+            Storage::Here(short) => Ok(Text {
+                kept: Storage::Here(Short {
                     len: short.len,
                     bytes: short.bytes,
                 }),
             }),
-            Kept::There(long) => {
+            Storage::There(long) => {
                 let long = long.clone()?;
                 Ok(Text {
-                    kept: Kept::There(long),
+                    kept: Storage::There(long),
                 })
             }
         }
@@ -323,8 +323,8 @@ impl Text {
         ensures { result.now ≡ self.now }
     {
         match &self.kept {
-            Kept::Here(short) => short.as_str(),
-            Kept::There(long) => long.as_str(),
+            Storage::Here(short) => short.as_str(),
+            Storage::There(long) => long.as_str(),
         }
     }
 }

@@ -1,6 +1,6 @@
 //! The words of the command line, with options.
 use crate::mistakes::mistake;
-use crate::syntaxes::{Syntax, syntax_named, wrong_syntax};
+use crate::syntaxes::{SyntaxOption, syntax_named, wrong_syntax};
 use clap::error::ErrorKind;
 use clap::{Arg, ArgAction, ArgMatches, Command, Error};
 use std::alloc::{AllocError, Global};
@@ -8,7 +8,7 @@ use std::convert::AsStr;
 
 /// What a command does.
 #[derive(Clone, Copy, PartialEq, Eq)]
-pub enum Task {
+pub enum Action {
     Show,
     Check,
     ToPer,
@@ -20,7 +20,7 @@ pub enum Task {
 /// What the words ask for.
 #[derive(Drop)]
 pub struct Asked<'a> {
-    pub task: Task,
+    pub task: Action,
     /// The root element, where it is told.
     pub root: Option<&'a str>,
     /// The schema files; of `trial` the number.
@@ -30,7 +30,7 @@ pub struct Asked<'a> {
     /// The file to write in place of the standard output.
     pub output: Option<&'a str>,
     /// How values become octets.
-    pub syntax: Syntax,
+    pub syntax: SyntaxOption,
     /// Whether the module is written without what X.693 adds to it.
     pub plain: bool,
     /// Whether the stamp of the schemas stands before the octets.
@@ -237,24 +237,24 @@ pub fn matches_of<'a, S: AsStr>(alloc: Global, words: &'a [S]) -> Result<ArgMatc
     command(alloc)?.try_get_matches_from(words)
 }
 
-fn task_of(name: &str) -> Task {
+fn task_of(name: &str) -> Action {
     match name {
-        "show" => Task::Show,
-        "check" => Task::Check,
-        "to-per" => Task::ToPer,
-        "to-xml" => Task::ToXml,
-        "trial" => Task::Trial,
-        _ => Task::Manual,
+        "show" => Action::Show,
+        "check" => Action::Check,
+        "to-per" => Action::ToPer,
+        "to-xml" => Action::ToXml,
+        "trial" => Action::Trial,
+        _ => Action::Manual,
     }
 }
 
-fn has_root(task: Task) -> bool {
-    matches!(task, Task::Check | Task::ToPer | Task::ToXml)
+fn has_root(task: Action) -> bool {
+    matches!(task, Action::Check | Action::ToPer | Action::ToXml)
 }
 
 // The root and the files. Where a task has a root and no option tells it, the first of several words is it, unless it ends in `.xsd`.
 fn rooted<'a, 'b>(
-    task: Task,
+    task: Action,
     option: Option<&'a str>,
     words: &'b [&'a str],
 ) -> (Option<&'a str>, &'b [&'a str]) {
@@ -268,8 +268,8 @@ fn rooted<'a, 'b>(
 
 fn asked_of<'a>(
     alloc: Global,
-    task: Task,
-    syntax: Syntax,
+    task: Action,
+    syntax: SyntaxOption,
     matches: &ArgMatches<'a>,
 ) -> Result<Asked<'a>, Error> {
     let words = matches.get_strs("words").unwrap_or(&[]);

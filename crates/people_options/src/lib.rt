@@ -10,8 +10,8 @@ mod outside;
 mod progress;
 mod syntaxes;
 
-pub use arguments::{Asked, Parsed, Task, parse_words};
+pub use arguments::{Action, Asked, Parsed, parse_words};
 pub use manual::manual_page;
-pub use outside::{Input, Kept, save};
+pub use outside::{Input, LoadedFiles, save};
 pub use progress::Progress;
-pub use syntaxes::Syntax;
+pub use syntaxes::SyntaxOption;

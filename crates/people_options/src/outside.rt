@@ -12,15 +12,15 @@ use std::time::Clock;
 
 /// A library over the files of the system that keeps the contents of each that it has loaded, and hands these out from then on.
 #[derive(Drop)]
-pub struct Kept<'a, R> {
+pub struct LoadedFiles<'a, R> {
     folder: Folder<'a, R>,
     loaded: Vec<(Text, Vec<u8>)>,
     progress: &'a Progress<'a, R>,
 }
 
-impl<'a, R: Files + Clock> Kept<'a, R> {
-    pub fn new(alloc: Global, rt: &'a R, progress: &'a Progress<'a, R>) -> Kept<'a, R> {
-        Kept {
+impl<'a, R: Files + Clock> LoadedFiles<'a, R> {
+    pub fn new(alloc: Global, rt: &'a R, progress: &'a Progress<'a, R>) -> LoadedFiles<'a, R> {
+        LoadedFiles {
             folder: Folder::new(rt),
             loaded: Vec::new(alloc),
             progress,
@@ -67,7 +67,7 @@ fn keep_file(
     }
 }
 
-impl<'a, R: Files + Clock> Library for Kept<'a, R> {
+impl<'a, R: Files + Clock> Library for LoadedFiles<'a, R> {
     ghost entries = { λ _. None };
 
     ghost is_sure = { λ _. false };

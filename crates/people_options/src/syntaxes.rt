@@ -3,25 +3,25 @@ use std::alloc::{AllocError, Global};
 
 /// A transfer syntax: its name, and the words by which the fixed program encodes in it and decodes.
 #[derive(Clone, Copy)]
-pub struct Syntax {
+pub struct SyntaxOption {
     pub name: &'static str,
     pub encoding: &'static str,
     pub decoding: &'static str,
 }
 
 // The first is taken where none is told. A further one is a row here.
-const SYNTAXES: &[Syntax] = &[
-    Syntax {
+const SYNTAXES: &[SyntaxOption] = &[
+    SyntaxOption {
         name: "per",
         encoding: "to-per",
         decoding: "to-xml",
     },
-    Syntax {
+    SyntaxOption {
         name: "uper",
         encoding: "to-per-u",
         decoding: "to-xml-u",
     },
-    Syntax {
+    SyntaxOption {
         name: "der",
         encoding: "to-der",
         decoding: "from-der",
@@ -29,7 +29,7 @@ const SYNTAXES: &[Syntax] = &[
 ];
 
 /// The syntax of this name, or the first.
-pub fn syntax_named(name: Option<&str>) -> Option<Syntax> {
+pub fn syntax_named(name: Option<&str>) -> Option<SyntaxOption> {
     match name {
         Some(name) => SYNTAXES.iter().find(|it| it.name == name).copied(),
         None => SYNTAXES.first().copied(),

@@ -13,7 +13,8 @@ use people_complaints::{
     NOTE, READ, ROOT, SEVERAL_ROOTS, STAMP, complaint, global_names, path_at, tell_whole,
 };
 use people_options::{
-    Asked, Input, Kept, Parsed, Progress, Syntax, Task, manual_page, parse_words, save,
+    Action, Asked, Input, LoadedFiles, Parsed, Progress, SyntaxOption, manual_page, parse_words,
+    save,
 };
 use people_results::{Fault, behind_stamp, due_of, module_of, stamp_line, stamp_of_files, stamped};
 use per_fields::Why;
@@ -33,13 +34,13 @@ fn read_words(rt: &HostRuntime) -> Result<Vec<String>, Outcome> {
 }
 
 // The command of the fixed program.
-fn fixed_command(task: Task, syntax: Syntax) -> &'static str {
+fn fixed_command(task: Action, syntax: SyntaxOption) -> &'static str {
     match task {
-        Task::Show | Task::Manual => "show",
-        Task::Check => "check",
-        Task::ToPer => syntax.encoding,
-        Task::ToXml => syntax.decoding,
-        Task::Trial => "trial",
+        Action::Show | Action::Manual => "show",
+        Action::Check => "check",
+        Action::ToPer => syntax.encoding,
+        Action::ToXml => syntax.decoding,
+        Action::Trial => "trial",
     }
 }
 
@@ -72,7 +73,7 @@ fn root_lines(alloc: Global, names: &[Name]) -> Result<String, Memory> {
 struct Work<'a> {
     asked: &'a Asked<'a>,
     names: Vec<Text>,
-    files: Kept<'a, HostRuntime>,
+    files: LoadedFiles<'a, HostRuntime>,
     input: Input<'a, HostRuntime>,
 }
 
@@ -176,7 +177,7 @@ fn only_root(alloc: Global, work: &mut Work<'_>) -> Result<String, Outcome> {
 // The root, where one is wanted: as it is told, or the only one that there is. Where none is wanted it is empty.
 fn root_of(alloc: Global, work: &mut Work<'_>) -> Result<String, Outcome> {
     let told = match (work.asked.task, work.asked.root) {
-        (Task::Show | Task::Trial | Task::Manual, _) => "",
+        (Action::Show | Action::Trial | Action::Manual, _) => "",
         (_, Some(root)) => root,
         (_, None) => return only_root(alloc, work),
     };
@@ -201,8 +202,8 @@ fn transcoded(alloc: Global, work: &mut Work<'_>, root: &str) -> Result<Vec<u8>,
     let command = fixed_command(asked.task, asked.syntax);
     let (names, files, input) = (&work.names, &mut work.files, &mut work.input);
     match asked.task {
-        Task::ToXml if asked.stamp => behind_stamp(alloc, command, root, names, files, input),
-        Task::ToPer if asked.stamp => {
+        Action::ToXml if asked.stamp => behind_stamp(alloc, command, root, names, files, input),
+        Action::ToPer if asked.stamp => {
             stamped(alloc, command, root, names, files, input).map_err(Fault::Outcome)
         }
         _ => due_of(alloc, command, root, names, files, input).map_err(Fault::Outcome),
@@ -213,8 +214,8 @@ fn transcoded(alloc: Global, work: &mut Work<'_>, root: &str) -> Result<Vec<u8>,
 fn result_of(alloc: Global, work: &mut Work<'_>) -> Result<Vec<u8>, Fault> {
     let asked = work.asked;
     match asked.task {
-        Task::Show if asked.stamp => shown_stamp(alloc, work).map_err(Fault::Outcome),
-        Task::Show if asked.plain => shown_plain(alloc, work).map_err(Fault::Outcome),
+        Action::Show if asked.stamp => shown_stamp(alloc, work).map_err(Fault::Outcome),
+        Action::Show if asked.plain => shown_plain(alloc, work).map_err(Fault::Outcome),
         _ => {
             let root = root_of(alloc, work).map_err(Fault::Outcome)?;
             transcoded(alloc, work, root.as_str())
@@ -227,7 +228,10 @@ fn write_result(rt: &HostRuntime, asked: &Asked<'_>, bytes: &[u8]) -> Result<(),
     let written = match asked.output {
         Some(name) => save(rt.alloc(), rt, name, bytes),
         None => {
-            if asked.task == Task::ToPer && rt.stdout().is_terminal() && rt.stderr().is_terminal() {
+            if asked.task == Action::ToPer
+                && rt.stdout().is_terminal()
+                && rt.stderr().is_terminal()
+            {
                 // A note, whatever becomes of it.
                 let _ = write_all(&mut Writing::new(rt.stderr()), NOTE.as_bytes());
             }
@@ -259,7 +263,7 @@ fn text_of(alloc: Global, work: &mut Work<'_>, fault: Fault) -> Result<String, M
 
 // Whether a terminal is told how much was read: not where somebody types there what is read.
 fn is_watched(rt: &HostRuntime, asked: &Asked<'_>) -> bool {
-    let has_input = asked.input.is_some() || matches!(asked.task, Task::Show | Task::Trial);
+    let has_input = asked.input.is_some() || matches!(asked.task, Action::Show | Action::Trial);
     rt.stderr().is_terminal() && (has_input || !rt.stdin().is_terminal())
 }
 
@@ -270,7 +274,7 @@ fn input_of<'a>(
     progress: &'a Progress<'a, HostRuntime>,
 ) -> Result<Input<'a, HostRuntime>, Memory> {
     // The octets of an encoding have no lines.
-    let keeps = asked.task != Task::ToXml;
+    let keeps = asked.task != Action::ToXml;
     match asked.input {
         Some(name) => Input::file(rt.alloc(), rt, name, progress, keeps),
         None => Input::standard(rt.alloc(), rt.stdin(), progress, keeps),
@@ -288,7 +292,7 @@ fn work_of<'a>(
     Ok(Work {
         asked,
         names: texts(rt.alloc(), asked.files.as_slice())?,
-        files: Kept::new(rt.alloc(), rt, progress),
+        files: LoadedFiles::new(rt.alloc(), rt, progress),
         input,
     })
 }
@@ -358,7 +362,7 @@ fn out_of_memory(rt: &HostRuntime) -> u8 {
 
 // Does what is asked for, and be it the page of the manual: the exit status.
 fn served(rt: &HostRuntime, asked: &Asked<'_>) -> u8 {
-    if asked.task != Task::Manual {
+    if asked.task != Action::Manual {
         let progress = Progress::new(rt, rt.stderr(), READ, is_watched(rt, asked));
         return carry_out(rt, asked, &progress);
     }

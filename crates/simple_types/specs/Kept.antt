@@ -1,8 +1,8 @@
 -- Flags as they are kept: in place, or in a list.
 use Rattle.std.specs.Prelude.{List, Bool}
-use Rattle.simple_types.specs.declared.lists.Kept.{Kept}
-use Rattle.simple_types.specs.declared.lists.Kept.TheVariants.{Here, There}
+use Rattle.simple_types.specs.declared.lists.FlagStorage.{FlagStorage}
+use Rattle.simple_types.specs.declared.lists.FlagStorage.TheVariants.{Here, There}
 
-abbrev pub kept_flags : Kept → List Bool
+abbrev pub kept_flags : FlagStorage → List Bool
 kept_flags (Here few) = few
 kept_flags (There many) = many.value.items

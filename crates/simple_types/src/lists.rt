@@ -7,7 +7,7 @@ use std::marker::Model;
 use std::mem::size_of;
 use std::rc::RcSlice;
 
-// How many flags lie in their value at most: with their number and the tag of `Kept` that is 24 bytes, as many as a list
+// How many flags lie in their value at most: with their number and the tag of `FlagStorage` that is 24 bytes, as many as a list
 // takes.
 const ROOM: usize = 22;
 
@@ -70,7 +70,7 @@ impl Few {
 
 // Where flags lie.
 #[derive(Drop)]
-enum Kept {
+enum FlagStorage {
     Here(Few),
     There(Box<Vec<bool>>),
 }
@@ -78,7 +78,7 @@ enum Kept {
 /// Truth values. Up to 22 of them take no memory of their own.
 #[derive(Drop)]
 pub struct Flags {
-    kept: Kept,
+    kept: FlagStorage,
 }
 
 impl Model for Flags {
@@ -97,7 +97,7 @@ impl Flags {
         ensures { result ≡ [] }
     {
         Flags {
-            kept: Kept::Here(Few::none()),
+            kept: FlagStorage::Here(Few::none()),
         }
     }
 
@@ -107,7 +107,7 @@ impl Flags {
         ensures { OnOk result (self.new ≡ self.old ++ flag ∷ []) }
     {
         match &mut self.kept {
-            Kept::Here(few) => {
+            FlagStorage::Here(few) => {
                 if few.items().len() < ROOM {
                     few.push(flag);
                     return Ok(());
@@ -115,10 +115,10 @@ impl Flags {
                 let mut many = Vec::from_slice(alloc, few.items())?;
                 many.push(flag)?;
                 let many = Box::new(alloc, many)?;
-                self.kept = Kept::There(many);
+                self.kept = FlagStorage::There(many);
                 Ok(())
             }
-            Kept::There(many) => {
+            FlagStorage::There(many) => {
                 many.push(flag)?;
                 Ok(())
             }
@@ -130,8 +130,8 @@ impl Flags {
         ensures { result.now ≡ self.now }
     {
         match &self.kept {
-            Kept::Here(few) => few.items(),
-            Kept::There(many) => many,
+            FlagStorage::Here(few) => few.items(),
+            FlagStorage::There(many) => many,
         }
     }
 
@@ -140,14 +140,14 @@ impl Flags {
         ensures { IfOk result (λ flags. flags ≡ self.now) }
     {
         match &self.kept {
-            Kept::Here(few) => Ok(Flags {
-                kept: Kept::Here(few.copy()),
+            FlagStorage::Here(few) => Ok(Flags {
+                kept: FlagStorage::Here(few.copy()),
             }),
-            Kept::There(many) => {
+            FlagStorage::There(many) => {
                 let many = Vec::from_slice(alloc, many)?;
                 let many = Box::new(alloc, many)?;
                 Ok(Flags {
-                    kept: Kept::There(many),
+                    kept: FlagStorage::There(many),
                 })
             }
         }

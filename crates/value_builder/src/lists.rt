@@ -11,7 +11,7 @@ ghost use Rattle.simple_types.specs.Reading.{reads, read_each, Holds};
 ghost use Rattle.value_builder.specs.Private.Kept.{AreCounted, IsSpelledBy, IsCount, IsKept};
 
 use crate::items::{Items, read_item};
-use crate::unions::Kept;
+use crate::unions::MemberReading;
 use base_flat_trees::Node;
 use base_texts::{Memory, Text, first_word};
 use simple_types::{Simple, SimpleError, ValueLabel, spell};
@@ -112,7 +112,7 @@ pub(crate) fn keep_list(
     min: u32,
     max: Option<u32>,
     text: &str,
-) -> Result<Kept, SimpleError>
+) -> Result<MemberReading, SimpleError>
     requires { Sound (space_of item.now) }
     ensures { MatchResult result
         (IsKept (ListOf (space_of item.now) min max) text.now)
@@ -123,7 +123,7 @@ pub(crate) fn keep_list(
         return Err(SimpleError::BadText);
     }
     let spelling = Text::from_string(spelling)?;
-    Ok(Kept {
+    Ok(MemberReading {
         nodes: items.list_nodes(),
         spelling,
     })

@@ -14,13 +14,13 @@ use std::alloc::Global;
 
 /// What is kept of a value: the number of its nodes, and its spelling.
 #[derive(Drop)]
-pub(crate) struct Kept {
+pub(crate) struct MemberReading {
     pub(crate) nodes: u64,
     pub(crate) spelling: Text,
 }
 
 // What is kept of the value that a member makes of the text.
-fn keep(alloc: Global, member: &Simple, text: &Text) -> Result<Kept, SimpleError>
+fn keep(alloc: Global, member: &Simple, text: &Text) -> Result<MemberReading, SimpleError>
     requires { Sound (space_of member.now) }
     ensures { MatchResult result
         (IsKept (space_of member.now) text.now)
@@ -31,7 +31,7 @@ fn keep(alloc: Global, member: &Simple, text: &Text) -> Result<Kept, SimpleError
         _ => {
             let value = accept(alloc, member, text)?;
             let spelling = spell(alloc, member, &value.root())?;
-            Ok(Kept {
+            Ok(MemberReading {
                 nodes: value.root().count(),
                 spelling,
             })
@@ -40,7 +40,11 @@ fn keep(alloc: Global, member: &Simple, text: &Text) -> Result<Kept, SimpleError
 }
 
 // The number of the first member that accepts the text or finds its number too wide, with what is kept of its value.
-fn take(alloc: Global, members: &[Simple], text: &Text) -> Result<(usize, Kept), SimpleError>
+fn take(
+    alloc: Global,
+    members: &[Simple],
+    text: &Text,
+) -> Result<(usize, MemberReading), SimpleError>
     requires { AreSound (spaces_in members.now) }
     ensures bound { IfOk result (λ taken. taken.0 < length members.now) }
     ensures taken { MatchResult result

@@ -6,7 +6,7 @@ use Rattle.simple_types.specs.declared.labels.ValueLabel.{ValueLabel}
 use Rattle.simple_types.specs.Space.{Space, Spaces}
 use Rattle.simple_types.specs.Reading.{Accepts, taken_by, spelled, spelled_by}
 use Rattle.value_builder.specs.declared.items.Items.{Items}
-use Rattle.value_builder.specs.declared.unions.Kept.{Kept}
+use Rattle.value_builder.specs.declared.unions.MemberReading.{MemberReading}
 
 -- the items of a list are counted, where the greatest number of 64 bits stands for itself and every greater one
 abbrev pub AreCounted : List (Rose ValueLabel) → Items → Type 0
@@ -21,10 +21,10 @@ abbrev pub IsCount : Space → List ℕ → ℕ → Type 0
 IsCount s text nodes = (value : Rose ValueLabel) × Accepts s text value × (nodes ≡ shown_count value)
 
 -- this is kept of the value of the text
-abbrev pub IsKept : Space → List ℕ → Kept → Type 0
+abbrev pub IsKept : Space → List ℕ → MemberReading → Type 0
 IsKept s text kept = (value : Rose ValueLabel) × Accepts s text value × (kept.nodes ≡ shown_count value) × (kept.spelling ≡ spelled s value)
 
 -- this is kept of what the member with this number makes of the text, which takes it
-abbrev pub IsTaken : Spaces → List ℕ → ℕ → Kept → Type 0
+abbrev pub IsTaken : Spaces → List ℕ → ℕ → MemberReading → Type 0
 IsTaken members text member kept =
     (value : Rose ValueLabel) × (taken_by members text ≡ Ok (member, value)) × (kept.nodes ≡ shown_count value) × (kept.spelling ≡ spelled_by members member value)
