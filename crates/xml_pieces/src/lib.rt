@@ -26,4 +26,4 @@ pub use reason::{NoneWhy, plain_run, why_none};
 pub use scope::BindingsInScope;
 pub use short_lists::push;
 pub use text::is_ascii_ncname;
-pub use written_names::{binds, bound_prefix, is_long, is_plain, is_reserved};
+pub use written_names::{binds, bound_prefix, is_ascii_name_alone, is_long, is_reserved};

@@ -8,7 +8,7 @@ use crate::text::is_ascii_ncname;
 use base_texts::{XML_SPACE, XMLNS_SPACE, is_short_part};
 
 /// Whether it is of ASCII characters, and there is nothing against it, and no prefix: as most names.
-pub fn is_plain(written: &[u8]) -> bool
+pub fn is_ascii_name_alone(written: &[u8]) -> bool
     ensures { IsTrue result → IsPlain written.now }
 {
     is_short_part(written) && is_ascii_ncname(written)

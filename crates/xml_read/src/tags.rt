@@ -16,8 +16,8 @@ use crate::error::{DocError, DocWhy};
 use base_texts::{Memory, Name, Text, is_short_space};
 use std::alloc::Global;
 use xml_pieces::{
-    Attribute, BindingsInScope, Element, Value, binds, bound_prefix, has_duplicate, is_long,
-    is_plain, is_qname, is_reserved, local_of, prefix_of, push,
+    Attribute, BindingsInScope, Element, Value, binds, bound_prefix, has_duplicate,
+    is_ascii_name_alone, is_long, is_qname, is_reserved, local_of, prefix_of, push,
 };
 
 pub(crate) fn value_of<'v>(value: &'v Value<'_>) -> &'v [u8]
@@ -346,7 +346,7 @@ pub(crate) fn enter<'a>(
     ensures scope { OnOk result (scope.new ≡ scope.old ++ reverse (names.bindings_of (tag_seen tag.now).attributes)) }
     ensures err { IfErr result (Stopped (contexts.start_reason (tag_seen tag.now) (reverse scope.old) ended depth) at) }
 {
-    if tag.attributes.is_empty() && is_plain(tag.name) {
+    if tag.attributes.is_empty() && is_ascii_name_alone(tag.name) {
         return enter_plain(alloc, scope, ended, depth, tag, at);
     }
     if let Some(why) = first_of_names(tag) {
