@@ -2,6 +2,5 @@ pub mod Sound
 pub mod Tokens
 pub mod Contexts
 pub mod Documents
-pub mod Bindings
 pub mod Same
 pub mod Private
