@@ -1,6 +1,6 @@
 -- The steps of a builder.
-use Rattle.std.proofs.Common.{◌≡◌, ℕ, zero, suc, ◌<◌, List, [], ◌∷◌, length, map, refl, ap, ◌∙◌, sym, subst, arith}
-use Rattle.std.specs.Prelude.{Some, None, slice_get, Result, Ok, Err, OnOk, OnErr}
+use Rattle.std.proofs.Common.{◌≡◌, ℕ, ◌<◌, List, [], ◌∷◌, length, map, refl, ap, ◌∙◌, sym, subst, arith}
+use Rattle.std.specs.Prelude.{Some, None, Result, Ok, Err, OnOk, OnErr}
 use Rattle.base_texts.specs.declared.texts.Name.{Name}
 use Rattle.base_trees.specs.Rose.{Rose, node, none, roses_of}
 use Rattle.base_trees.proofs.Roses.{all_allowed-append, allowed-node}
@@ -123,9 +123,3 @@ on_err (Err e) p = p
 pub either_way : {T E P Q X : Type 0} (r : Result T E) → OnOk r P → OnErr r Q → (P → X) → (Q → X) → X
 either_way (Ok x) p q f g = f p
 either_way (Err e) p q f g = g q
-
--- a kid of a tree that fits
-pub fit_at : (s : Store) (ts : List (Rose Kept)) (i : ℕ) (t : Rose Kept) → FitAll s ts → slice_get ts i ≡ Some t → FitTree s t
-fit_at s [] i t h e = absurd (cc)
-fit_at s (u ∷ us) zero t h e = let same : u ≡ t = cc in subst (FitTree s) same h.0
-fit_at s (u ∷ us) (suc i) t h e = fit_at s us i t h.1 e

@@ -64,7 +64,7 @@ impl ItemBuilder {
         }
     }
 
-    /// The same for this document, which the items share, so that characters needn't be copied.
+    /// Returns a builder without items for this document. The items share the document, so its characters aren't copied.
     pub fn of_document(alloc: Global, document: Document) -> ItemBuilder
         ensures { result.zip ≡ nothing }
     {

@@ -35,7 +35,7 @@ impl Document {
         self.bytes.as_slice()
     }
 
-    /// The same document for another owner. It takes no memory.
+    /// Returns another handle to this document, which shares its bytes. Allocates nothing.
     pub fn share(&self) -> Result<Document, Memory>
         ensures { IfOk result (λ document. document ≡ self.now) }
     {

@@ -1,5 +1,5 @@
 //! Nodes of items that stand elsewhere, and their kids.
-ghost use Rattle.std.specs.Prelude.{◌≡◌, ◌<◌, ◌≤◌, IfOk, IsTrue, ◌↔◌, [], Some, length, slice_get};
+ghost use Rattle.std.specs.Prelude.{◌≡◌, ◌≤◌, IfOk, IsTrue, ◌↔◌, [], length};
 ghost use Rattle.std.specs.Iterator.{YieldsFirst, item_count};
 ghost use Rattle.base_trees.specs.Rose.{label_of, kids_of, node_count};
 ghost use Rattle.xml_items.specs.Labels.{item_place};
@@ -140,7 +140,7 @@ impl<'a> ItemNode<'a> {
         }
     }
 
-    /// The same node again.
+    /// Returns another handle to this node.
     #[inline(always)]
     pub fn again(&self) -> ItemNode<'a>
         ensures { result ≡ self.now }
@@ -158,22 +158,10 @@ impl<'a> ItemNode<'a> {
     {
         (self.node.count() as usize).saturating_sub(self.store.text_count())
     }
-
-    /// The kid of the node with this number, for which it visits those before it. The first has the number 0.
-    pub fn kid(&self, i: usize) -> ItemNode<'a>
-        requires { i < length (kids_of self.now) }
-        ensures { slice_get (kids_of self.now) i ≡ Some result }
-    {
-        let node = self.node.kid(i);
-        ItemNode {
-            node,
-            store: self.store,
-        }
-    }
 }
 
 impl<'a> ItemKids<'a> {
-    /// The same nodes again.
+    /// Returns another iterator over the nodes that are left.
     #[inline(always)]
     pub fn again(&self) -> ItemKids<'a>
         ensures { result ≡ self.now }

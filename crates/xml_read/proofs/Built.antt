@@ -1,5 +1,5 @@
 -- The code's steps as steps of states.
-use Rattle.std.proofs.Common.{◌≡◌, ℕ, suc, ◌-◌, ◌≤◌, ◌<◌, Bool, true, false, cond, List, [], ◌∷◌, ◌++◌, length, map, take, reverse, None, refl, sym, ap, subst, ◌∙◌, arith, inl, inr, append_assoc}
+use Rattle.std.proofs.Common.{◌≡◌, ℕ, suc, ◌-◌, ◌≤◌, ◌<◌, Bool, true, false, cond, List, [], ◌∷◌, ◌++◌, length, map, take, reverse, Option, None, refl, sym, ap, subst, ◌∙◌, arith, inl, inr, append_assoc}
 use Rattle.std.specs.Prelude.{nat_eq, nat_le, not, ◌==◌, ◌&&◌, encode_utf8, string_bytes}
 use Rattle.std.specs.List.{flat_map}
 use Rattle.std.proofs.lemmas.List.{length-append, length-map, length-reverse, reverse-append, reverse-reverse, take-append-le, take_all}
@@ -18,6 +18,7 @@ use Rattle.xml_items.specs.declared.label.ItemLabel.TheVariants.{Element, Text}
 use Rattle.xml_read.specs.declared.builder.Builder.{Builder}
 use Rattle.xml_read.specs.declared.notes.Notes.{Notes}
 use Rattle.xml_read.specs.declared.error.DocWhy.{DocWhy}
+use Rattle.xml_read.specs.declared.error.DocError.{DocError}
 use Rattle.xml_read.specs.declared.error.DocWhy.TheVariants as why
 use Rattle.xml_pieces.specs.Namespaces.{bindings_of, attributes_of, element_name}
 use Rattle.xml_read.specs.Contexts.{Context, Open, is_innermost, is_outside, brackets_after, scope, tag_scope, start_reason, reason, end_tests}
@@ -28,7 +29,7 @@ use Rattle.xml_items.specs.Growing.{Grows}
 use Rattle.xml_items.proofs.Growth.{grows-same}
 use Rattle.xml_read.specs.Private.Noting.{AllKnown}
 use Rattle.xml_read.proofs.Noted.{noted-grown}
-use Rattle.xml_read.specs.Private.Entering.{EntersAs, IsNamed}
+use Rattle.xml_read.specs.Private.Entering.{EntersAs, IsNamed, Stopped, place_tests}
 use Rattle.xml_read.specs.Private.Building.{up_in, above_of, aboves, state, node_of, AreNamed, Scoped, Takes, PutsLeaf, Flushed, Shuts, Kept}
 use Rattle.xml_read.proofs.Entered.{inside_is}
 use Rattle.xml_read.proofs.OpenNames.{named_tag, ends_named}
@@ -84,8 +85,16 @@ start_stops b tag depth scoped e = here b tag depth scoped e ∙ start_is tag (c
 pub empty_stops : (b : Builder) (tag : Tag) (depth : ℕ) → Scoped b → depth ≡ length b.open.items → start_reason tag (reverse b.scope) b.ended depth ≡ reason (Empty tag) (context (state b))
 empty_stops b tag depth scoped e = here b tag depth scoped e ∙ empty_is tag (context (state b))
 
-pub enters_here : (b : Builder) (tag : Tag) (depth : ℕ) (name : Name) (attributes : List (Name × List ℕ)) (declares : List (List ℕ × List ℕ)) → depth ≡ length b.open.items → EntersAs (reverse b.scope) b.ended depth tag name attributes declares → EntersAs (reverse b.scope) b.ended (length b.open.items) tag name attributes declares
-enters_here b tag depth name attributes declares e enters = subst (λ (n : ℕ). EntersAs (reverse b.scope) b.ended n tag name attributes declares) e enters
+-- the place of a tag is where the reader is
+pub enters_here : (b : Builder) (tag : Tag) (ended : Bool) (depth : ℕ) (name : Name) (attributes : List (Name × List ℕ)) (declares : List (List ℕ × List ℕ)) → ended ≡ b.ended → depth ≡ length b.open.items → EntersAs (reverse b.scope) ended depth tag name attributes declares → EntersAs (reverse b.scope) b.ended (length b.open.items) tag name attributes declares
+enters_here b tag ended depth name attributes declares f e enters = subst (λ (n : ℕ). EntersAs (reverse b.scope) b.ended n tag name attributes declares) e (subst (λ (x : Bool). EntersAs (reverse b.scope) x depth tag name attributes declares) f enters)
+
+pub stops_here : (b : Builder) (tag : Tag) (ended : Bool) (depth place at : ℕ) (error : DocError) (why : Option DocWhy) → start_reason tag (reverse b.scope) b.ended depth ≡ why → ended ≡ b.ended → place ≡ at → Stopped (start_reason tag (reverse b.scope) ended depth) place error → Stopped why at error
+stops_here b tag ended depth place at error why is f e stopped =
+    subst (λ (n : ℕ). Stopped why n error) e (subst (λ (o : Option DocWhy). Stopped o place error) (ap (λ (x : Bool). start_reason tag (reverse b.scope) x depth) f ∙ is) stopped)
+
+pub none_here : (b : Builder) (ended : Bool) (depth : ℕ) → ended ≡ b.ended → depth ≡ length b.open.items → first_true (place_tests ended depth) ≡ None → first_true (place_tests b.ended (length b.open.items)) ≡ None
+none_here b ended depth f e none = ap (λ (x : Bool). first_true (place_tests x (length b.open.items))) (sym f) ∙ ap (λ (n : ℕ). first_true (place_tests ended n)) (sym e) ∙ none
 
 pub end_stops : (b : Builder) (written : List ℕ) → Scoped b → first_true (end_tests written (reverse b.scope) (context (state b)).elements) ≡ reason (End written) (context (state b))
 unfolding reason
@@ -292,6 +301,10 @@ flushed_scoped old mid scoped flushed =
       nodes = ap (map node_of) above ∙ scoped.nodes ∙ sym flushed.same_above;
       noted = notes_on old mid (ap reverse (sym flushed.same_scope)) (grows-same old.items.names mid.items.names flushed.same_names) flushed.same_notes scoped.noted;
     }
+
+-- the notes are right where the characters are a node
+pub flushed_noted : (old early mid : Builder) → Scoped old → Flushed early mid → early.scope ≡ old.scope → early.items ≡ old.items → early.notes ≡ old.notes → AllKnown (reverse mid.scope) mid.items.names mid.notes.written.items mid.notes.names.items
+flushed_noted old early mid scoped flushed s i n = notes_on old mid (ap reverse (sym (flushed.same_scope ∙ s))) (grows-same old.items.names mid.items.names (flushed.same_names ∙ ap (λ (b : Building). b.names) i)) (flushed.same_notes ∙ n) scoped.noted
 
 pub flushed_inside : (old mid : Builder) (written : List ℕ) → reason (End written) (context (state old)) ≡ None → Flushed old mid → is_empty (state mid).above ≡ false
 flushed_inside old mid written none flushed = ap is_empty (above_flushed old mid flushed) ∙ not_true _ (some_innermost written (state old).above (innermost_is written (context (state old)) none))

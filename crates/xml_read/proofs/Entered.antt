@@ -1,6 +1,6 @@
 -- The reasons against a tag, part by part.
 use Rattle.std.proofs.Common.{◌≡◌, ℕ, Bool, true, false, List, [], ◌∷◌, ◌++◌, Some, None, refl, sym, ap, ◌∙◌}
-use Rattle.std.specs.Prelude.{◌||◌, reverse, nat_le}
+use Rattle.std.specs.Prelude.{◌||◌, reverse}
 use Rattle.std.proofs.lemmas.List.{reverse-append, reverse-reverse}
 use Rattle.base_texts.specs.Entries.{beside, first_true}
 use Rattle.xml_pieces.specs.Pieces.{Tag}
@@ -9,14 +9,11 @@ use Rattle.xml_read.specs.declared.error.DocWhy.TheVariants as why
 use Rattle.xml_pieces.specs.Namespaces.{bindings_of, attributes_of, element_name, written_twice, expanded_twice, is_unbound, or_absent}
 use Rattle.xml_read.specs.declared.tags.Head.{Head}
 use Rattle.xml_pieces.specs.Plain.{IsPlain}
-use Rattle.xml_read.specs.Private.Entering.{Enters, inner_tests}
+use Rattle.xml_read.specs.Private.Entering.{Enters, inner_tests, place_tests}
 use Rattle.xml_read.specs.Contexts.{has_bad_name, has_long_name, has_reserved, has_unbound, tag_scope, start_reason}
 
 abbrev pub name_tests : Tag → List (Bool × DocWhy)
 name_tests tag = (has_bad_name tag, why.BadName) ∷ (has_long_name tag, why.LongName) ∷ (has_reserved tag, why.ReservedPrefix) ∷ []
-
-abbrev pub place_tests : Bool → ℕ → List (Bool × DocWhy)
-place_tests ended depth = (ended, why.ExtraRoot) ∷ (nat_le 64 depth, why.TooDeep) ∷ []
 
 some_first : (b : Bool) (w v : DocWhy) (xs ys : List (Bool × DocWhy)) → (first_true xs ≡ Some v → first_true ys ≡ Some v) → first_true ((b, w) ∷ xs) ≡ Some v → first_true ((b, w) ∷ ys) ≡ Some v
 some_first true w v xs ys h e = e

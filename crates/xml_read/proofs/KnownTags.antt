@@ -1,6 +1,6 @@
 -- Tags that are taken by names as they were written before.
 use Rattle.std.proofs.Common.{◌≡◌, ℕ, ◌+◌, ◌-◌, ◌≤◌, ◌<◌, Bool, true, false, List, [], ◌∷◌, ◌++◌, length, map, take, Option, None, Some, refl, sym, ap, subst, ◌∙◌, inl, inr, arith}
-use Rattle.std.specs.Prelude.{IsUtf8, reverse, not, slice_get, IfSome, IfOk, MatchOption, Result, Ok, Err}
+use Rattle.std.specs.Prelude.{IsUtf8, reverse, not, slice_get, IfSome, IfOk, IfErr, MatchOption, Result}
 use Rattle.std.specs.Borrow.{Bor}
 use Rattle.std.proofs.Math.Seq.{get_or-append_seam}
 use Rattle.std.proofs.lemmas.List.{length-append, length-take-le}
@@ -13,14 +13,15 @@ use Rattle.xml_read.specs.declared.builder.Builder.{Builder}
 use Rattle.xml_pieces.specs.QNames.{is_qname}
 use Rattle.xml_read.specs.Contexts.{Context, is_innermost, scope, reason, start_reason, start_tests, end_tests}
 use Rattle.xml_read.specs.Private.States.{context, open_of, opened, added}
-use Rattle.xml_read.specs.Private.Building.{aboves, state, Scoped, Takes, TakesFirst, TakesKnown, IsLeaf, PutsLeaf, StartsKnown, EndsInnermost, Flushed, Shuts}
-use Rattle.xml_read.specs.Private.Entering.{IsNamed}
+use Rattle.xml_read.specs.Private.Building.{aboves, state, Scoped, Takes, TakesFirst, TakesKnown, IsLeaf, PutsLeaf, CanPut, StopsFirst, EndsInnermost, Flushed, Shuts}
+use Rattle.xml_read.specs.Private.Entering.{IsNamed, Stopped}
 use Rattle.xml_read.specs.Private.Noting.{bare}
 use Rattle.base_texts.specs.Entries.{first_true}
 use Rattle.base_texts.specs.Limits.{is_empty}
 use Rattle.xml_read.proofs.OpenNames.{named_tag, ends_named}
 use Rattle.xml_read.proofs.Known.{laws}
-use Rattle.base_texts.specs.declared.texts.Memory.{Memory}
+use Rattle.xml_read.specs.declared.error.DocError.{DocError}
+use Rattle.xml_read.specs.declared.error.DocError.TheVariants as errors
 use Rattle.xml_read.proofs.Telling.{passed}
 use Rattle.xml_read.proofs.Soundness.{or_parts}
 use Rattle.xml_read.proofs.Built.{aboves-push, last_of, end_stops, ends_open, end_takes}
@@ -77,16 +78,16 @@ pub start_named : (name : List ℕ) (c : Context) → reason (Start (bare name))
 unfolding reason
 start_named name c e = not_false (is_qname name) (or_parts _ _ (passed (start_tests (bare name) (scope c) c.ended (length c.elements)) e).0).0
 
-pub some_start : (r : Option (Bor (List ℕ))) (name tag : List ℕ) (c : Context) → reason (Start (bare name)) c ≡ None → IfSome r (λ behind. tag ≡ name ++ 0x3E ∷ behind.now) → IfSome r (λ behind. StartsKnown name tag behind.now c)
-some_start None name tag c none e = tt
-some_start (Some behind) name tag c none e = record { none = none; parts = e }
-
-pub start_taken : (name tag behind : List ℕ) (old new : Builder) (at : ℕ) → StartsKnown name tag behind (context (state old)) → Takes (Start (bare name)) at old new → TakesFirst (0x3C ∷ tag) behind at old new
-start_taken name tag behind old new at s takes = record {
+pub start_taken : (name tag behind : List ℕ) (old new : Builder) (at : ℕ) → tag ≡ name ++ 0x3E ∷ behind → Takes (Start (bare name)) at old new → TakesFirst (0x3C ∷ tag) behind at old new
+start_taken name tag behind old new at parts takes = record {
   piece = Start (bare name);
-  begins = start_begins name (0x3C ∷ tag) behind (start_named name (context (state old)) s.none) (ap (λ (x : List ℕ). 0x3C ∷ x) s.parts);
+  begins = start_begins name (0x3C ∷ tag) behind (start_named name (context (state old)) takes.none) (ap (λ (x : List ℕ). 0x3C ∷ x) parts);
   takes = takes;
 }
+
+pub start_stopped : (name tag behind : List ℕ) (old : Builder) (at : ℕ) (e : DocError) → is_qname name ≡ true → tag ≡ name ++ 0x3E ∷ behind → Stopped (reason (Start (bare name)) (context (state old))) at e → StopsFirst (0x3C ∷ tag) at old e
+start_stopped name tag behind old at (errors.Syntax place why) qname parts stopped = (Start (bare name), behind, start_begins name (0x3C ∷ tag) behind qname (ap (λ (x : List ℕ). 0x3C ∷ x) parts), stopped)
+start_stopped name tag behind old at errors.Memory qname parts stopped = tt
 
 -- ---- an element of plain characters alone
 
@@ -97,14 +98,17 @@ not_empty (x ∷ xs) some = refl
 pub some_front : (len : ℕ) (bytes : List ℕ) → 0 < len → len ≤ length bytes → is_empty (take len bytes) ≡ false
 some_front len bytes some within = not_empty (take len bytes) (omega (arith, some, length-take-le len bytes within))
 
-pub inner_utf8 : (name tag behind : List ℕ) (c : Context) → StartsKnown name tag behind c → IsUtf8 (0x3C ∷ tag) → IsUtf8 behind
-inner_utf8 name tag behind c s u = laws.utf8 (Start (bare name)) (0x3C ∷ tag) behind u (start_begins name (0x3C ∷ tag) behind (start_named name c s.none) (ap (λ (x : List ℕ). 0x3C ∷ x) s.parts))
+pub inner_utf8 : (name tag behind : List ℕ) → is_qname name ≡ true → tag ≡ name ++ 0x3E ∷ behind → IsUtf8 (0x3C ∷ tag) → IsUtf8 behind
+inner_utf8 name tag behind qname parts u = laws.utf8 (Start (bare name)) (0x3C ∷ tag) behind u (start_begins name (0x3C ∷ tag) behind qname (ap (λ (x : List ℕ). 0x3C ∷ x) parts))
 
-pub within_tag : (name tag behind : List ℕ) (c : Context) (at : ℕ) → StartsKnown name tag behind c → at + length tag ≤ 16777216 → at + length name ≤ 16777216
-within_tag name tag behind c at s h = omega (arith, ap length s.parts, length-append name (0x3E ∷ behind))
+within_tag : (name tag behind : List ℕ) (at : ℕ) → tag ≡ name ++ 0x3E ∷ behind → at + length tag ≤ 16777216 → at + length name ≤ 16777216
+within_tag name tag behind at parts h = omega (arith, ap length parts, length-append name (0x3E ∷ behind))
 
-pub leaf_taken : (name tag inner behind : List ℕ) (len : ℕ) (old new : Builder) (at : ℕ) → StartsKnown name tag inner (context (state old)) → IsLeaf name inner len behind → PutsLeaf (bare name) at (take len inner) (at + length name + 2) old new → TakesKnown (0x3C ∷ tag) behind at old new
-leaf_taken name tag inner behind len old new at s leaf puts = inr (record { name = name; inner = inner; len = len; none = s.none; parts = ap (λ (x : List ℕ). 0x3C ∷ x) s.parts; leaf = leaf; puts = puts })
+pub leaf_can : (name tag inner behind : List ℕ) (len at : ℕ) → tag ≡ name ++ 0x3E ∷ inner → IsLeaf name inner len behind → at + length tag ≤ 16777216 → CanPut name inner len at
+leaf_can name tag inner behind len at parts leaf h = record { some = leaf.some; within = leaf.within; run = leaf.run; place = within_tag name tag inner at parts h }
+
+pub leaf_taken : (name tag inner behind : List ℕ) (len : ℕ) (old new : Builder) (at : ℕ) → tag ≡ name ++ 0x3E ∷ inner → IsLeaf name inner len behind → (reason (Start (bare name)) (context (state old)) ≡ None) × PutsLeaf (bare name) at (take len inner) (at + length name + 2) old new → TakesKnown (0x3C ∷ tag) behind at old new
+leaf_taken name tag inner behind len old new at parts leaf puts = inr (record { name = name; inner = inner; len = len; none = puts.0; parts = ap (λ (x : List ℕ). 0x3C ∷ x) parts; leaf = leaf; puts = puts.1 })
 
 named_inside : (name : List ℕ) (c : Context) → reason (Start (bare name)) c ≡ None → IsNamed name (scope c)
 unfolding reason start_reason
@@ -122,17 +126,19 @@ leaf_ends name b at text text_at scoped none =
 
 -- ---- what is taken, or nothing
 
-abbrev pub Taken : List ℕ → ℕ → Builder → Builder → Result (Option (Bor (List ℕ))) Memory → Type 0
-Taken rest at old new result = IfOk result (λ found. MatchOption found (new ≡ old) (λ behind. TakesKnown rest behind.now at old new))
+abbrev pub Taken : List ℕ → ℕ → Builder → Builder → Option (Bor (List ℕ)) → Type 0
+Taken rest at old new found = MatchOption found (new ≡ old) (λ behind. TakesKnown rest behind.now at old new)
 
-pub end_or_none : (rest tag : List ℕ) (at : ℕ) (old new : Builder) (r : Result (Option (Bor (List ℕ))) Memory) → rest ≡ 0x3C ∷ 0x2F ∷ tag
-    → IfOk r (λ found. MatchOption found (new ≡ old) (λ behind. (n : ℕ) → TakesFirst (0x3C ∷ 0x2F ∷ tag) behind.now n old new)) → Taken rest at old new r
-end_or_none rest tag at old new (Err e) is h = tt
-end_or_none rest tag at old new (Ok None) is h = h
-end_or_none rest tag at old new (Ok (Some behind)) is h = inl (subst (λ (x : List ℕ). TakesFirst x behind.now at old new) (sym is) (h at))
+pub end_or_none : (rest tag : List ℕ) (at : ℕ) (old new : Builder) (found : Option (Bor (List ℕ))) → rest ≡ 0x3C ∷ 0x2F ∷ tag
+    → MatchOption found (new ≡ old) (λ behind. (n : ℕ) → TakesFirst (0x3C ∷ 0x2F ∷ tag) behind.now n old new) → Taken rest at old new found
+end_or_none rest tag at old new None is h = h
+end_or_none rest tag at old new (Some behind) is h = inl (subst (λ (x : List ℕ). TakesFirst x behind.now at old new) (sym is) (h at))
 
 pub tag_within : (rest tag : List ℕ) (at : ℕ) → rest ≡ 0x3C ∷ tag → at + length rest ≤ 16777216 → at + length tag ≤ 16777216
 tag_within rest tag at is h = omega (arith, ap length is)
 
-pub start_or_none : (rest tag : List ℕ) (at : ℕ) (old new : Builder) (r : Result (Option (Bor (List ℕ))) Memory) → rest ≡ 0x3C ∷ tag → Taken (0x3C ∷ tag) at old new r → Taken rest at old new r
-start_or_none rest tag at old new r is h = subst (λ (x : List ℕ). Taken x at old new r) (sym is) h
+pub start_or_none : (rest tag : List ℕ) (at : ℕ) (old new : Builder) (r : Result (Option (Bor (List ℕ))) DocError) → rest ≡ 0x3C ∷ tag → IfOk r (Taken (0x3C ∷ tag) at old new) → IfOk r (Taken rest at old new)
+start_or_none rest tag at old new r is h = subst (λ (x : List ℕ). IfOk r (Taken x at old new)) (sym is) h
+
+pub start_or_stops : (rest tag : List ℕ) (at : ℕ) (old : Builder) (r : Result (Option (Bor (List ℕ))) DocError) → rest ≡ 0x3C ∷ tag → IfErr r (StopsFirst (0x3C ∷ tag) at old) → IfErr r (StopsFirst rest at old)
+start_or_stops rest tag at old r is h = subst (λ (x : List ℕ). IfErr r (StopsFirst x at old)) (sym is) h

@@ -1,9 +1,11 @@
 -- Notes of written names, and tags whose name is noted.
-use Rattle.std.proofs.Common.{inl, inr, ◌≡◌, ℕ, zero, suc, ◌-◌, ◌≤◌, Bool, true, false, List, [], ◌∷◌, ◌++◌, length, map, take, None, Some, refl, sym, ap, subst, ◌∙◌, arith}
+use Rattle.std.proofs.Common.{inl, inr, ◌≡◌, ℕ, zero, suc, ◌-◌, ◌≤◌, Bool, true, false, List, [], ◌∷◌, ◌++◌, length, map, take, Option, None, Some, refl, sym, ap, subst, ◌∙◌, arith}
 use Rattle.std.specs.Prelude.{Result, Ok, Err, OnOk, slice_get, reverse, not, nat_eq}
 use Rattle.std.proofs.lemmas.Bool.Decides.{eqb_tells}
 use Rattle.std.proofs.lemmas.List.{append-nil, take_all}
 use Rattle.base_texts.specs.declared.texts.Name.{Name}
+use Rattle.xml_read.specs.declared.error.DocWhy.{DocWhy}
+use Rattle.xml_read.specs.declared.error.DocError.{DocError}
 use Rattle.base_texts.specs.Entries.{first_true}
 use Rattle.xml_items.specs.Growing.{Grows}
 use Rattle.xml_items.specs.Building.{name_at, name_in}
@@ -14,9 +16,9 @@ use Rattle.xml_pieces.specs.Found.{tag_seen, attribute_of}
 use Rattle.std.specs.Borrow.{Bor}
 use Rattle.xml_pieces.specs.Namespaces.{bindings_of, element_name}
 use Rattle.xml_read.specs.Contexts.{tag_scope, start_reason}
-use Rattle.xml_read.specs.Private.Entering.{IsNamed, EntersAs}
+use Rattle.xml_read.specs.Private.Entering.{IsNamed, EntersAs, Stopped, place_tests}
 use Rattle.xml_read.specs.Private.Noting.{KnownAs, AllKnown, bare}
-use Rattle.xml_read.proofs.Entered.{place_tests, inside_is}
+use Rattle.xml_read.proofs.Entered.{inside_is}
 use Rattle.xml_read.proofs.OpenNames.{named_tag}
 
 module _ (inside : List (List ℕ × List ℕ)) (names : List Name) where
@@ -71,6 +73,10 @@ not_false false e = absurd (cc)
 pub noted_reason : (tag : Tag) (outer : List (List ℕ × List ℕ)) (ended : Bool) (depth : ℕ) → tag.attributes ≡ [] → IsNamed tag.name outer → start_reason tag outer ended depth ≡ first_true (place_tests ended depth)
 unfolding start_reason
 noted_reason tag outer ended depth none n = rw (none, n.qname, n.short, n.bound) refl
+
+-- its place may still be refused
+pub noted_stops : (written : List ℕ) (outer : List (List ℕ × List ℕ)) (ended : Bool) (depth place : ℕ) (error : DocError) → IsNamed written outer → Stopped (first_true (place_tests ended depth)) place error → Stopped (start_reason (bare written) outer ended depth) place error
+noted_stops written outer ended depth place error n stopped = subst (λ (o : Option DocWhy). Stopped o place error) (sym (noted_reason (bare written) outer ended depth refl n)) stopped
 
 pub noted_enters : (tag : Tag) (outer : List (List ℕ × List ℕ)) (ended : Bool) (depth : ℕ) (names : List Name) (number : ℕ) → tag.attributes ≡ [] → KnownAs outer names tag.name number → first_true (place_tests ended depth) ≡ None → EntersAs outer ended depth tag (name_at names number) [] []
 noted_enters tag outer ended depth names number empty known none = record {

@@ -17,7 +17,7 @@ use Rattle.base_texts.specs.Limits.{is_empty}
 use Rattle.xml_read.specs.Documents.{why_of, BrokenAt, DocOf, Refuses}
 use Rattle.xml_read.specs.Private.States.{State, context, open_of, opened, added}
 use Rattle.xml_read.specs.Private.Entering.{Stopped}
-use Rattle.xml_read.specs.Private.Building.{state, node_of, Scoped, Takes, TakesLeaf, TakesKnown, HasRead}
+use Rattle.xml_read.specs.Private.Building.{state, node_of, Scoped, Takes, TakesLeaf, TakesKnown, StopsFirst, HasRead}
 use Rattle.xml_read.proofs.Telling.{is_empty-map}
 use Rattle.xml_read.proofs.Known.{laws}
 use Rattle.xml_read.proofs.Reaching.{place_of, stops, stops_where_none, is_unfinished}
@@ -38,6 +38,10 @@ pub at_fault : (bytes rest behind : List ℕ) (b : Builder) (p : Piece) (at : �
 at_fault bytes rest behind b p at errors.Memory stands some at_is e stopped = tt
 at_fault bytes rest behind b p at (errors.Syntax place cause) stands some at_is e stopped =
     stops bytes rest behind (state b) p place cause stands.utf8 stands.reaches (stopped.0 ∙ at_is) e (some_rest rest some) stopped.1
+
+pub first_fault : (bytes rest : List ℕ) (b : Builder) (at : ℕ) (error : DocError) → Stands bytes rest (state b) → length rest ≢ 0 → at ≡ place_of bytes rest → StopsFirst rest at b error → Refuses bytes error
+first_fault bytes rest b at errors.Memory stands some at_is stops = tt
+first_fault bytes rest b at (errors.Syntax place cause) stands some at_is (piece, behind, begins, stopped) = at_fault bytes rest behind b piece at (errors.Syntax place cause) stands some at_is begins stopped
 
 pub gets_shorter : (bytes rest behind : List ℕ) (s : State) (p : Piece) → Stands bytes rest s → Begins p rest behind → length behind < length rest
 gets_shorter bytes rest behind s p stands e = shorter laws p rest behind e

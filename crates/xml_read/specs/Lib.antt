@@ -2,7 +2,6 @@ pub mod Sound
 pub mod Tokens
 pub mod Contexts
 pub mod Documents
-pub mod Bindings
 pub mod Same
 pub mod Reasons
 pub mod Private

@@ -13,12 +13,12 @@ ghost use Rattle.xml_read.specs.Private.States.{context, nothing, added, passed}
 ghost use Rattle.xml_read.specs.Private.Entering.{Stopped, have_utf8};
 ghost use Rattle.xml_read.specs.declared.error.DocWhy.TheVariants as why;
 ghost use Rattle.xml_read.specs.Private.Noting.{KnownAs, bare};
-ghost use Rattle.xml_read.specs.Private.Building.{state, Scoped, Takes, TakesFirst, TakesKnown, PutsLeaf, StartsKnown, EndsInnermost, Begins, Flushed, Shuts, Kept, GivesUtf8};
+ghost use Rattle.xml_read.specs.Private.Building.{state, depth_of, tag_of, CanOpen, Opens, StopsFirst, Scoped, Takes, TakesFirst, TakesKnown, EndsInnermost, Begins, Flushed, Shuts, Kept, GivesUtf8};
 
 use crate::error::{DocError, DocWhy};
 use crate::notes::{Note, Notes};
 use crate::past::{past_leaf, past_less, past_slash, past_tag};
-use crate::tags::{enter, first_of_place, is_unbound, value_of};
+use crate::tags::{TagPlace, check_place, enter, is_unbound, value_of};
 use base_texts::{Memory, Text, utf8_text};
 use std::alloc::Global;
 use xml_items::{ElementName, ItemBuilder, ItemTree};
@@ -41,6 +41,21 @@ pub(crate) struct Builder<'a> {
     pub(crate) first: bool,
     // How many literal `]` stand directly before, where 2 stands for more.
     brackets: u8,
+}
+
+// What begins an element.
+#[derive(Clone, Copy)]
+pub(crate) enum Opening<'t, 'a> {
+    // A start tag as it was read.
+    Read(&'t Element<'a>),
+    // A start tag without attributes, of a name that is noted.
+    Noted(&'t Note<'a>),
+    // Such a tag, then `len` plain characters, then the end tag.
+    Leaf {
+        note: &'t Note<'a>,
+        inner: &'a [u8],
+        len: usize,
+    },
 }
 
 #[tactic(auto, unfolding(base_texts::specs::WhiteSpace::is_white_space))]
@@ -106,6 +121,66 @@ impl<'a> Builder<'a> {
         Ok(())
     }
 
+    // Returns the place of a tag at this offset.
+    #[inline(always)]
+    fn tag_place(&self, at: u64) -> TagPlace
+        ensures ended { result.ended ≡ self.now.ended }
+        ensures depth { result.depth ≡ depth_of self.now }
+        ensures at { result.at ≡ at }
+    {
+        TagPlace {
+            ended: self.ended,
+            depth: self.open.as_slice().len(),
+            at,
+        }
+    }
+
+    // Opens an element, or reports what speaks against its start tag. A tag is read in full only if its name has no note.
+    // Of an element in which characters are alone, the characters and the end follow at once.
+    #[inline(always)]
+    fn open_by(&mut self, opening: Opening<'_, 'a>, at: u64) -> Result<(), DocError>
+        requires scoped { Scoped self.old }
+        requires known { CanOpen opening at self.old }
+        ensures ok { OnOk result (Opens opening.entry at self.old self.new) }
+        ensures err { IfErr result (Stopped (reason (pieces.Start (tag_of opening.entry)) (context (state self.old))) at) }
+    {
+        let place = self.tag_place(at);
+        self.first = false;
+        self.brackets = 0;
+        match opening {
+            Opening::Read(tag) => {
+                let head = enter(self.alloc, &mut self.scope, tag, place)?;
+                self.flush()?;
+                let binds = !head.declares.is_empty();
+                let name = self
+                    .items
+                    .open_element(head.name, head.attributes, head.declares, at)?;
+                self.open.push(tag.name)?;
+                self.notes.note_entered(binds, tag.name, name)?;
+                Ok(())
+            }
+            Opening::Noted(note) => {
+                check_place(place)?;
+                self.flush()?;
+                self.items.open_known(note.name, at)?;
+                self.open.push(note.written)?;
+                self.notes.came(note.number);
+                Ok(())
+            }
+            Opening::Leaf { note, inner, len } => {
+                check_place(place)?;
+                self.flush()?;
+                self.items.open_known(note.name, at)?;
+                self.text_at = at + note.written.len() as u64 + 2;
+                self.items.front(self.alloc, inner, len, self.text_at)?;
+                self.items.close();
+                self.notes.came(note.number);
+                self.ended = self.open.is_empty();
+                Ok(())
+            }
+        }
+    }
+
     fn start(&mut self, tag: Element<'a>, at: u64) -> Result<(), DocError>
         requires scoped { Scoped self.old }
         requires utf8 { have_utf8 (tag_seen tag).attributes ≡ true }
@@ -114,65 +189,10 @@ impl<'a> Builder<'a> {
     {
         if tag.attributes.is_empty() {
             if let Some(note) = self.notes.find(tag.name) {
-                return self.start_noted(&note, at);
+                return self.open_by(Opening::Noted(&note), at);
             }
         }
-        self.start_read(&tag, at)
-    }
-
-    // A start tag without attributes, of a name that is noted.
-    fn start_noted(&mut self, note: &Note<'a>, at: u64) -> Result<(), DocError>
-        requires scoped { Scoped self.old }
-        requires known { KnownAs (reverse self.old.scope) self.old.items.names note.now.written.now note.now.name }
-        ensures ok { OnOk result (Takes (pieces.Start (bare note.now.written.now)) at self.old self.new) }
-        ensures err { IfErr result (Stopped (reason (pieces.Start (bare note.now.written.now)) (context (state self.old))) at) }
-    {
-        let depth = self.open.as_slice().len();
-        if let Some(why) = first_of_place(self.ended, depth) {
-            return Err(DocError::Syntax { at, why });
-        }
-        self.open_noted(note, at)?;
-        Ok(())
-    }
-
-    // Takes a start tag without attributes, of a name that is noted, where nothing speaks against the tag.
-    #[inline(always)]
-    fn open_noted(&mut self, note: &Note<'a>, at: u64) -> Result<(), Memory>
-        requires scoped { Scoped self.old }
-        requires known { KnownAs (reverse self.old.scope) self.old.items.names note.now.written.now note.now.name }
-        requires none { reason (pieces.Start (bare note.now.written.now)) (context (state self.old)) ≡ None }
-        ensures { OnOk result (Takes (pieces.Start (bare note.now.written.now)) at self.old self.new) }
-    {
-        self.flush()?;
-        self.items.open_known(note.name, at)?;
-        self.open.push(note.written)?;
-        self.notes.came(note.number);
-        self.first = false;
-        self.brackets = 0;
-        Ok(())
-    }
-
-    fn start_read(&mut self, tag: &Element<'a>, at: u64) -> Result<(), DocError>
-        requires scoped { Scoped self.old }
-        requires utf8 { have_utf8 (tag_seen tag.now).attributes ≡ true }
-        ensures ok { OnOk result (Takes (pieces.Start (tag_seen tag.now)) at self.old self.new) }
-        ensures err { IfErr result (Stopped (reason (pieces.Start (tag_seen tag.now)) (context (state self.old))) at) }
-    {
-        let depth = self.open.as_slice().len();
-        let head = match enter(self.alloc, &mut self.scope, self.ended, depth, tag, at) {
-            Ok(head) => head,
-            Err(error) => return Err(error),
-        };
-        self.flush()?;
-        let binds = !head.declares.is_empty();
-        let name = self
-            .items
-            .open_element(head.name, head.attributes, head.declares, at)?;
-        self.open.push(tag.name)?;
-        self.notes.note_entered(binds, tag.name, name)?;
-        self.first = false;
-        self.brackets = 0;
-        Ok(())
+        self.open_by(Opening::Read(&tag), at)
     }
 
     fn empty(&mut self, tag: Element<'a>, at: u64) -> Result<(), DocError>
@@ -196,10 +216,7 @@ impl<'a> Builder<'a> {
         ensures ok { OnOk result (Takes (pieces.Empty (bare written.now)) at self.old self.new) }
         ensures err { IfErr result (Stopped (reason (pieces.Empty (bare written.now)) (context (state self.old))) at) }
     {
-        let depth = self.open.as_slice().len();
-        if let Some(why) = first_of_place(self.ended, depth) {
-            return Err(DocError::Syntax { at, why });
-        }
+        check_place(self.tag_place(at))?;
         self.flush()?;
         self.items.known_element(name, at)?;
         self.ended = self.open.is_empty();
@@ -215,11 +232,8 @@ impl<'a> Builder<'a> {
         ensures ok { OnOk result (Takes (pieces.Empty (tag_seen tag.now)) at self.old self.new) }
         ensures err { IfErr result (Stopped (reason (pieces.Empty (tag_seen tag.now)) (context (state self.old))) at) }
     {
-        let depth = self.open.as_slice().len();
-        let head = match enter(self.alloc, &mut self.scope, self.ended, depth, tag, at) {
-            Ok(head) => head,
-            Err(error) => return Err(error),
-        };
+        let place = self.tag_place(at);
+        let head = enter(self.alloc, &mut self.scope, tag, place)?;
         self.scope.leave(head.declares.len());
         self.flush()?;
         let _ = self
@@ -315,89 +329,52 @@ impl<'a> Builder<'a> {
         Ok(Some(behind))
     }
 
-    // What is behind the start tag of this note, if that stands behind `<` and nothing speaks against it.
+    // Takes a start tag without attributes, if the bytes after `<` are as was guessed. Takes the complete element if only
+    // plain characters and its end tag follow. Returns the bytes after it, or nothing.
     #[inline(always)]
-    fn past_start<'b>(&self, note: &Note<'a>, tag: &'b [u8]) -> Option<&'b [u8]>
-        requires scoped { Scoped self.now }
-        requires known { KnownAs (reverse self.now.scope) self.now.items.names note.now.written.now note.now.name }
-        ensures { IfSome result (λ behind. StartsKnown note.now.written.now tag.now behind.now (context (state self.now))) }
-    {
-        let depth = self.open.as_slice().len();
-        match first_of_place(self.ended, depth) {
-            Some(_) => None,
-            None => past_tag(note.written, tag),
-        }
-    }
-
-    // Takes an element without attributes, of a name that is noted, in which so many plain characters stand alone, where
-    // nothing speaks against its start tag.
-    #[inline(always)]
-    fn put_leaf(
-        &mut self,
-        note: &Note<'a>,
-        inner: &'a [u8],
-        len: usize,
-        at: u64,
-    ) -> Result<(), Memory>
-        requires scoped { Scoped self.old }
-        requires known { KnownAs (reverse self.old.scope) self.old.items.names note.now.written.now note.now.name }
-        requires none { reason (pieces.Start (bare note.now.written.now)) (context (state self.old)) ≡ None }
-        requires some { 0 < len }
-        requires within { len ≤ length inner.now }
-        requires run { IsPlainRun (take len inner.now) }
-        requires place { at + length note.now.written.now ≤ 16777216 }
-        ensures { OnOk result (PutsLeaf (bare note.now.written.now) at (take len inner.now) (at + length note.now.written.now + 2) self.old self.new) }
-    {
-        self.flush()?;
-        self.items.open_known(note.name, at)?;
-        self.text_at = at + note.written.len() as u64 + 2;
-        self.items.front(self.alloc, inner, len, self.text_at)?;
-        self.items.close();
-        self.notes.came(note.number);
-        self.ended = self.open.is_empty();
-        self.first = false;
-        self.brackets = 0;
-        Ok(())
-    }
-
-    // Takes a start tag without attributes, if what stands behind `<` is as was guessed; and what is in its element with
-    // its end tag, if that is plain characters alone. What is behind, or nothing.
-    #[inline(always)]
-    fn take_start(&mut self, tag: &'a [u8], at: u64) -> Result<Option<&'a [u8]>, Memory>
+    fn take_start(&mut self, tag: &'a [u8], at: u64) -> Result<Option<&'a [u8]>, DocError>
         requires scoped { Scoped self.old }
         requires utf8 { IsUtf8 (0x3C ∷ tag.now) }
         requires place { at + length tag.now ≤ 16777216 }
-        ensures { IfOk result (λ found. MatchOption found (self.new ≡ self.old) (λ behind. TakesKnown (0x3C ∷ tag.now) behind.now at self.old self.new)) }
+        ensures ok { IfOk result (λ found. MatchOption found (self.new ≡ self.old) (λ behind. TakesKnown (0x3C ∷ tag.now) behind.now at self.old self.new)) }
+        ensures err { IfErr result (StopsFirst (0x3C ∷ tag.now) at self.old) }
     {
         let Some(note) = self.notes.guess() else {
             return Ok(None);
         };
-        let Some(inner) = self.past_start(&note, tag) else {
+        let Some(inner) = past_tag(note.written, tag) else {
             return Ok(None);
         };
         match past_leaf(note.written, inner) {
             Some((len, behind)) => {
-                self.put_leaf(&note, inner, len, at)?;
+                let note = &note;
+                self.open_by(Opening::Leaf { note, inner, len }, at)?;
                 Ok(Some(behind))
             }
             None => {
-                self.open_noted(&note, at)?;
+                self.open_by(Opening::Noted(&note), at)?;
                 Ok(Some(inner))
             }
         }
     }
 
-    // Takes what stands first, if it is a tag that is as one before, or an element that begins so. What is behind it, or
+    // Takes what is first, if it is a tag as one before, or an element that begins so. Returns the bytes after it, or
     // nothing.
     #[inline(always)]
-    pub(crate) fn take_known(&mut self, rest: &'a [u8], at: u64) -> Result<Option<&'a [u8]>, Memory>
+    pub(crate) fn take_known(
+        &mut self,
+        rest: &'a [u8],
+        at: u64,
+    ) -> Result<Option<&'a [u8]>, DocError>
         requires scoped { Scoped self.old }
         requires utf8 { IsUtf8 rest.now }
         requires place { at + length rest.now ≤ 16777216 }
-        ensures { IfOk result (λ found. MatchOption found (self.new ≡ self.old) (λ behind. TakesKnown rest.now behind.now at self.old self.new)) }
+        ensures ok { IfOk result (λ found. MatchOption found (self.new ≡ self.old) (λ behind. TakesKnown rest.now behind.now at self.old self.new)) }
+        ensures err { IfErr result (StopsFirst rest.now at self.old) }
     {
         if let Some(written) = past_slash(rest) {
-            return self.take_end(written);
+            let behind = self.take_end(written)?;
+            return Ok(behind);
         }
         match past_less(rest) {
             Some(tag) => self.take_start(tag, at),

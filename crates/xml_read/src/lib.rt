@@ -3,7 +3,6 @@
 //! Read first: docs/XML.md, `specs/Documents` (`DocOf`, `BrokenAt`), then `read_document` in `src/reader.rt`.
 #![tactic(auto)]
 
-mod bindings;
 mod builder;
 mod error;
 mod items;
@@ -13,7 +12,6 @@ mod past;
 mod reader;
 mod tags;
 
-pub use bindings::prefix_at;
 pub use error::{DocError, DocWhy};
 pub use items::Items;
 pub use laws::{document_items, one_answer};

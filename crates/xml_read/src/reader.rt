@@ -81,10 +81,7 @@ fn read_pieces<'a>(
                 why: why(cause),
             });
         };
-        match builder.take(found, at) {
-            Ok(_) => {}
-            Err(error) => return Err(error),
-        }
+        builder.take(found, at)?;
         rest = behind;
     }
     if !builder.ended {
@@ -106,10 +103,8 @@ fn read_utf8(alloc: Global, items: ItemBuilder, bytes: &[u8]) -> Result<Items, D
     ensures places { IfOk result (λ items. Ascend 0 16777216 (tokens items)) }
 {
     let mut builder = Builder::new(alloc, items)?;
-    match read_pieces(alloc, &mut builder, bytes) {
-        Ok(_) => Ok(seal(builder.finish())),
-        Err(error) => Err(error),
-    }
+    read_pieces(alloc, &mut builder, bytes)?;
+    Ok(seal(builder.finish()))
 }
 
 // The bytes are UTF-8.
@@ -139,7 +134,8 @@ pub fn read_document(alloc: Global, bytes: &[u8]) -> Result<Items, DocError>
     read_utf8(alloc, ItemBuilder::new(alloc), bytes)
 }
 
-/// The same of a document that the items share: where characters stand there as they are read, they aren't copied.
+/// Returns what `read_document` returns of the bytes of a document, which the items share. Text that is in the document
+/// as it is read is not copied.
 pub fn read_shared(alloc: Global, document: &Document) -> Result<Items, DocError>
     requires { length document.now ≤ 16777216 }
     ensures ok { IfOk result (DocOf document.now) }

@@ -7,9 +7,8 @@ ghost use Rattle.base_texts.specs.Limits.{is_short_space};
 ghost use Rattle.xml_pieces.specs.Found.{tag_seen, attribute_of, bytes_of};
 ghost use Rattle.xml_pieces.specs.QNames.{is_qname, prefix_of};
 ghost use Rattle.xml_pieces.specs.Namespaces as names;
-ghost use Rattle.xml_pieces.specs.Plain.{IsPlain};
 ghost use Rattle.xml_read.specs.Contexts as contexts;
-ghost use Rattle.xml_read.specs.Private.Entering.{Enters, Stopped, have_utf8, are_named, inner_tests};
+ghost use Rattle.xml_read.specs.Private.Entering.{Enters, Stopped, have_utf8, are_named, inner_tests, place_tests};
 ghost use Rattle.xml_read.specs.declared.error.DocWhy.TheVariants as why;
 
 use crate::error::{DocError, DocWhy};
@@ -258,105 +257,88 @@ fn first_of_names(tag: &Element<'_>) -> Option<DocWhy>
     }
 }
 
-// What speaks against the place of a tag.
-pub(crate) fn first_of_place(ended: bool, depth: usize) -> Option<DocWhy>
-    ensures { result ≡ first_true ((ended, why.ExtraRoot) ∷ (nat_le 64 depth, why.TooDeep) ∷ []) }
+/// Where a tag begins: whether the root has ended, how many elements are open, and the offset of the tag in bytes.
+#[derive(Clone, Copy)]
+pub(crate) struct TagPlace {
+    pub(crate) ended: bool,
+    pub(crate) depth: usize,
+    pub(crate) at: u64,
+}
+
+// Tests the place of a tag: refuses a second root, and an element of depth 65.
+#[inline(always)]
+pub(crate) fn check_place(place: TagPlace) -> Result<(), DocError>
+    ensures ok { OnOk result (first_true (place_tests place.ended place.depth) ≡ None) }
+    ensures err { IfErr result (Stopped (first_true (place_tests place.ended place.depth)) place.at) }
 {
-    if ended {
-        Some(DocWhy::ExtraRoot)
-    } else if depth >= 64 {
-        Some(DocWhy::TooDeep)
+    let why = if place.ended {
+        DocWhy::ExtraRoot
+    } else if place.depth >= 64 {
+        DocWhy::TooDeep
     } else {
-        None
-    }
+        return Ok(());
+    };
+    Err(DocError::Syntax { at: place.at, why })
 }
 
-// What a tag without attributes opens, or what speaks against it, where nothing speaks against its name and this has
-// no prefix.
-fn enter_plain(
-    alloc: Global,
-    scope: &BindingsInScope<'_>,
-    ended: bool,
-    depth: usize,
-    tag: &Element<'_>,
-    at: u64,
-) -> Result<Head, DocError>
-    requires attributes { (tag_seen tag.now).attributes ≡ [] }
-    requires name { IsPlain (tag_seen tag.now).name }
-    ensures ok { IfOk result (Enters (reverse scope.now) ended depth (tag_seen tag.now)) }
-    ensures err { IfErr result (Stopped (contexts.start_reason (tag_seen tag.now) (reverse scope.now) ended depth) at) }
-{
-    if let Some(why) = first_of_place(ended, depth) {
-        return Err(DocError::Syntax { at, why });
-    }
-    let space = copy_space(alloc, scope.bound_to(b""))?;
-    let local = Text::from_utf8(alloc, tag.name)?;
-    Ok(Head {
-        name: Name { space, local },
-        attributes: Vec::new(alloc),
-        declares: Vec::new(alloc),
-    })
-}
-
-// The attributes that bind nothing, where the bindings of their tag are in scope; or what speaks against them or against
-// the place of the tag.
+// Reads the attributes that bind nothing, where the bindings of their tag are in scope; or reports what speaks against
+// them or against the place of the tag.
 fn enter_attributes(
     alloc: Global,
     scope: &BindingsInScope<'_>,
-    ended: bool,
-    depth: usize,
     tag: &Element<'_>,
-    at: u64,
+    place: TagPlace,
 ) -> Result<Vec<(Name, Text)>, DocError>
     requires { are_named (tag_seen tag.now).attributes ≡ true }
-    ensures none { IfOk result (λ _. first_true (inner_tests (tag_seen tag.now) (reverse scope.now) ended depth) ≡ None) }
+    ensures none { IfOk result (λ _. first_true (inner_tests (tag_seen tag.now) (reverse scope.now) place.ended place.depth) ≡ None) }
     ensures attributes { IfOk result (λ all. all.items ≡ names.attributes_of (reverse scope.now) (tag_seen tag.now).attributes) }
-    ensures err { IfErr result (Stopped (first_true (inner_tests (tag_seen tag.now) (reverse scope.now) ended depth)) at) }
+    ensures err { IfErr result (Stopped (first_true (inner_tests (tag_seen tag.now) (reverse scope.now) place.ended place.depth)) place.at) }
 {
     if has_unbound(scope, tag) {
         return Err(DocError::Syntax {
-            at,
+            at: place.at,
             why: DocWhy::UnboundPrefix,
         });
     }
     let attributes = read_attributes(alloc, scope, &tag.attributes)?;
     if has_duplicate(alloc, &tag.attributes, &attributes)? {
         return Err(DocError::Syntax {
-            at,
+            at: place.at,
             why: DocWhy::DuplicateAttribute,
         });
     }
-    match first_of_place(ended, depth) {
-        None => Ok(attributes),
-        Some(why) => Err(DocError::Syntax { at, why }),
-    }
+    check_place(place)?;
+    Ok(attributes)
 }
 
-// What a tag opens, with its bindings in scope then; or what speaks against it.
+// Reads what a tag opens, and brings its bindings into scope; or reports what speaks against the tag. Most tags have no
+// attributes and a plain name: only the place of such a tag is tested.
 pub(crate) fn enter<'a>(
     alloc: Global,
     scope: &mut BindingsInScope<'a>,
-    ended: bool,
-    depth: usize,
     tag: &Element<'a>,
-    at: u64,
+    place: TagPlace,
 ) -> Result<Head, DocError>
     requires { have_utf8 (tag_seen tag.now).attributes ≡ true }
-    ensures ok { IfOk result (Enters (reverse scope.old) ended depth (tag_seen tag.now)) }
+    ensures ok { IfOk result (Enters (reverse scope.old) place.ended place.depth (tag_seen tag.now)) }
     ensures scope { OnOk result (scope.new ≡ scope.old ++ reverse (names.bindings_of (tag_seen tag.now).attributes)) }
-    ensures err { IfErr result (Stopped (contexts.start_reason (tag_seen tag.now) (reverse scope.old) ended depth) at) }
+    ensures err { IfErr result (Stopped (contexts.start_reason (tag_seen tag.now) (reverse scope.old) place.ended place.depth) place.at) }
 {
     if tag.attributes.is_empty() && is_ascii_name_alone(tag.name) {
-        return enter_plain(alloc, scope, ended, depth, tag, at);
+        check_place(place)?;
+        let space = copy_space(alloc, scope.bound_to(b""))?;
+        let local = Text::from_utf8(alloc, tag.name)?;
+        return Ok(Head {
+            name: Name { space, local },
+            attributes: Vec::new(alloc),
+            declares: Vec::new(alloc),
+        });
     }
     if let Some(why) = first_of_names(tag) {
-        return Err(DocError::Syntax { at, why });
+        return Err(DocError::Syntax { at: place.at, why });
     }
     let declares = enter_scope(alloc, scope, &tag.attributes)?;
-    let attributes = match enter_attributes(alloc, scope, ended, depth, tag, at) {
-        Ok(attributes) => attributes,
-        Err(error) => return Err(error),
-    };
+    let attributes = enter_attributes(alloc, scope, tag, place)?;
     let name = element_name(alloc, scope, tag.name)?;
     Ok(Head {
         name,

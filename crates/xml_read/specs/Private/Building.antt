@@ -11,13 +11,18 @@ use Rattle.xml_pieces.specs.Reasons.{IsPlainRun}
 use Rattle.xml_items.specs.declared.label.ItemLabel.{ItemLabel}
 use Rattle.xml_items.specs.declared.label.ItemLabel.TheVariants.{Element, Text}
 use Rattle.xml_read.specs.declared.builder.Builder.{Builder}
+use Rattle.xml_read.specs.declared.builder.Opening.{Opening}
+use Rattle.xml_read.specs.declared.builder.Opening.TheVariants as opens
+use Rattle.xml_read.specs.declared.error.DocError.{DocError}
+use Rattle.xml_read.specs.declared.error.DocError.TheVariants as errors
+use Rattle.xml_pieces.specs.Found.{tag_seen}
 use Rattle.std.specs.List.{flat_map}
 use Rattle.xml_items.specs.Labels.{item_place}
 use Rattle.xml_read.specs.Sound.{AreItems}
 use Rattle.xml_read.specs.Contexts.{Open, Context, is_innermost, scope, reason}
 use Rattle.xml_read.specs.Documents.{DocOf}
-use Rattle.xml_read.specs.Private.Entering.{have_utf8, IsNamed}
-use Rattle.xml_read.specs.Private.Noting.{AllKnown, bare}
+use Rattle.xml_read.specs.Private.Entering.{Stopped, have_utf8, IsNamed}
+use Rattle.xml_read.specs.Private.Noting.{AllKnown, KnownAs, bare}
 use Rattle.xml_read.specs.Private.States.{Above, State, nothing, context, kids_of_state, closed, with_leaf, step}
 
 -- ---- an element that is open, by its written name and the open nodes from its own on
@@ -61,6 +66,10 @@ above_of written up = record {
 abbrev pub aboves : List (Bor (List ℕ)) → List (zips.Above ItemLabel) → List Above
 aboves [] up = []
 aboves (written ∷ names) up = above_of written.now up ∷ aboves names (up_in up)
+
+-- how many elements are open
+abbrev pub depth_of : Builder → ℕ
+depth_of b = length b.open.items
 
 abbrev pub state : Builder → State
 state b = record {
@@ -129,10 +138,35 @@ pub record TakesLeaf (rest behind : List ℕ) (at : ℕ) (old new : Builder) : T
 abbrev pub TakesKnown : List ℕ → List ℕ → ℕ → Builder → Builder → Type 0
 TakesKnown rest behind at old new = TakesFirst rest behind at old new ⊎ TakesLeaf rest behind at old new
 
--- this name and a `>` stand first, with this behind them, and nothing speaks against the start tag
-pub record StartsKnown (name tag behind : List ℕ) (c : Context) : Type 0 where
-  pub none : reason (Start (bare name)) c ≡ None
-  pub parts : tag ≡ name ++ 0x3E ∷ behind
+-- the start tag that begins an element
+abbrev pub tag_of : Opening → pieces.Tag
+tag_of (opens.Read tag) = tag_seen tag.now
+tag_of (opens.Noted note) = bare note.now.written.now
+tag_of (opens.Leaf note inner len) = bare note.now.written.now
+
+-- this many plain characters are first, behind the start tag of this name at this place
+pub record CanPut (name : List ℕ) (inner : List ℕ) (len at : ℕ) : Type 0 where
+  pub some : 0 < len
+  pub within : len ≤ length inner
+  pub run : IsPlainRun (take len inner)
+  pub place : at + length name ≤ 16777216
+
+-- what is known of an opening: the values of a tag are UTF-8, and a note is right where the reader is
+abbrev pub CanOpen : Opening → ℕ → Builder → Type 0
+CanOpen (opens.Read tag) at b = have_utf8 (tag_seen tag.now).attributes ≡ true
+CanOpen (opens.Noted note) at b = KnownAs (reverse b.scope) b.items.names note.now.written.now note.now.name
+CanOpen (opens.Leaf note inner len) at b = KnownAs (reverse b.scope) b.items.names note.now.written.now note.now.name × CanPut note.now.written.now inner.now len at
+
+-- nothing speaks against the start tag, and the reader has taken it, or the complete element
+abbrev pub Opens : Opening → ℕ → Builder → Builder → Type 0
+Opens (opens.Read tag) at old new = Takes (Start (tag_seen tag.now)) at old new
+Opens (opens.Noted note) at old new = Takes (Start (bare note.now.written.now)) at old new
+Opens (opens.Leaf note inner len) at old new = (reason (Start (bare note.now.written.now)) (context (state old)) ≡ None) × PutsLeaf (bare note.now.written.now) at (take len inner.now) (at + length note.now.written.now + 2) old new
+
+-- the error is what speaks against the piece that is first, or want of memory
+abbrev pub StopsFirst : List ℕ → ℕ → Builder → DocError → Type 0
+StopsFirst rest at old (errors.Syntax place why) = (piece : Piece) × (behind : List ℕ) × pieces.Begins piece rest behind × Stopped (reason piece (context (state old))) at (errors.Syntax place why)
+StopsFirst rest at old errors.Memory = Unit {0}
 
 -- the name of the innermost element and a `>` stand first, with this behind them
 pub record EndsInnermost (written behind : List ℕ) (c : Context) : Type 0 where
@@ -164,6 +198,8 @@ pub record Flushed (old new : Builder) : Type 0 where
   pub same_open : new.open.items ≡ old.open.items
   pub same_scope : new.scope ≡ old.scope
   pub same_end : new.ended ≡ old.ended
+  pub same_first : new.first ≡ old.first
+  pub same_brackets : new.brackets ≡ old.brackets
 
 -- the innermost element has ended
 pub record Shuts (old new : Builder) : Type 0 where

@@ -28,6 +28,10 @@ inner_tests tag inside ended depth =
     ∷ (nat_le 64 depth, why.TooDeep)
     ∷ []
 
+-- the tests of the place of a tag: the root has ended, or this many elements are open
+abbrev pub place_tests : Bool → ℕ → List (Bool × DocWhy)
+place_tests ended depth = (ended, why.ExtraRoot) ∷ (nat_le 64 depth, why.TooDeep) ∷ []
+
 -- nothing speaks against the tag, and this is what it opens
 pub record EntersAs (outer : List (List ℕ × List ℕ)) (ended : Bool) (depth : ℕ) (tag : Tag) (name : Name) (attributes : List (Name × List ℕ)) (declares : List (List ℕ × List ℕ)) : Type 0 where
   pub none : start_reason tag outer ended depth ≡ None

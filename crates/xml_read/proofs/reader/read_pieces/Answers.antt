@@ -1,4 +1,5 @@
 use Rattle.std.proofs.Common.{◌≡◌, take, rules, arith, refl, sym, subst}
+use Rattle.std.proofs.lemmas.Result.{err_from_is_err_and}
 use Rattle.xml_pieces.specs.Reasons.{IsPlainRun}
 use Rattle.xml_read.proofs.Known.{laws}
 use Rattle.xml_read.proofs.Utf8.{gives_utf8}
@@ -9,7 +10,7 @@ use Rattle.xml_read.specs.Private.Building.{state, TakesKnown}
 use Rattle.xml_read.proofs.Reaching.{place_of}
 use Rattle.xml_read.proofs.Going.{Stands, stands_first}
 use Rattle.xml_read.proofs.Built.{add_scoped}
-use Rattle.xml_read.proofs.Read.{at_none, at_fault, steps_on, gets_shorter, stands_still, scoped_still, known_on, known_scoped, known_shorter, takes_plain, whole_read, unfinished}
+use Rattle.xml_read.proofs.Read.{at_none, at_fault, first_fault, steps_on, gets_shorter, stands_still, scoped_still, known_on, known_scoped, known_shorter, takes_plain, whole_read, unfinished}
 use Rattle.xml_read.proofs.reader.read_pieces.Goals as goal
 
 pub pieces-init : goal.pieces-init
@@ -24,11 +25,17 @@ returns-in_default-2-clause-err c =
     let e : NoPieceAt c.pieces.rest.now = search rules in
     at_none c.args.bytes.now c.pieces.rest.now c.take_known.new.self _ _ _ stands (search rules) e c.why_none-cause.ensures refl c.why.ensures
 
-pub returns-in-Err-clause-err : goal.returns-in-Err-clause-err
-returns-in-Err-clause-err c =
+pub returns-in_err-behind-clause-err : goal.returns-in_err-behind-clause-err
+returns-in_err-behind-clause-err c =
+    let p = err_from_is_err_and c.from_residual.result c.from_residual.ensures.1 in
+    rw (p.1, p.2) (first_fault c.args.bytes.now c.pieces.rest.now c.pieces.builder _ c.in_err-behind.field-0.0 c.pieces.invariant.stands (search rules) refl c.in_err-behind.ensures.err)
+
+pub returns-in_err-take-clause-err : goal.returns-in_err-take-clause-err
+returns-in_err-take-clause-err c =
+    let p = err_from_is_err_and c.from_residual-in_err-take.result c.from_residual-in_err-take.ensures.1 in
     let stands = stands_still c.args.bytes.now c.pieces.rest.now c.pieces.builder c.take_known.new.self c.pieces.invariant.stands (search rules) in
     let e : Begins (seen c.in-Some-2.found) c.pieces.rest.now c.in-Some-2.behind.now = search rules in
-    at_fault c.args.bytes.now c.pieces.rest.now c.in-Some-2.behind.now c.take_known.new.self (seen c.in-Some-2.found) _ c.in-Err.error stands (search rules) refl e c.in-Err.ensures.err
+    rw (p.1, p.2) (at_fault c.args.bytes.now c.pieces.rest.now c.in-Some-2.behind.now c.take_known.new.self (seen c.in-Some-2.found) _ c.in_err-take.field-0.0 stands (search rules) refl e c.in_err-take.ensures.err)
 
 pub pieces-smaller : goal.pieces-smaller
 pieces-smaller c =
@@ -40,8 +47,8 @@ pieces-preserved c =
     let stands = stands_still c.args.bytes.now c.pieces.rest.now c.pieces.builder c.take_known.new.self c.pieces.invariant.stands (search rules) in
     let e : Begins (seen c.in-Some-2.found) c.pieces.rest.now c.in-Some-2.behind.now = search rules in
     record {
-      stands = steps_on c.args.bytes.now c.pieces.rest.now c.in-Some-2.behind.now c.take_known.new.self c.take.new.self (seen c.in-Some-2.found) _ stands refl e c.in-Ok.ensures.ok;
-      scoped = c.in-Ok.ensures.ok.scoped;
+      stands = steps_on c.args.bytes.now c.pieces.rest.now c.in-Some-2.behind.now c.take_known.new.self c.take.new.self (seen c.in-Some-2.found) _ stands refl e c.in_ok-take.ensures.ok;
+      scoped = c.in_ok-take.ensures.ok.scoped;
     }
 
 pub utf8_text-requires : goal.utf8_text-requires

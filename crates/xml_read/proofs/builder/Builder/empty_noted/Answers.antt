@@ -8,18 +8,21 @@ use Rattle.base_trees.specs.Rose.{node, roses_of}
 use Rattle.xml_items.specs.declared.label.ItemLabel.TheVariants.{Element}
 use Rattle.xml_items.specs.Building.{name_at}
 use Rattle.xml_items.proofs.Growth.{grows-same}
-use Rattle.xml_read.specs.Private.Entering.{EntersAs}
+use Rattle.xml_read.specs.Private.Entering.{place_tests}
 use Rattle.xml_read.specs.Private.Noting.{bare}
-use Rattle.xml_read.proofs.Entered.{place_tests}
-use Rattle.xml_read.proofs.Noted.{noted_reason, noted_enters, left_none}
-use Rattle.xml_read.proofs.Built.{empty_stops, mid_of, empty_takes}
+use Rattle.std.proofs.lemmas.Result.{err_from_is_err_and}
+use Rattle.xml_read.proofs.Noted.{noted_stops, noted_enters, left_none}
+use Rattle.xml_read.proofs.Built.{empty_stops, stops_here, none_here, mid_of, empty_takes}
 use Rattle.xml_read.proofs.builder.Builder.empty_noted.Goals as goal
 
-pub returns-in-Some-clause-err : goal.returns-in-Some-clause-err
-returns-in-Some-clause-err c =
+pub returns-in_err-check_place-clause-err : goal.returns-in_err-check_place-clause-err
+returns-in_err-check_place-clause-err c =
     let old = c.args.self.now in
-    let depth = length c.as_slice-depth.result.now in
-    (refl, sym (empty_stops old (bare c.args.written.now) depth c.requires.scoped (search rules)) ∙ noted_reason (bare c.args.written.now) (reverse old.scope) old.ended depth refl c.requires.known.named ∙ (search rules))
+    let written = c.args.written.now in
+    let place = c.tag_place.result in
+    let p = err_from_is_err_and c.from_residual.result c.from_residual.ensures.1 in
+    rw (p.1, p.2) (stops_here old (bare written) place.ended place.depth place.at c.args.at _ _ (empty_stops old (bare written) place.depth c.requires.scoped c.tag_place.ensures.depth) c.tag_place.ensures.ended c.tag_place.ensures.at
+    (noted_stops written (reverse old.scope) place.ended place.depth place.at _ c.requires.known.named c.in_err-check_place.ensures.err))
 
 pub known_element-requires : goal.known_element-requires
 known_element-requires c = subst (λ ns. c.args.name < length ns) (sym c.in_ok-flush.ensures.same_names) (slice_get_within c.args.self.now.items.names c.args.name _ c.requires.known.name)
@@ -27,12 +30,11 @@ known_element-requires c = subst (λ ns. c.args.name < length ns) (sym c.in_ok-f
 pub returns-clause-ok : goal.returns-clause-ok
 returns-clause-ok c =
     let old = c.args.self.now in
-    let depth = length c.as_slice-depth.result.now in
-    let here : depth ≡ length old.open.items = search rules in
-    let place : first_true (place_tests old.ended depth) ≡ None = search rules in
+    let depth = length old.open.items in
+    let place : first_true (place_tests old.ended depth) ≡ None = none_here old c.tag_place.result.ended c.tag_place.result.depth c.tag_place.ensures.ended c.tag_place.ensures.depth c.in_ok-check_place.ensures.ok in
     let name = name_at old.items.names c.args.name in
     let names : c.known_element.new.self.names ≡ old.items.names = search rules in
-    let enters = subst (λ n. EntersAs (reverse old.scope) old.ended n (bare c.args.written.now) name [] []) here (noted_enters (bare c.args.written.now) (reverse old.scope) old.ended depth old.items.names c.args.name refl c.requires.known place) in
+    let enters = noted_enters (bare c.args.written.now) (reverse old.scope) old.ended depth old.items.names c.args.name refl c.requires.known place in
     let items : c.known_element.new.self.zip ≡ zips.added (node (Element name [] [] c.args.at) (roses_of [])) c.flush.new.self.items.zip = search rules in
     let kept : take (length old.scope - 0) old.scope ≡ old.scope = left_none old.scope in
     let scope_is : old.scope ≡ old.scope ++ reverse [] = sym (append-nil old.scope) in

@@ -1,42 +1,36 @@
 use Rattle.std.proofs.Common.{inl}
+use Rattle.std.proofs.lemmas.Result.{err_from_is_err_and}
 use Rattle.std.specs.Prelude.{reverse}
-use Rattle.xml_read.specs.Private.States.{context}
-use Rattle.xml_read.specs.Private.Building.{state}
-use Rattle.xml_read.proofs.KnownTags.{start_taken, inner_utf8, within_tag, leaf_taken}
+use Rattle.xml_read.proofs.KnownTags.{start_taken, start_stopped, inner_utf8, leaf_can, leaf_taken}
 use Rattle.xml_read.proofs.builder.Builder.take_start.Goals as goal
 
-pub past_start-requires-clause-known : goal.past_start-requires-clause-known
-past_start-requires-clause-known c = c.in-Some.ensures (reverse c.args.self.now.scope) c.args.self.now.items.names c.requires.scoped.noted
-
 pub past_leaf-requires : goal.past_leaf-requires
-past_leaf-requires c = inner_utf8 c.in-Some.note.written.now c.args.tag.now c.in-Some-past_start.inner.now (context (state c.args.self.now)) c.in-Some-past_start.ensures c.requires.utf8
+past_leaf-requires c =
+    let known = c.in-Some.ensures (reverse c.args.self.now.scope) c.args.self.now.items.names c.requires.scoped.noted in
+    inner_utf8 c.in-Some.note.written.now c.args.tag.now c.in-Some-past_tag.inner.now known.named.qname c.in-Some-past_tag.ensures c.requires.utf8
 
-pub put_leaf-requires-clause-known : goal.put_leaf-requires-clause-known
-put_leaf-requires-clause-known c = c.in-Some.ensures (reverse c.args.self.now.scope) c.args.self.now.items.names c.requires.scoped.noted
+pub open_by-requires-clause-known : goal.open_by-requires-clause-known
+open_by-requires-clause-known c =
+    let known = c.in-Some.ensures (reverse c.args.self.now.scope) c.args.self.now.items.names c.requires.scoped.noted in
+    (known, leaf_can c.in-Some.note.written.now c.args.tag.now c.in-Some-past_tag.inner.now c.in-Some-past_leaf.behind.now c.in-Some-past_leaf.len c.args.at c.in-Some-past_tag.ensures c.in-Some-past_leaf.ensures c.requires.place)
 
-pub put_leaf-requires-clause-none : goal.put_leaf-requires-clause-none
-put_leaf-requires-clause-none c = c.in-Some-past_start.ensures.none
+pub open_by-requires-in-None-clause-known : goal.open_by-requires-in-None-clause-known
+open_by-requires-in-None-clause-known c = c.in-Some.ensures (reverse c.args.self.now.scope) c.args.self.now.items.names c.requires.scoped.noted
 
-pub put_leaf-requires-clause-some : goal.put_leaf-requires-clause-some
-put_leaf-requires-clause-some c = c.in-Some-past_leaf.ensures.some
+pub returns-in_ok-open_by-in-Some-past_leaf-clause-ok : goal.returns-in_ok-open_by-in-Some-past_leaf-clause-ok
+returns-in_ok-open_by-in-Some-past_leaf-clause-ok c = leaf_taken c.in-Some.note.written.now c.args.tag.now c.in-Some-past_tag.inner.now c.in-Some-past_leaf.behind.now c.in-Some-past_leaf.len c.args.self.now c.open_by.new.self c.args.at c.in-Some-past_tag.ensures c.in-Some-past_leaf.ensures c.in_ok-open_by-in-Some-past_leaf.ensures.ok
 
-pub put_leaf-requires-clause-within : goal.put_leaf-requires-clause-within
-put_leaf-requires-clause-within c = c.in-Some-past_leaf.ensures.within
+pub returns-in_err-open_by-in-Some-past_leaf-clause-err : goal.returns-in_err-open_by-in-Some-past_leaf-clause-err
+returns-in_err-open_by-in-Some-past_leaf-clause-err c =
+    let known = c.in-Some.ensures (reverse c.args.self.now.scope) c.args.self.now.items.names c.requires.scoped.noted in
+    let p = err_from_is_err_and c.from_residual.result c.from_residual.ensures.1 in
+    rw (p.1, p.2) (start_stopped c.in-Some.note.written.now c.args.tag.now c.in-Some-past_tag.inner.now c.args.self.now c.args.at c.in_err-open_by-in-Some-past_leaf.field-0.0 known.named.qname c.in-Some-past_tag.ensures c.in_err-open_by-in-Some-past_leaf.ensures.err)
 
-pub put_leaf-requires-clause-run : goal.put_leaf-requires-clause-run
-put_leaf-requires-clause-run c = c.in-Some-past_leaf.ensures.run
+pub returns-in_ok-open_by-in-None-clause-ok : goal.returns-in_ok-open_by-in-None-clause-ok
+returns-in_ok-open_by-in-None-clause-ok c = inl (start_taken c.in-Some.note.written.now c.args.tag.now c.in-Some-past_tag.inner.now c.args.self.now c.open_by-in-None.new.self c.args.at c.in-Some-past_tag.ensures c.in_ok-open_by-in-None.ensures.ok)
 
-pub put_leaf-requires-clause-place : goal.put_leaf-requires-clause-place
-put_leaf-requires-clause-place c = within_tag c.in-Some.note.written.now c.args.tag.now c.in-Some-past_start.inner.now (context (state c.args.self.now)) c.args.at c.in-Some-past_start.ensures c.requires.place
-
-pub open_noted-requires-clause-known : goal.open_noted-requires-clause-known
-open_noted-requires-clause-known c = c.in-Some.ensures (reverse c.args.self.now.scope) c.args.self.now.items.names c.requires.scoped.noted
-
-pub open_noted-requires-clause-none : goal.open_noted-requires-clause-none
-open_noted-requires-clause-none c = c.in-Some-past_start.ensures.none
-
-pub returns-in_ok-put_leaf-in-Some-past_leaf : goal.returns-in_ok-put_leaf-in-Some-past_leaf
-returns-in_ok-put_leaf-in-Some-past_leaf c = leaf_taken c.in-Some.note.written.now c.args.tag.now c.in-Some-past_start.inner.now c.in-Some-past_leaf.behind.now c.in-Some-past_leaf.len c.args.self.now c.put_leaf.new.self c.args.at c.in-Some-past_start.ensures c.in-Some-past_leaf.ensures c.in_ok-put_leaf-in-Some-past_leaf.ensures
-
-pub returns-in_ok-open_noted-in-None : goal.returns-in_ok-open_noted-in-None
-returns-in_ok-open_noted-in-None c = inl (start_taken c.in-Some.note.written.now c.args.tag.now c.in-Some-past_start.inner.now c.args.self.now c.open_noted.new.self c.args.at c.in-Some-past_start.ensures c.in_ok-open_noted-in-None.ensures)
+pub returns-in_err-open_by-in-None-clause-err : goal.returns-in_err-open_by-in-None-clause-err
+returns-in_err-open_by-in-None-clause-err c =
+    let known = c.in-Some.ensures (reverse c.args.self.now.scope) c.args.self.now.items.names c.requires.scoped.noted in
+    let p = err_from_is_err_and c.from_residual-in_err-open_by-in-None.result c.from_residual-in_err-open_by-in-None.ensures.1 in
+    rw (p.1, p.2) (start_stopped c.in-Some.note.written.now c.args.tag.now c.in-Some-past_tag.inner.now c.args.self.now c.args.at c.in_err-open_by-in-None.field-0.0 known.named.qname c.in-Some-past_tag.ensures c.in_err-open_by-in-None.ensures.err)
