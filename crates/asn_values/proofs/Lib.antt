@@ -1,4 +1,4 @@
-pub mod Belonging
+pub mod Allowing
 pub mod Counting
 mod Judging
 pub mod JustSet

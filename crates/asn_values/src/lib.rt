@@ -1,17 +1,17 @@
 //! Defines the values of an ASN.1 type, and the rules that exclude values that no document has.
 //!
-//! Read first: docs/VALUES.md, `specs/Values` (`Own`, `Kept`, `Fits`, `In`), then `src/values.rt`.
+//! Read first: docs/VALUES.md, `specs/Values` (`Own`, `Kept`, `Fits`, `In`), then `src/rules.rt`.
 #![tactic(auto)]
 
 mod keeping;
+mod levels;
 mod orders;
 mod places;
 mod rules;
 mod spellings;
-mod values;
 
 pub use keeping::kept;
+pub use levels::below;
 pub use orders::ordered_flags;
 pub use rules::own;
 pub use spellings::spelling;
-pub use values::is_value;
