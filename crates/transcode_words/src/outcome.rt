@@ -96,7 +96,8 @@ impl Outcome {
             Outcome::OutOfMemory => 30,
         }
     }
-    /// The line, as its parts.
+
+    /// Returns the line as its parts.
     pub(crate) fn parts(self) -> Parts
         ensures { spelled result ≡ lines.line self }
     {
