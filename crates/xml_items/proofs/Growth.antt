@@ -9,8 +9,8 @@ use Rattle.base_trees.specs.Rose.{Rose, node, Roses, none, more, roses_of, Allow
 use Rattle.base_trees.proofs.Roses.{all_allowed-weaker}
 use Rattle.base_flat_trees.specs.Zips.{Above, Zip}
 use Rattle.xml_items.specs.declared.label.ItemLabel.TheVariants as label
-use Rattle.xml_items.specs.declared.entries.Kept.{Kept}
-use Rattle.xml_items.specs.declared.entries.Kept.TheVariants.{Element, Listed, Span, Text}
+use Rattle.xml_items.specs.declared.entries.ItemEntry.{ItemEntry}
+use Rattle.xml_items.specs.declared.entries.ItemEntry.TheVariants.{Element, Listed, Span, Text}
 use Rattle.xml_items.specs.declared.store.Store.{Store}
 use Rattle.xml_items.specs.declared.store.Lists.{Lists}
 use Rattle.xml_items.specs.Growing.{Grows}
@@ -65,48 +65,48 @@ pub store-same : (s : Store) → StoreGrows s s
 store-same s = record { document = refl; names = grows-same s.names.items s.names.items refl; lists = grows-same s.lists.items s.lists.items refl; texts = grows-same s.texts.items s.texts.items refl }
 
 module _ (s u : Store) (g : StoreGrows s u) where
-  pub meaning-grown : (k : Kept) → Fits s k → meaning u k ≡ meaning s k
+  pub meaning-grown : (k : ItemEntry) → Fits s k → meaning u k ≡ meaning s k
   meaning-grown (Element name at) h = ap (λ n. label.Element (name_in n) [] [] at) (same_got s.names.items u.names.items name g.names h)
   meaning-grown (Listed lists at) h = (same_lists s.names.items u.names.items s.lists.items u.lists.items lists at g.names g.lists h).0
   meaning-grown (Span len at) h = ap (λ d. label.Text (span_in d at len) at) g.document
   meaning-grown (Text text at) h = ap (λ t. label.Text (text_in t) at) (same_got s.texts.items u.texts.items text g.texts h)
 
-  pub fits-grown : (k : Kept) → Fits s k → Fits u k
+  pub fits-grown : (k : ItemEntry) → Fits s k → Fits u k
   fits-grown (Element name at) h = still_within s.names.items u.names.items name g.names h
   fits-grown (Listed lists at) h = (same_lists s.names.items u.names.items s.lists.items u.lists.items lists at g.names g.lists h).1
   fits-grown (Span len at) h = subst (λ d. LiesIn d at len) (sym g.document) h
   fits-grown (Text text at) h = still_within s.texts.items u.texts.items text g.texts h
 
   mutual
-    tree-grown : (t : Rose Kept) → FitTree s t → map_rose (meaning u) t ≡ map_rose (meaning s) t
+    tree-grown : (t : Rose ItemEntry) → FitTree s t → map_rose (meaning u) t ≡ map_rose (meaning s) t
     tree-grown (node k ts) h = ap (λ l. node l (map_roses (meaning u) ts)) (meaning-grown k h.0) ∙ ap (λ us. node (meaning s k) us) (roses-grown ts h.1)
 
-    roses-grown : (ts : Roses Kept) → AllowedAll (λ kept _. Fits s kept) ts → map_roses (meaning u) ts ≡ map_roses (meaning s) ts
+    roses-grown : (ts : Roses ItemEntry) → AllowedAll (λ kept _. Fits s kept) ts → map_roses (meaning u) ts ≡ map_roses (meaning s) ts
     roses-grown none h = refl
     roses-grown (more t ts) h = ap (λ v. more v (map_roses (meaning u) ts)) (tree-grown t h.0) ∙ ap (λ us. more (map_rose (meaning s) t) us) (roses-grown ts h.1)
 
-  trees-grown : (ts : List (Rose Kept)) → FitAll s ts → map (map_rose (meaning u)) ts ≡ map (map_rose (meaning s)) ts
+  trees-grown : (ts : List (Rose ItemEntry)) → FitAll s ts → map (map_rose (meaning u)) ts ≡ map (map_rose (meaning s)) ts
   trees-grown [] h = refl
   trees-grown (t ∷ ts) h = ap (λ v. v ∷ map (map_rose (meaning u)) ts) (tree-grown t h.0) ∙ ap (λ us. map_rose (meaning s) t ∷ us) (trees-grown ts h.1)
 
-  above-grown : (up : List (Above Kept)) → FitAbove s up → map (map_above (meaning u)) up ≡ map (map_above (meaning s)) up
+  above-grown : (up : List (Above ItemEntry)) → FitAbove s up → map (map_above (meaning u)) up ≡ map (map_above (meaning s)) up
   above-grown [] h = refl
   above-grown (a ∷ up) h =
       ap (λ l. record { label = l; before = map (map_rose (meaning u)) a.before } ∷ map (map_above (meaning u)) up) (meaning-grown a.label h.0)
       ∙ ap (λ ts. record { label = meaning s a.label; before = ts } ∷ map (map_above (meaning u)) up) (trees-grown a.before h.1.0)
       ∙ ap (λ vs. map_above (meaning s) a ∷ vs) (above-grown up h.1.1)
 
-  pub zip-grown : (z : Zip Kept) → FitZip s z → map_zip (meaning u) z ≡ map_zip (meaning s) z
+  pub zip-grown : (z : Zip ItemEntry) → FitZip s z → map_zip (meaning u) z ≡ map_zip (meaning s) z
   zip-grown z h =
       ap (λ vs. record { above = vs; kids = map (map_rose (meaning u)) z.kids }) (above-grown z.above h.above)
       ∙ ap (λ ts. record { above = map (map_above (meaning s)) z.above; kids = ts }) (trees-grown z.kids h.kids)
 
-  fit_all-grown : (ts : List (Rose Kept)) → FitAll s ts → FitAll u ts
+  fit_all-grown : (ts : List (Rose ItemEntry)) → FitAll s ts → FitAll u ts
   fit_all-grown ts h = all_allowed-weaker (λ kept _. Fits s kept) (λ kept _. Fits u kept) (λ k n f. fits-grown k f) (roses_of ts) h
 
-  fit_above-grown : (up : List (Above Kept)) → FitAbove s up → FitAbove u up
+  fit_above-grown : (up : List (Above ItemEntry)) → FitAbove s up → FitAbove u up
   fit_above-grown [] h = tt
   fit_above-grown (a ∷ up) h = (fits-grown a.label h.0, (fit_all-grown a.before h.1.0, fit_above-grown up h.1.1))
 
-  pub fit_zip-grown : (z : Zip Kept) → FitZip s z → FitZip u z
+  pub fit_zip-grown : (z : Zip ItemEntry) → FitZip s z → FitZip u z
   fit_zip-grown z h = record { above = fit_above-grown z.above h.above; kids = fit_all-grown z.kids h.kids }

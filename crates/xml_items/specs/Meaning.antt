@@ -5,8 +5,8 @@ use Rattle.base_trees.specs.Rose.{Rose, node, Roses, none, more, roses_of, Allow
 use Rattle.base_flat_trees.specs.Zips.{Above, Zip}
 use Rattle.xml_items.specs.declared.label.ItemLabel.{ItemLabel}
 use Rattle.xml_items.specs.declared.label.ItemLabel.TheVariants as label
-use Rattle.xml_items.specs.declared.entries.Kept.{Kept}
-use Rattle.xml_items.specs.declared.entries.Kept.TheVariants.{Element, Listed, Span, Text}
+use Rattle.xml_items.specs.declared.entries.ItemEntry.{ItemEntry}
+use Rattle.xml_items.specs.declared.entries.ItemEntry.TheVariants.{Element, Listed, Span, Text}
 use Rattle.xml_items.specs.declared.store.Store.{Store}
 use Rattle.xml_items.specs.declared.store.Lists.{Lists}
 use Rattle.xml_items.specs.Growing.{Grows}
@@ -45,7 +45,7 @@ listed_in names None at = label.Element (name_at names 0) [] [] at
 listed_in names (Some lists) at = label.Element (name_at names lists.name) lists.attributes.items lists.declares.items at
 
 -- what an entry says
-abbrev pub meaning : Store → Kept → ItemLabel
+abbrev pub meaning : Store → ItemEntry → ItemLabel
 meaning s (Element name at) = label.Element (name_at s.names.items name) [] [] at
 meaning s (Listed lists at) = listed_in s.names.items (slice_get s.lists.items lists) at
 meaning s (Span len at) = label.Text (span_in s.document at len) at
@@ -61,24 +61,24 @@ LiesIn None at len = ⊥
 LiesIn (Some document) at len = (at + len ≤ length document) × ∥ IsUtf8 (take len (drop at document)) ∥₁
 
 -- its numbers are those of something in the store
-abbrev pub Fits : Store → Kept → Type 0
+abbrev pub Fits : Store → ItemEntry → Type 0
 Fits s (Element name at) = name < length s.names.items
 Fits s (Listed lists at) = AreListed s.names.items s.lists.items lists
 Fits s (Span len at) = LiesIn s.document at len
 Fits s (Text text at) = text < length s.texts.items
 
 -- so are those of all entries
-abbrev pub FitTree : Store → Rose Kept → Type 0
+abbrev pub FitTree : Store → Rose ItemEntry → Type 0
 FitTree s t = Allowed (λ kept _. Fits s kept) t
 
-abbrev pub FitAll : Store → List (Rose Kept) → Type 0
+abbrev pub FitAll : Store → List (Rose ItemEntry) → Type 0
 FitAll s ts = AllowedAll (λ kept _. Fits s kept) (roses_of ts)
 
-abbrev pub FitAbove : Store → List (Above Kept) → Type 0
+abbrev pub FitAbove : Store → List (Above ItemEntry) → Type 0
 FitAbove s [] = Unit {0}
 FitAbove s (a ∷ up) = Fits s a.label × (FitAll s a.before × FitAbove s up)
 
-pub record FitZip (s : Store) (z : Zip Kept) : Type 0 where
+pub record FitZip (s : Store) (z : Zip ItemEntry) : Type 0 where
   pub above : FitAbove s z.above
   pub kids : FitAll s z.kids
 

@@ -7,7 +7,7 @@ ghost use Rattle.xml_items.specs.Building.{binding_count, listed, name_at};
 ghost use Rattle.xml_items.specs.Growing.{Grows};
 
 use crate::document::Document;
-use crate::entries::Kept;
+use crate::entries::ItemEntry;
 use crate::store::{Store, known};
 use crate::tree::ItemTree;
 use base_flat_trees::Builder;
@@ -35,7 +35,7 @@ impl Model for ElementName {
 /// and more than 2^32 - 1 nodes or lists or names, it answers as if memory ran out.
 #[derive(Drop)]
 pub struct ItemBuilder {
-    builder: Builder<Kept>,
+    builder: Builder<ItemEntry>,
     store: Store,
 }
 
@@ -186,13 +186,13 @@ impl ItemBuilder {
             Some(kept) => *kept,
         };
         match kept {
-            Kept::Element { at, .. } | Kept::Listed { at, .. } => {
+            ItemEntry::Element { at, .. } | ItemEntry::Listed { at, .. } => {
                 let name = self.store.name_number(kept);
                 let kept = self.store.keep_lists(name, attributes, declares, at)?;
                 let _ = self.builder.relabel(kept);
                 Ok(())
             }
-            Kept::Span { .. } | Kept::Text { .. } => Ok(()),
+            ItemEntry::Span { .. } | ItemEntry::Text { .. } => Ok(()),
         }
     }
 

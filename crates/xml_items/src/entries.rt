@@ -2,7 +2,7 @@
 
 /// An item as it is kept: where its parts stand in the store beside it, and its place in the document.
 #[derive(Clone, Copy, Drop)]
-pub(crate) enum Kept {
+pub(crate) enum ItemEntry {
     /// An element without attributes and bindings, by the number of its name.
     Element { name: u32, at: u32 },
     /// An element that has some, by the number of its lists.

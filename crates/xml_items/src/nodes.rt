@@ -6,7 +6,7 @@ ghost use Rattle.xml_items.specs.Labels.{item_place};
 ghost use Rattle.xml_items.specs.Seen.{item_seen};
 
 use crate::characters::Characters;
-use crate::entries::Kept;
+use crate::entries::ItemEntry;
 use crate::label::{Attributes, Bindings, ItemLabel};
 use crate::store::Store;
 use base_flat_trees::{Kids, Node};
@@ -73,7 +73,7 @@ impl<'a> ItemRef<'a> {
 /// A node of a document, seen as the tree below it.
 #[derive(Drop)]
 pub struct ItemNode<'a> {
-    pub(crate) node: Node<'a, Kept>,
+    pub(crate) node: Node<'a, ItemEntry>,
     pub(crate) store: &'a Store,
 }
 
@@ -96,7 +96,7 @@ impl<'a> Model for ItemNode<'a> {
 /// Nodes of a document side by side, of which the first comes next.
 #[derive(Drop)]
 pub struct ItemKids<'a> {
-    kids: Kids<'a, Kept>,
+    kids: Kids<'a, ItemEntry>,
     store: &'a Store,
 }
 

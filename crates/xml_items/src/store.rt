@@ -1,14 +1,14 @@
 //! The parts of items, each with its number.
 ghost use Rattle.std.specs.Prelude.{◌≡◌, ◌<◌, ◌≤◌, ◌^◌, ◌-◌, ◌++◌, ◌∷◌, [], length, slice_get, take, Some, IfOk, IfSome, IsTrue, IsUtf8, OnOk, OnErr};
 ghost use Rattle.xml_items.specs.declared.label.ItemLabel.TheVariants as label;
-ghost use Rattle.xml_items.specs.declared.entries.Kept.TheVariants as entry;
+ghost use Rattle.xml_items.specs.declared.entries.ItemEntry.TheVariants as entry;
 ghost use Rattle.xml_items.specs.Building.{binding_count, name_at, IsNamed};
 ghost use Rattle.xml_items.specs.Meaning.{span_in, StoreGrows, Fits, meaning};
 ghost use Rattle.xml_items.specs.Seen.{item_seen};
 
 use crate::characters::{Characters, Lying, are_fronts_same};
 use crate::document::Document;
-use crate::entries::Kept;
+use crate::entries::ItemEntry;
 use crate::nodes::ItemRef;
 use base_texts::{Memory, Name, Text};
 use std::alloc::{AllocError, Global};
@@ -60,23 +60,23 @@ impl Store {
 
     /// What an entry says.
     #[inline(always)]
-    pub(crate) fn item(&self, kept: Kept) -> ItemRef<'_>
+    pub(crate) fn item(&self, kept: ItemEntry) -> ItemRef<'_>
         requires { Fits self.now kept }
         ensures { item_seen result ≡ meaning self.now kept }
     {
         match kept {
-            Kept::Element { name, at } => ItemRef::Element {
+            ItemEntry::Element { name, at } => ItemRef::Element {
                 name: &self.names[name as usize],
                 attributes: &[],
                 declares: &[],
                 at: at as u64,
             },
-            Kept::Listed { lists, at } => self.listed(lists, at),
-            Kept::Span { len, at } => ItemRef::Text {
+            ItemEntry::Listed { lists, at } => self.listed(lists, at),
+            ItemEntry::Span { len, at } => ItemRef::Text {
                 text: self.span(at, len),
                 at: at as u64,
             },
-            Kept::Text { text, at } => ItemRef::Text {
+            ItemEntry::Text { text, at } => ItemRef::Text {
                 text: Characters {
                     lying: Lying::Kept(&self.texts[text as usize]),
                 },
@@ -118,24 +118,24 @@ impl Store {
     }
 
     /// How many namespaces an entry binds.
-    pub(crate) fn binding_count(&self, kept: Kept) -> usize
+    pub(crate) fn binding_count(&self, kept: ItemEntry) -> usize
         requires { Fits self.now kept }
         ensures { result ≡ binding_count (Some (meaning self.now kept)) }
     {
         match kept {
-            Kept::Listed { lists, .. } => self.lists[lists as usize].declares.len(),
+            ItemEntry::Listed { lists, .. } => self.lists[lists as usize].declares.len(),
             _ => 0,
         }
     }
 
     /// The number of the name of an element, or any number.
-    pub(crate) fn name_number(&self, kept: Kept) -> u32
+    pub(crate) fn name_number(&self, kept: ItemEntry) -> u32
         requires { Fits self.now kept }
         ensures { IsNamed self.now.names.items result (meaning self.now kept) }
     {
         match kept {
-            Kept::Element { name, .. } => name,
-            Kept::Listed { lists, .. } => self.lists[lists as usize].name,
+            ItemEntry::Element { name, .. } => name,
+            ItemEntry::Listed { lists, .. } => self.lists[lists as usize].name,
             _ => 0,
         }
     }
@@ -173,7 +173,7 @@ impl Store {
         attributes: Vec<(Name, Text)>,
         declares: Vec<(Text, Text)>,
         at: u32,
-    ) -> Result<Kept, AllocError>
+    ) -> Result<ItemEntry, AllocError>
         requires { name < length self.old.names.items }
         ensures grows { StoreGrows self.old self.new }
         ensures names { self.new.names.items ≡ self.old.names.items }
@@ -181,7 +181,7 @@ impl Store {
         ensures meaning { IfOk result (λ kept. meaning self.new kept ≡ label.Element (name_at self.new.names.items name) attributes.items declares.items at) }
     {
         if attributes.is_empty() && declares.is_empty() {
-            return Ok(Kept::Element { name, at });
+            return Ok(ItemEntry::Element { name, at });
         }
         let lists = push_part(
             &mut self.lists,
@@ -191,7 +191,7 @@ impl Store {
                 declares,
             },
         )?;
-        Ok(Kept::Listed { lists, at })
+        Ok(ItemEntry::Listed { lists, at })
     }
 
     /// The entry of an element, and the number of its name.
@@ -201,7 +201,7 @@ impl Store {
         attributes: Vec<(Name, Text)>,
         declares: Vec<(Text, Text)>,
         at: u64,
-    ) -> Result<(Kept, u32), AllocError>
+    ) -> Result<(ItemEntry, u32), AllocError>
         ensures grows { StoreGrows self.old self.new }
         ensures fits { IfOk result (λ kept. Fits self.new kept.0) }
         ensures meaning { IfOk result (λ kept. meaning self.new kept.0 ≡ label.Element name attributes.items declares.items at) }
@@ -215,7 +215,7 @@ impl Store {
 
     /// The entry of a text.
     #[inline(always)]
-    pub(crate) fn keep_text(&mut self, text: Text, at: u64) -> Result<Kept, AllocError>
+    pub(crate) fn keep_text(&mut self, text: Text, at: u64) -> Result<ItemEntry, AllocError>
         ensures grows { StoreGrows self.old self.new }
         ensures names { self.new.names.items ≡ self.old.names.items }
         ensures fits { IfOk result (λ kept. Fits self.new kept) }
@@ -223,7 +223,7 @@ impl Store {
     {
         let at = short_place(at)?;
         let text = push_part(&mut self.texts, text)?;
-        Ok(Kept::Text { text, at })
+        Ok(ItemEntry::Text { text, at })
     }
 
     // Whether so many bytes that stand first lie in the document at this place. Where they do this may still say no.
@@ -251,7 +251,7 @@ impl Store {
         bytes: &[u8],
         len: usize,
         at: u64,
-    ) -> Result<Kept, Memory>
+    ) -> Result<ItemEntry, Memory>
         requires within { len ≤ length bytes.now }
         requires utf8 { IsUtf8 (take len bytes.now) }
         ensures grows { StoreGrows self.old self.new }
@@ -262,7 +262,7 @@ impl Store {
         let place = short_place(at)?;
         if len <= u32::MAX as usize && self.lies_at(place, bytes, len) {
             self.spans = self.spans.saturating_add(1);
-            return Ok(Kept::Span {
+            return Ok(ItemEntry::Span {
                 len: len as u32,
                 at: place,
             });
@@ -318,9 +318,9 @@ fn short_place(at: u64) -> Result<u32, AllocError>
 
 /// An element without lists, as it is kept.
 #[inline(always)]
-pub(crate) fn known(name: u32, at: u64) -> Result<Kept, AllocError>
+pub(crate) fn known(name: u32, at: u64) -> Result<ItemEntry, AllocError>
     ensures { IfOk result (λ kept. kept ≡ entry.Element name at) }
 {
     let at = short_place(at)?;
-    Ok(Kept::Element { name, at })
+    Ok(ItemEntry::Element { name, at })
 }

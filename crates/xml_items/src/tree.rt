@@ -1,7 +1,7 @@
 //! The items of a document.
 ghost use Rattle.std.specs.Prelude.{◌≡◌, IfOk};
 
-use crate::entries::Kept;
+use crate::entries::ItemEntry;
 use crate::label::ItemLabel;
 use crate::nodes::{ItemNode, ItemRef};
 use crate::store::Store;
@@ -15,7 +15,7 @@ use std::marker::Model;
 /// A node with all that is in it, in one vector. Dropping it takes no recursion.
 #[derive(Drop)]
 pub struct ItemTree {
-    pub(crate) tree: Flat<Kept>,
+    pub(crate) tree: Flat<ItemEntry>,
     pub(crate) store: Store,
 }
 
