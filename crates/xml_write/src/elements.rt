@@ -77,44 +77,51 @@ fn make_room(out: &mut Vec<u8>, count: usize) -> Result<(), AllocError>
     out.reserve(count)
 }
 
-// Appends a start tag without its end, of a name with a prefix of one digit.
+// A name whose prefix is `n` with one digit.
+#[derive(Clone, Copy)]
+struct DigitName<'t> {
+    digit: u8,
+    local: &'t [u8],
+}
+
+// Appends a start tag of this name, without its end.
 #[inline(always)]
-fn put_start(out: &mut Vec<u8>, digit: u8, local: &[u8])
-    requires { HasRoom out.old (4 + length local.now) }
-    ensures { Puts out.old out.new (60 ∷ 110 ∷ digit ∷ 58 ∷ local.now) }
+fn put_start(out: &mut Vec<u8>, name: DigitName<'_>)
+    requires { HasRoom out.old (4 + length name.local.now) }
+    ensures { Puts out.old out.new (60 ∷ 110 ∷ name.entry.digit ∷ 58 ∷ name.entry.local.now) }
 {
     out.push_reserved(b'<');
     out.push_reserved(b'n');
-    out.push_reserved(digit);
+    out.push_reserved(name.digit);
     out.push_reserved(b':');
-    put_all(out, local);
+    put_all(out, name.local);
 }
 
-// Appends an end tag of such a name.
+// Appends an end tag of this name.
 #[inline(always)]
-fn put_end(out: &mut Vec<u8>, digit: u8, local: &[u8])
-    requires { HasRoom out.old (6 + length local.now) }
-    ensures { Puts out.old out.new (60 ∷ 47 ∷ (110 ∷ digit ∷ 58 ∷ local.now) ++ 62 ∷ []) }
+fn put_end(out: &mut Vec<u8>, name: DigitName<'_>)
+    requires { HasRoom out.old (6 + length name.local.now) }
+    ensures { Puts out.old out.new (60 ∷ 47 ∷ (110 ∷ name.entry.digit ∷ 58 ∷ name.entry.local.now) ++ 62 ∷ []) }
 {
     out.push_reserved(b'<');
     out.push_reserved(b'/');
     out.push_reserved(b'n');
-    out.push_reserved(digit);
+    out.push_reserved(name.digit);
     out.push_reserved(b':');
-    put_all(out, local);
+    put_all(out, name.local);
     out.push_reserved(b'>');
 }
 
-// Appends an element of such a name, in which a text stands as it is.
+// Appends an element of this name. The text is written as it is.
 #[inline(always)]
-fn put_element(out: &mut Vec<u8>, digit: u8, local: &[u8], text: &[u8])
-    requires { HasRoom out.old (11 + length local.now + length local.now + length text.now) }
-    ensures { Puts out.old out.new (element_text (110 ∷ digit ∷ 58 ∷ local.now) text.now) }
+fn put_element(out: &mut Vec<u8>, name: DigitName<'_>, text: &[u8])
+    requires { HasRoom out.old (11 + length name.local.now + length name.local.now + length text.now) }
+    ensures { Puts out.old out.new (element_text (110 ∷ name.entry.digit ∷ 58 ∷ name.entry.local.now) text.now) }
 {
-    put_start(out, digit, local);
+    put_start(out, name);
     out.push_reserved(b'>');
     put_all(out, text);
-    put_end(out, digit, local);
+    put_end(out, name);
 }
 
 // Appends a byte.
@@ -127,59 +134,48 @@ pub(crate) fn write_byte(out: &mut Vec<u8>, byte: u8) -> Result<(), AllocError>
     Ok(())
 }
 
-// Makes room for such a start tag without its end, and appends it. The list is taken out meanwhile, so that its length
-// isn't written at each byte.
+// Makes room for a start tag of this name without its end, and appends it. The list is taken out meanwhile, so that its
+// length isn't written at each byte.
 #[inline(always)]
-fn write_few_start(
-    alloc: Global,
-    out: &mut Vec<u8>,
-    digit: u8,
-    local: &[u8],
-) -> Result<(), AllocError>
-    requires { length local.now ≤ 32 }
-    ensures { OnOk result (out.new.items ≡ out.old.items ++ 60 ∷ 110 ∷ digit ∷ 58 ∷ local.now) }
+fn write_few_start(alloc: Global, out: &mut Vec<u8>, name: DigitName<'_>) -> Result<(), AllocError>
+    requires { length name.local.now ≤ 32 }
+    ensures { OnOk result (out.new.items ≡ out.old.items ++ 60 ∷ 110 ∷ name.entry.digit ∷ 58 ∷ name.entry.local.now) }
 {
-    make_room(out, 4 + local.len())?;
+    make_room(out, 4 + name.local.len())?;
     let mut told = mem::replace(out, Vec::new(alloc));
-    put_start(&mut told, digit, local);
+    put_start(&mut told, name);
     *out = told;
     Ok(())
 }
 
-// The same of an end tag.
+// Makes room for an end tag of this name, and appends it.
 #[inline(always)]
-fn write_few_end(
-    alloc: Global,
-    out: &mut Vec<u8>,
-    digit: u8,
-    local: &[u8],
-) -> Result<(), AllocError>
-    requires { length local.now ≤ 32 }
-    ensures { OnOk result (out.new.items ≡ out.old.items ++ 60 ∷ 47 ∷ (110 ∷ digit ∷ 58 ∷ local.now) ++ 62 ∷ []) }
+fn write_few_end(alloc: Global, out: &mut Vec<u8>, name: DigitName<'_>) -> Result<(), AllocError>
+    requires { length name.local.now ≤ 32 }
+    ensures { OnOk result (out.new.items ≡ out.old.items ++ 60 ∷ 47 ∷ (110 ∷ name.entry.digit ∷ 58 ∷ name.entry.local.now) ++ 62 ∷ []) }
 {
-    make_room(out, 6 + local.len())?;
+    make_room(out, 6 + name.local.len())?;
     let mut told = mem::replace(out, Vec::new(alloc));
-    put_end(&mut told, digit, local);
+    put_end(&mut told, name);
     *out = told;
     Ok(())
 }
 
-// The same of an element in which a text stands as it is.
+// Makes room for an element of this name, and appends it. The text is written as it is.
 #[inline(always)]
 fn write_few(
     alloc: Global,
     out: &mut Vec<u8>,
-    digit: u8,
-    local: &[u8],
+    name: DigitName<'_>,
     text: &[u8],
 ) -> Result<(), AllocError>
-    requires local { length local.now ≤ 32 }
+    requires local { length name.local.now ≤ 32 }
     requires text { length text.now ≤ 32 }
-    ensures { OnOk result (out.new.items ≡ out.old.items ++ element_text (110 ∷ digit ∷ 58 ∷ local.now) text.now) }
+    ensures { OnOk result (out.new.items ≡ out.old.items ++ element_text (110 ∷ name.entry.digit ∷ 58 ∷ name.entry.local.now) text.now) }
 {
-    make_room(out, 11 + local.len() + local.len() + text.len())?;
+    make_room(out, 11 + name.local.len() + name.local.len() + text.len())?;
     let mut told = mem::replace(out, Vec::new(alloc));
-    put_element(&mut told, digit, local, text);
+    put_element(&mut told, name, text);
     *out = told;
     Ok(())
 }
@@ -234,7 +230,7 @@ pub(crate) fn write_text_element(
 {
     if let Some(digit) = qualifier.digit() {
         if local.len() <= FEW && is_plain(text) {
-            return write_few(alloc, out, digit, local, text);
+            return write_few(alloc, out, DigitName { digit, local }, text);
         }
     }
     write_any(out, qualifier, local, text)
@@ -252,7 +248,7 @@ pub(crate) fn write_start_tag(
 {
     if let Some(digit) = qualifier.digit() {
         if local.len() <= FEW {
-            return write_few_start(alloc, out, digit, local);
+            return write_few_start(alloc, out, DigitName { digit, local });
         }
     }
     qualifier.write_start(out)?;
@@ -271,7 +267,7 @@ pub(crate) fn write_end_tag(
 {
     if let Some(digit) = qualifier.digit() {
         if local.len() <= FEW {
-            return write_few_end(alloc, out, digit, local);
+            return write_few_end(alloc, out, DigitName { digit, local });
         }
     }
     qualifier.write_end(out)?;

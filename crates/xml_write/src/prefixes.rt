@@ -187,7 +187,8 @@ impl<'a> Prefixes<'a> {
         Ok(self.qualifier(space))
     }
 
-    // The same of a namespace that may be absent. Most names are in that of the name before.
+    // Returns what precedes the local part of a name in this namespace, which may be absent. A namespace without an entry
+    // gets one. Most names are in the namespace of the name before.
     #[inline(always)]
     pub(crate) fn declared_text(&mut self, space: Option<&'a Text>) -> Result<Qualifier, AllocError>
         ensures table { OnOk result (self.new ≡ with_space self.old (space_of space.entry)) }
@@ -204,7 +205,8 @@ impl<'a> Prefixes<'a> {
         self.declared_anew(space)
     }
 
-    // The same of one that isn't that of the name before.
+    // Returns what precedes the local part of a name in this namespace, where the name before is in another one. A
+    // namespace without an entry gets one.
     #[inline(never)]
     fn declared_anew(&mut self, space: &'a Text) -> Result<Qualifier, AllocError>
         ensures table { OnOk result (self.new ≡ with_space self.old space.now) }

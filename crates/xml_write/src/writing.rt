@@ -142,23 +142,29 @@ pub(crate) fn write_declarations(
     Ok(())
 }
 
-// A start tag without its end.
+// A start tag: its name with what precedes the local part, the declarations of namespaces, and the attributes.
+#[derive(Clone, Copy)]
+struct StartTag<'t, 'a> {
+    qualifier: Qualifier,
+    name: &'t Name,
+    declared: &'t [(&'a [u8], Prefix)],
+    attributes: &'t [(Name, Text)],
+}
+
+// Writes a start tag without its end.
 #[inline(always)]
 fn write_start(
     out: &mut Vec<u8>,
     prefixes: &Prefixes<'_>,
-    declared: &[(&[u8], Prefix)],
-    qualifier: Qualifier,
-    name: &Name,
-    attributes: &[(Name, Text)],
+    tag: StartTag<'_, '_>,
 ) -> Result<(), AllocError>
-    requires { named qualifier name.now ≡ written_name prefixes.now name.now }
-    ensures { OnOk result (out.new.items ≡ out.old.items ++ written_start prefixes.now (flat_map written_declaration (map entry_of declared.now)) name.now attributes.now) }
+    requires { named tag.qualifier tag.name.now ≡ written_name prefixes.now tag.name.now }
+    ensures { OnOk result (out.new.items ≡ out.old.items ++ written_start prefixes.now (flat_map written_declaration (map entry_of tag.entry.declared.now)) tag.entry.name.now tag.entry.attributes.now) }
 {
     out.push(b'<')?;
-    write_name(out, qualifier, name)?;
-    write_declarations(out, declared)?;
-    write_attributes(out, prefixes, attributes)
+    write_name(out, tag.qualifier, tag.name)?;
+    write_declarations(out, tag.declared)?;
+    write_attributes(out, prefixes, tag.attributes)
 }
 
 #[inline(always)]
@@ -189,7 +195,13 @@ fn write_tree(
             ..
         } => {
             let qualifier = prefixes.qualifier(name.space.bytes());
-            write_start(out, prefixes, declared, qualifier, name, attributes)?;
+            let tag = StartTag {
+                qualifier,
+                name,
+                declared,
+                attributes,
+            };
+            write_start(out, prefixes, tag)?;
             if kids.is_empty() {
                 return out.extend_from_slice(b"/>");
             }
