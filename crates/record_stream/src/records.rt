@@ -77,14 +77,12 @@ impl<'a, S: Source> Records<'a, S> {
             return Ok(Some(octet));
         }
         let mut buf = [0u8; 1];
-        match self.source.read(&mut buf) {
-            Ok(0) => Ok(None),
-            Ok(_) => {
-                self.octet = Some(buf[0]);
-                Ok(Some(buf[0]))
-            }
-            Err(Failed) => Err(Failed),
+        let count = self.source.read(&mut buf)?;
+        if count == 0 {
+            return Ok(None);
         }
+        self.octet = Some(buf[0]);
+        Ok(Some(buf[0]))
     }
 
     // The record that begins with the octet.

@@ -37,10 +37,7 @@ fn write_parts<E: Sink>(sink: &mut E, parts: &[&[u8]]) -> Result<(), Failed>
     ensures cause { Counts (E.faults sink.old) (E.faults sink.new) (IsErr result) }
 {
     for part in parts {
-        match write_all(sink, part) {
-            Ok(()) => {}
-            Err(failed) => return Err(failed),
-        }
+        write_all(sink, part)?;
     }
     Ok(())
 }
