@@ -1,5 +1,5 @@
 -- What a part of a type stands for in a document, by the encoding instructions of X.693.
-use Rattle.std.specs.Prelude.{ℕ, ◌+◌, ◌==◌, ◌&&◌, Bool, false, ℤ, List, Option, Some, None, length, if◌then◌else◌}
+use Rattle.std.specs.Prelude.{ℕ, ◌+◌, ◌==◌, ◌&&◌, Bool, false, List, length, if◌then◌else◌}
 use Rattle.base_texts.specs.Limits.{is_empty}
 use Rattle.asn_types.specs.declared.marks.Instruction.{Instruction}
 use Rattle.asn_types.specs.declared.roles.Role.{Role}
@@ -42,11 +42,3 @@ role_of l i component =
     else (if is_item l.form component then Item
     else (if has_use_union l.marks then Alternative
     else Element))))))
-
-abbrev pub int_bounds : Form → Option (Option ℤ × Option ℤ)
-int_bounds (form.Int least greatest) = Some (least, greatest)
-int_bounds _ = None
-
-abbrev pub size_bounds : Form → Option (ℕ × Option ℕ)
-size_bounds (form.SequenceOf part least most) = Some (least, most)
-size_bounds _ = None

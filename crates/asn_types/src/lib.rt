@@ -18,7 +18,7 @@ mod types;
 pub use laws::{references, types_of_modules};
 pub use marks::{Instruction, Marks};
 pub use modules::{Assignment, Module};
-pub use parts::{int_bounds, role, size_bounds};
+pub use parts::role;
 pub use resolving::{follow_reference, resolve};
 pub use roles::Role;
 pub use simples::{simple_at, simple_of};

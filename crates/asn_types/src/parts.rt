@@ -1,4 +1,4 @@
-//! The parts of a type with their roles, and its bounds.
+//! The parts of a type with their roles.
 ghost use Rattle.std.specs.Prelude.{◌≡◌, ◌<◌, IfSome, MatchOption, Some, None, length, slice_get};
 ghost use Rattle.asn_types.specs.Parts.{parts_of};
 ghost use Rattle.asn_types.specs.Roles as roles;
@@ -85,25 +85,5 @@ impl TypeLabel {
             Form::SequenceOf { .. } => component.identifier.as_str().is_empty(),
             _ => false,
         }
-    }
-}
-
-/// The bounds of an INTEGER. None where the type is none.
-pub fn int_bounds(node: &TypeLabel) -> Option<(Option<i128>, Option<i128>)>
-    ensures { result ≡ roles.int_bounds node.now.form }
-{
-    match node.form {
-        Form::Int { lo, hi } => Some((lo, hi)),
-        _ => None,
-    }
-}
-
-/// The least and the greatest number of items of a SEQUENCE OF. None where the type is none.
-pub fn size_bounds(node: &TypeLabel) -> Option<(u32, Option<u32>)>
-    ensures { result ≡ roles.size_bounds node.now.form }
-{
-    match node.form {
-        Form::SequenceOf { min, max, .. } => Some((min, max)),
-        _ => None,
     }
 }

@@ -3,20 +3,20 @@ ghost use Rattle.std.specs.Prelude.{◌≡◌, ◌↔◌, IfOk, IsTrue, MatchOpt
 ghost use Rattle.base_trees.specs.Rose.{node, label_of, roses_of, Roses};
 ghost use Rattle.simple_types.specs.Space.{Spaces};
 ghost use Rattle.simple_types.specs.Seen.{space_of, spaces_in};
-ghost use Rattle.simple_types.specs.Sound.{IsWord, AreWords, Sound, AreSound, is_union, has_list, have_list};
+ghost use Rattle.simple_types.specs.Sound.{IsWord, AreWords, Sound, AreSound};
 ghost use Rattle.asn_types.specs.declared.types.TypeLabel.{TypeLabel};
 ghost use Rattle.asn_types.specs.Modules.{IsForm, AreWellFormed, AllWellFormed};
 ghost use Rattle.asn_types.specs.Refs.{IsOf, resolve};
 ghost use Rattle.asn_types.specs.Simples.{IsPlain, ArePlain, MapToEach};
 ghost use Rattle.asn_types.specs.Spaces.{space_at, spaces_at, first_space};
-ghost use Rattle.asn_types.specs.Private.Telling.{Finds, IsLeaf, IsFormOfWords, is_list};
+ghost use Rattle.asn_types.specs.Private.Telling.{Finds, IsLeaf, IsFormOfWords};
 
 use crate::modules::Module;
 use crate::resolving::resolve;
 use crate::types::{Component, Form, TypeLabel};
 use base_texts::{Memory, Text, WhiteSpace, is_treated};
 use base_trees::Tree;
-use simple_types::{Class, Simple, SimpleList, TextList, has_characters};
+use simple_types::{Class, Simple, SimpleList, TextList, has_characters, has_list, is_union};
 use std::alloc::Global;
 
 // Whether the word has XML characters alone and is left as it is by the treatment.
@@ -113,46 +113,6 @@ fn leaf_at(alloc: Global, module: &Module, label: &TypeLabel) -> Result<Option<S
             None => Ok(None),
         },
         _ => Ok(None),
-    }
-}
-
-#[tactic(auto, unfolding(simple_types::specs::Seen::space_of))]
-fn is_union(simple: &Simple) -> bool
-    ensures { result ≡ is_union (space_of simple.now) }
-{
-    matches!(simple, Simple::Union(_))
-}
-
-#[tactic(auto, unfolding(simple_types::specs::Seen::space_of))]
-fn is_list(simple: &Simple) -> bool
-    ensures { result ≡ is_list (space_of simple.now) }
-{
-    matches!(simple, Simple::List { .. })
-}
-
-// Whether a list stands among the members of a union.
-fn have_list(members: &[Simple]) -> bool
-    requires { AreSound (spaces_in members.now) }
-    ensures { result ≡ have_list (spaces_in members.now) }
-{
-    'members: for member in members {
-        if is_list(member) {
-            return true;
-        }
-    }
-    false
-}
-
-// Whether it is a list, or a union with a list among its members.
-#[tactic(auto, unfolding(simple_types::specs::Seen::space_of))]
-fn has_list(simple: &Simple) -> bool
-    requires { Sound (space_of simple.now) }
-    ensures { result ≡ has_list (space_of simple.now) }
-{
-    match simple {
-        Simple::List { .. } => true,
-        Simple::Union(members) => have_list(members.items()),
-        _ => false,
     }
 }
 

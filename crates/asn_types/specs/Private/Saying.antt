@@ -78,7 +78,7 @@ abbrev pub name_in : List ℕ → Option Instruction → List ℕ
 name_in generated (Some (mark.Name name)) = name
 name_in generated _ = generated
 
--- the same of NAMESPACE
+-- the namespace of the instruction at the place of the first NAMESPACE, empty where there is none
 abbrev pub space_in : Option Instruction → List ℕ
 space_in (Some (mark.Namespace space)) = space
 space_in _ = []

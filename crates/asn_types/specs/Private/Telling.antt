@@ -6,7 +6,6 @@ use Rattle.std.specs.Ordering.{nat_cmp}
 use Rattle.std.specs.Cmp.Lexicographic.{slice_cmp}
 use Rattle.simple_types.specs.Sound.{Sound, IsCounted}
 use Rattle.simple_types.specs.Seen.{space_of}
-use Rattle.simple_types.specs.Space.{Space, ListOf}
 use Rattle.base_trees.specs.Rose.{Rose}
 use Rattle.asn_types.specs.declared.marks.Instruction.{Instruction}
 use Rattle.asn_types.specs.declared.marks.Instruction.TheVariants as mark
@@ -51,7 +50,3 @@ IsLeaf _ = Unit {0}
 abbrev pub IsFormOfWords : Form → List (List ℕ) → Type 0
 IsFormOfWords f words =
     (identifiers : List (List ℕ)) × (f ≡ form.Words identifiers words) × IsCounted (length words) × IsStrictlySortedBy (slice_cmp nat_cmp) words
-
-abbrev pub is_list : Space → Bool
-is_list (ListOf item least most) = true
-is_list _ = false
