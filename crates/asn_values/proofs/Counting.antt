@@ -1,4 +1,4 @@
--- Child elements counted, and values that fit, kid by kid.
+-- Child elements counted, and values that fit, child by child.
 use Rattle.std.proofs.Common.{◌≡◌, ℕ, zero, suc, ◌+◌, ◌-◌, ◌^◌, ◌<◌, ◌≤◌, min, Option, Some, None, Result, Ok, Err, List, [], ◌∷◌, length, get_or, drop, refl, sym, ◌∙◌, ap, subst, arith}
 use Rattle.std.specs.Prelude.{map, replicate, IfOk}
 use Rattle.std.proofs.lemmas.List.{drop_more}
@@ -8,8 +8,8 @@ use Rattle.simple_types.specs.declared.labels.ValueLabel.{ValueLabel}
 use Rattle.asn_types.specs.declared.modules.Assignment.{Assignment}
 use Rattle.asn_values.specs.declared.places.ComponentPlace as code
 use Rattle.asn_types.specs.declared.types.TypeLabel.{TypeLabel}
-use Rattle.asn_values.specs.Private.Placing.{place_seen, ArePlaces, FitsPlace, FitPlaces, FitKids}
-use Rattle.asn_types.specs.Refs.{resolve, IsOf}
+use Rattle.asn_values.specs.Private.Placing.{place_seen, FitPlaces, FitKids}
+use Rattle.asn_types.specs.Refs.{resolve}
 use Rattle.asn_values.specs.Values.{ComponentPlace, places, counted, child_count, count_in, FitsAt, FitEach, Own}
 
 pub if_ok : {A E : Type 0} (P Q : A → Type 0) (r : Result A E) → ((a : A) → P a → Q a) → IfOk r P → IfOk r Q
@@ -91,43 +91,6 @@ module _ (M : List Assignment) where
       let long = subst (λ n. FitPlaces M depth (places (resolve M t) l n) vs) (length-list_of vs) back in
       (deep, long, own)
 
-  -- the places and the values end together
-  pub fit_end : (depth : ℕ) (vs : List (Rose ValueLabel)) → FitEach M depth [] (roses_of vs) → vs ≡ []
-  unfolding FitEach
-  fit_end depth [] h = refl
-  fit_end depth (v ∷ vs) h = absurd h
-
-  pub none_fits : (depth : ℕ) (p : ComponentPlace) (ps : List ComponentPlace) → FitEach M depth (p ∷ ps) none → ⊥
-  unfolding FitEach
-  none_fits depth p ps h = h
-
   pub fit_none : (depth : ℕ) → FitEach M depth [] none
   unfolding FitEach
   fit_none depth = tt
-
-  module _ (depth : ℕ) (p : ComponentPlace) (ps qs : List ComponentPlace) (v : Rose ValueLabel) (vs ws : List (Rose ValueLabel)) (next : vs ≡ v ∷ ws) (is : ps ≡ p ∷ qs) where
-    pub fit-split : FitEach M depth ps (roses_of vs) → FitsPlace M depth p v × FitEach M depth qs (roses_of ws)
-    unfolding FitEach
-    fit-split h = subst (λ us. FitEach M depth (p ∷ qs) (roses_of us)) next (subst (λ ks. FitEach M depth ks (roses_of vs)) is h)
-
-    pub fit-join : FitsPlace M depth p v → FitEach M depth qs (roses_of ws) → FitEach M depth ps (roses_of vs)
-    unfolding FitEach
-    fit-join one others =
-        let both : FitEach M depth (p ∷ qs) (more v (roses_of ws)) = (one, others) in
-        subst (λ ks. FitEach M depth ks (roses_of vs)) (sym is) (subst (λ us. FitEach M depth (p ∷ qs) (roses_of us)) (sym next) both)
-
-  pub places-first : (p : ComponentPlace) (ps qs : List ComponentPlace) → ps ≡ p ∷ qs → ArePlaces M ps → IsOf M p.type × ArePlaces M qs
-  places-first p ps qs is h = subst (ArePlaces M) is h
-
-  -- the kids fit where the places were found
-  pub kids_from : (depth : ℕ) (t : Rose TypeLabel) (v : Rose ValueLabel) (l : ValueLabel) (ks : List (Rose ValueLabel)) (o : Option (List ComponentPlace))
-      → l ≡ label_of v → ks ≡ kids_of v → places t l (length ks) ≡ o → FitPlaces M depth o (roses_of ks) → FitKids M depth t v
-  kids_from depth t v l ks o el ek is h =
-      subst (λ x. FitPlaces M depth (places t x (length (kids_of v))) (roses_of (kids_of v))) el
-      (subst (λ x. FitPlaces M depth (places t l (length x)) (roses_of x)) ek (subst (λ x. FitPlaces M depth x (roses_of ks)) (sym is) h))
-
-  pub kids_to : (depth : ℕ) (t : Rose TypeLabel) (v : Rose ValueLabel) (l : ValueLabel) (ks : List (Rose ValueLabel)) (o : Option (List ComponentPlace))
-      → l ≡ label_of v → ks ≡ kids_of v → places t l (length ks) ≡ o → FitKids M depth t v → FitPlaces M depth o (roses_of ks)
-  kids_to depth t v l ks o el ek is h =
-      subst (λ x. FitPlaces M depth x (roses_of ks)) is
-      (subst (λ x. FitPlaces M depth (places t l (length x)) (roses_of x)) (sym ek) (subst (λ x. FitPlaces M depth (places t x (length (kids_of v))) (roses_of (kids_of v))) (sym el) h))

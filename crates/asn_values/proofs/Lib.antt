@@ -1,4 +1,3 @@
-pub mod Belonging
 pub mod Counting
 mod Judging
 pub mod JustSet

@@ -1,6 +1,6 @@
 //! Defines the values of an ASN.1 type, and the rules that exclude values that no document has.
 //!
-//! Read first: docs/VALUES.md, `specs/Values` (`Own`, `Kept`, `Fits`, `In`), then `src/values.rt`.
+//! Read first: docs/VALUES.md, `specs/Values` (`Own`, `Kept`, `Fits`, `In`), then `src/rules.rt`.
 #![tactic(auto)]
 
 mod keeping;
@@ -8,10 +8,8 @@ mod orders;
 mod places;
 mod rules;
 mod spellings;
-mod values;
 
 pub use keeping::kept;
 pub use orders::ordered_flags;
 pub use rules::own;
 pub use spellings::spelling;
-pub use values::is_value;

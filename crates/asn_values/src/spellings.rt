@@ -1,9 +1,9 @@
 //! The canonical spelling of values, by their types.
-ghost use Rattle.std.specs.Prelude.{◌≡◌, ◌++◌, [], IfOk, OnOk, MatchOption, Some, None, map, string_bytes};
-ghost use Rattle.base_trees.specs.Rose.{label_of, kids_of, roses_of, Allowed, AllowedAll};
+ghost use Rattle.std.specs.Prelude.{◌≡◌, ◌++◌, IfOk, OnOk, map, string_bytes};
+ghost use Rattle.base_trees.specs.Rose.{roses_of, Allowed, AllowedAll};
 ghost use Rattle.std.specs.List.{join_with_byte};
 ghost use Rattle.simple_types.specs.Space.{UnionOf};
-ghost use Rattle.simple_types.specs.Reading.{spelled, spelled_boolean, spelled_whole, spelled_number, spelled_word, spelled_text, choice_at};
+ghost use Rattle.simple_types.specs.Reading.{spelled, spelled_whole, spelled_text};
 ghost use Rattle.asn_types.specs.Parts.{MayHave};
 ghost use Rattle.asn_types.specs.Spaces.{space_at, spaces_at};
 
@@ -12,68 +12,12 @@ use base_flat_trees::{Kids, Node};
 use base_texts::{Memory, Text};
 use base_trees::Tree;
 use itoa::Buffer;
-use simple_types::ValueLabel;
+use simple_types::{
+    ValueLabel, choice_of, word_of, write_boolean, write_number, write_text, write_whole,
+    write_word,
+};
 use std::alloc::Global;
 use std::iter::Iterator;
-
-fn write_boolean(out: &mut String, label: &ValueLabel) -> Result<(), Memory>
-    ensures { OnOk result (string_bytes out.new ≡ string_bytes out.old ++ spelled_boolean label.now) }
-{
-    match label {
-        ValueLabel::Bool(true) => out.push_str("true")?,
-        ValueLabel::Bool(false) => out.push_str("false")?,
-        _ => {}
-    }
-    Ok(())
-}
-
-fn write_whole(out: &mut String, label: &ValueLabel) -> Result<(), Memory>
-    ensures { OnOk result (string_bytes out.new ≡ string_bytes out.old ++ spelled_whole label.now) }
-{
-    if let ValueLabel::Int(n) = label {
-        out.push_str(Buffer::new().format(n.get()))?;
-    }
-    Ok(())
-}
-
-fn write_number(out: &mut String, numbers: &[i128], label: &ValueLabel) -> Result<(), Memory>
-    ensures { OnOk result (string_bytes out.new ≡ string_bytes out.old ++ spelled_number numbers.now label.now) }
-{
-    if let ValueLabel::Enum(i) = label {
-        if let Some(n) = numbers.get(*i as usize) {
-            out.push_str(Buffer::new().format(*n))?;
-        }
-    }
-    Ok(())
-}
-
-// The word that a value stands for.
-fn word_of<'a>(words: &'a [Text], label: &ValueLabel) -> Option<&'a Text>
-    ensures { MatchOption result (spelled_word words.now label.now ≡ []) (λ word. spelled_word words.now label.now ≡ word.now) }
-{
-    match label {
-        ValueLabel::Enum(i) => words.get(*i as usize),
-        _ => None,
-    }
-}
-
-fn write_word(out: &mut String, words: &[Text], label: &ValueLabel) -> Result<(), Memory>
-    ensures { OnOk result (string_bytes out.new ≡ string_bytes out.old ++ spelled_word words.now label.now) }
-{
-    if let Some(word) = word_of(words, label) {
-        out.push_str(word.as_str())?;
-    }
-    Ok(())
-}
-
-fn write_text(out: &mut String, label: &ValueLabel) -> Result<(), Memory>
-    ensures { OnOk result (string_bytes out.new ≡ string_bytes out.old ++ spelled_text label.now) }
-{
-    if let ValueLabel::Utf8(text) = label {
-        out.push_str(text.as_str())?;
-    }
-    Ok(())
-}
 
 // The digits of a whole number.
 fn whole_text(alloc: Global, label: &ValueLabel) -> Result<Text, Memory>
@@ -115,19 +59,6 @@ fn write_items(
         write_spelling(out, item, &value)?;
     }
     Ok(())
-}
-
-// The alternative that a value chooses, and the value of it.
-fn choice_of<'a>(value: &Node<'a, ValueLabel>) -> Option<(u32, Node<'a, ValueLabel>)>
-    ensures { MatchOption result
-        (choice_at (label_of value.now) (kids_of value.now) ≡ None)
-        (λ choice. choice_at (label_of value.now) (kids_of value.now) ≡ Some choice) }
-{
-    let ValueLabel::Choice(i) = value.label() else {
-        return None;
-    };
-    let chosen = value.kids().next()?;
-    Some((*i, chosen))
 }
 
 #[cycle(spelling)]

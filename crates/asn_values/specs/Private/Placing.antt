@@ -7,7 +7,6 @@ use Rattle.asn_values.specs.declared.places.ComponentPlace.{ComponentPlace}
 use Rattle.asn_values.specs.declared.places.Places.{Places}
 use Rattle.asn_values.specs.declared.places.Places.TheVariants.{Each, All}
 use Rattle.asn_types.specs.declared.modules.Assignment.{Assignment}
-use Rattle.asn_types.specs.Refs.{IsOf}
 use Rattle.asn_values.specs.Values as values
 
 abbrev pub place_seen : ComponentPlace → values.ComponentPlace
@@ -23,16 +22,7 @@ abbrev pub Found : ℕ → Option Places → Option (List values.ComponentPlace)
 Found n None due = due ≡ None
 Found n (Some places) due = due ≡ Some (places_seen n places)
 
--- the types of places are those of a module
-abbrev pub ArePlaces : List Assignment → List values.ComponentPlace → Type 0
-ArePlaces M [] = Unit {0}
-ArePlaces M (place ∷ places) = IsOf M place.type × ArePlaces M places
-
 module _ (M : List Assignment) where
-  -- a part that is present fits where it stands
-  abbrev pub FitsPlace : ℕ → values.ComponentPlace → Rose ValueLabel → Type 0
-  FitsPlace depth place v = values.FitsAt M (values.below place.role depth) place.type v × values.Kept M place.part place.type v
-
   abbrev pub FitPlaces : ℕ → Option (List values.ComponentPlace) → Roses ValueLabel → Type 0
   FitPlaces depth o vs = elim o [ None ↦ ⊥ | Some places ↦ values.FitEach M depth places vs ]
 
