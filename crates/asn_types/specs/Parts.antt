@@ -1,5 +1,5 @@
 -- What stands in a type.
-use Rattle.std.specs.Prelude.{◌≡◌, ℕ, Some, List, [], ◌∷◌, length, slice_get}
+use Rattle.std.specs.Prelude.{◌≡◌, ℕ, Bool, true, false, Some, List, [], ◌∷◌, length, slice_get}
 use Rattle.base_trees.specs.Rose.{Rose, Roses, list_of}
 use Rattle.asn_types.specs.declared.types.Component.{Component}
 use Rattle.asn_types.specs.declared.types.Form.{Form}
@@ -12,6 +12,16 @@ parts_of (form.Sequence parts) = parts
 parts_of (form.Choice parts) = parts
 parts_of (form.SequenceOf part least most) = part ∷ []
 parts_of _ = []
+
+-- neither a reference nor a type with components, so that its values have no child nodes
+abbrev pub is_leaf : Form → Bool
+is_leaf form.Bool = true
+is_leaf (form.Int least greatest) = true
+is_leaf (form.Numbers numbers) = true
+is_leaf (form.Words identifiers words) = true
+is_leaf (form.Order identifiers) = true
+is_leaf (form.Utf8 least most class) = true
+is_leaf _ = false
 
 -- the part with number i of a type, and the type of the part
 abbrev pub IsPart : TypeLabel → Roses TypeLabel → ℕ → Component → Rose TypeLabel → Type 0

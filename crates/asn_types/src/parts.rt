@@ -1,12 +1,31 @@
 //! The parts of a type with their roles.
 ghost use Rattle.std.specs.Prelude.{◌≡◌, ◌<◌, IfSome, MatchOption, Some, None, length, slice_get};
-ghost use Rattle.asn_types.specs.Parts.{parts_of};
+ghost use Rattle.asn_types.specs.Parts.{is_leaf, parts_of};
 ghost use Rattle.asn_types.specs.Roles as roles;
 
 use crate::roles::Role;
 use crate::types::{Component, Form, TypeLabel};
 
 impl Form {
+    /// Returns whether the type is neither a reference nor has components, so that its values have no child nodes.
+    #[inline(always)]
+    pub fn is_leaf(&self) -> bool
+        ensures { result ≡ is_leaf self.now }
+    {
+        match self {
+            Form::Bool
+            | Form::Int { .. }
+            | Form::Numbers { .. }
+            | Form::Words { .. }
+            | Form::Order { .. }
+            | Form::Utf8 { .. } => true,
+            Form::Sequence { .. }
+            | Form::Choice { .. }
+            | Form::SequenceOf { .. }
+            | Form::Ref { .. } => false,
+        }
+    }
+
     // The component with this number.
     #[inline(always)]
     fn part(&self, i: usize) -> Option<&Component>

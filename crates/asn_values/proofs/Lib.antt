@@ -1,3 +1,4 @@
+pub mod Allowing
 pub mod Counting
 mod Judging
 pub mod JustSet

@@ -4,12 +4,14 @@
 #![tactic(auto)]
 
 mod keeping;
+mod levels;
 mod orders;
 mod places;
 mod rules;
 mod spellings;
 
 pub use keeping::kept;
+pub use levels::below;
 pub use orders::ordered_flags;
 pub use rules::own;
 pub use spellings::spelling;

@@ -1,0 +1,19 @@
+//! How deep elements are nested in a value.
+ghost use Rattle.std.specs.Prelude.{◌≡◌, ◌≤◌};
+ghost use Rattle.asn_values.specs.Values as rule;
+
+use asn_types::Role;
+
+/// Returns the number of elements that are nested down to a part with this role, where `depth` are nested down to the node
+/// that has the part.
+#[inline(always)]
+pub fn below(role: Role, depth: u32) -> u32
+    requires { depth ≤ 64 }
+    ensures same { result ≡ rule.below role depth }
+    ensures few { result ≤ 65 }
+{
+    match role {
+        Role::Element => depth + 1,
+        _ => depth,
+    }
+}
