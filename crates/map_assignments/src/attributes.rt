@@ -7,49 +7,43 @@ ghost use Rattle.map_assignments.specs.Naming.{IsNamed};
 ghost use Rattle.map_assignments.specs.Private.Placing.{place_of};
 ghost use Rattle.map_assignments.specs.Private.Building.{LeadsToNamed};
 
+use crate::mapper::Mapper;
 use crate::parts::PartList;
-use crate::places::Places;
 use crate::simple::simple_type;
 use asn_types::TypeLabel;
 use base_texts::Memory;
 use base_trees::Tree;
 use map_subjects::Subject;
-use schema_components::{AttributeUse, SchemaSet};
-use std::alloc::Global;
+use schema_components::AttributeUse;
 
-// The type of what has the simple type with this number: that of its assignment, or the type in place.
-pub(crate) fn simple_at(
-    alloc: Global,
-    set: &SchemaSet,
-    places: &Places,
-    n: u32,
-) -> Result<Tree<TypeLabel>, Memory>
-    requires linked { IsLinked set.now }
-    requires number { n < length set.now.simples }
-    ensures { IfOk result (λ made. IsNamed (place_of places.now) (plan.simple_type set.now n) made) }
-{
-    let definition = set.simple(n);
-    match definition.name {
-        Some(_) => Ok(places.reference(alloc, Subject::Simple(n))),
-        None => simple_type(alloc, &definition.space),
+impl Mapper<'_> {
+    /// The type of what has the simple type with this number: that of its assignment, or the type in place.
+    pub(crate) fn simple_at(self, n: u32) -> Result<Tree<TypeLabel>, Memory>
+        requires linked { IsLinked self.set.now }
+        requires number { n < length self.set.now.simples }
+        ensures { IfOk result (λ made. IsNamed (place_of self.entry.places.now) (plan.simple_type self.entry.set.now n) made) }
+    {
+        let definition = self.set.simple(n);
+        match definition.name {
+            Some(_) => Ok(self.places.reference(self.alloc, Subject::Simple(n))),
+            None => simple_type(self.alloc, &definition.space),
+        }
     }
-}
 
-// The components of these attribute uses, behind the parts so far.
-pub(crate) fn push_attributes(
-    alloc: Global,
-    parts: &mut PartList,
-    set: &SchemaSet,
-    places: &Places,
-    uses: &[AttributeUse],
-) -> Result<(), Memory>
-    requires linked { IsLinked set.now }
-    requires uses { All (IsUse set.now) uses.now }
-    ensures { OnOk result ((rest whole : Parts) → LeadsToNamed (place_of places.now) parts.old (plan.attributes set.now uses.now rest) whole → LeadsToNamed (place_of places.now) parts.new rest whole) }
-{
-    'uses: for attribute in uses {
-        let kid = simple_at(alloc, set, places, attribute.simple)?;
-        parts.push_attribute(attribute, kid)?;
+    /// Adds the components of these attribute uses after the parts so far.
+    pub(crate) fn push_attributes(
+        self,
+        parts: &mut PartList,
+        uses: &[AttributeUse],
+    ) -> Result<(), Memory>
+        requires linked { IsLinked self.set.now }
+        requires uses { All (IsUse self.set.now) uses.now }
+        ensures { OnOk result ((rest whole : Parts) → LeadsToNamed (place_of self.entry.places.now) parts.old (plan.attributes self.entry.set.now uses.now rest) whole → LeadsToNamed (place_of self.entry.places.now) parts.new rest whole) }
+    {
+        'uses: for attribute in uses {
+            let kid = self.simple_at(attribute.simple)?;
+            parts.push_attribute(attribute, kid)?;
+        }
+        Ok(())
     }
-    Ok(())
 }

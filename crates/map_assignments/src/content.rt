@@ -12,17 +12,16 @@ ghost use Rattle.map_assignments.specs.Naming.{IsNamed, sequence_marks};
 ghost use Rattle.map_assignments.specs.Private.Placing.{place_of};
 ghost use Rattle.map_assignments.specs.Private.Building.{LeadsToNamed, declared, term_of, IsKnown, AreKnown};
 
-use crate::attributes::{push_attributes, simple_at};
+use crate::mapper::Mapper;
 use crate::orders::order_type;
 use crate::particles::{is_plain, push_nillable, push_particle, push_texts, push_untagged};
 use crate::parts::PartList;
-use crate::places::Places;
 use asn_types::{Instruction, Marks, TypeLabel};
 use base_texts::Memory;
 use base_trees::Tree;
 use content_models::{ParticleKind, ParticleLabel};
 use map_subjects::Subject;
-use schema_components::{AttributeUse, ComplexDef, Content, ElementDecl, SchemaSet, TypeOf};
+use schema_components::{AttributeUse, ComplexDef, Content, ElementDecl, TypeOf};
 use std::alloc::Global;
 
 fn is_mixed(content: &Content) -> bool
@@ -89,7 +88,6 @@ fn begin(alloc: Global, mixed: bool) -> Result<PartList, Memory>
 
 // The part for the order of the elements, where the content model is an all.
 fn push_all_order(
-    alloc: Global,
     parts: &mut PartList,
     nillable: bool,
     mixed: bool,
@@ -102,6 +100,7 @@ fn push_all_order(
         → LeadsToNamed place parts.new rest whole) }
 {
     if is_all(particle) {
+        let alloc = parts.alloc();
         let kid = order_type(alloc, nillable, mixed, uses, particle.kids())?;
         parts.push_marked("order", false, Marks::of(Vec::new(alloc)), kid)
     } else {
@@ -111,7 +110,6 @@ fn push_all_order(
 
 // The part for the order of the elements, where they may stand in any order.
 fn push_content_order(
-    alloc: Global,
     parts: &mut PartList,
     nillable: bool,
     definition: &ComplexDef,
@@ -123,33 +121,11 @@ fn push_content_order(
     let uses = definition.uses.items();
     match &definition.content {
         Content::ElementOnly(particle) => {
-            push_all_order(alloc, parts, nillable, false, uses, particle.root())
+            push_all_order(parts, nillable, false, uses, particle.root())
         }
-        Content::Mixed(particle) => {
-            push_all_order(alloc, parts, nillable, true, uses, particle.root())
-        }
+        Content::Mixed(particle) => { push_all_order(parts, nillable, true, uses, particle.root()) }
         _ => Ok(()),
     }
-}
-
-// The parts that stand first, up to the attributes.
-fn first_parts(
-    alloc: Global,
-    set: &SchemaSet,
-    places: &Places,
-    nillable: bool,
-    definition: &ComplexDef,
-) -> Result<PartList, Memory>
-    requires linked { IsLinked set.now }
-    requires definition { IsComplexType set.now definition.now }
-    ensures { IfOk result (λ made. (T : ℕ → TypePlan) (rest : Parts)
-        → LeadsToNamed (place_of places.now) made rest (plan.with_texts (plan.is_mixed definition.now.content)
-        (plan.with_order (plan.is_ordered definition.now.content) (plan.order_plan T set.now nillable definition.now) (plan.attributes set.now definition.now.uses rest)))) }
-{
-    let mut parts = begin(alloc, is_mixed(&definition.content))?;
-    push_content_order(alloc, &mut parts, nillable, definition)?;
-    push_attributes(alloc, &mut parts, set, places, definition.uses.items())?;
-    Ok(parts)
 }
 
 // The type that has these parts, of a complex type with this content.
@@ -166,293 +142,270 @@ fn marked_sequence(
     Ok(parts.into_sequence(marks))
 }
 
-// The type of nillable elements of the simple type with this number.
-fn nillable_simple_type(
-    alloc: Global,
-    set: &SchemaSet,
-    places: &Places,
-    n: u32,
-) -> Result<Tree<TypeLabel>, Memory>
-    requires linked { IsLinked set.now }
-    requires number { n < length set.now.simples }
-    ensures { IfOk result (λ made. IsNamed (place_of places.now) (plan.nillable_simple_type set.now n) made) }
-{
-    let kid = simple_at(alloc, set, places, n)?;
-    let mut parts = PartList::new(alloc);
-    push_nillable(alloc, &mut parts, kid)?;
-    let marks = sequence_marks(alloc, true, false, false)?;
-    Ok(parts.into_sequence(marks))
-}
-
-// The type where a particle of the element with this number stands.
-#[cycle(content)]
-fn particle_type(
-    alloc: Global,
-    set: &SchemaSet,
-    places: &Places,
-    levels: u32,
-    decl: u32,
-) -> Result<Tree<TypeLabel>, Memory>
-    requires linked { IsLinked set.now }
-    requires number { decl < length set.now.elements }
-    ensures { IfOk result (λ made. IsNamed (place_of places.now) (declared set.now levels decl) made) }
-{
-    if decl < set.global_count() {
-        return Ok(places.reference(alloc, Subject::Element(decl)));
+impl Mapper<'_> {
+    // The parts that stand first, up to the attributes.
+    fn first_parts(self, nillable: bool, definition: &ComplexDef) -> Result<PartList, Memory>
+        requires linked { IsLinked self.set.now }
+        requires definition { IsComplexType self.set.now definition.now }
+        ensures { IfOk result (λ made. (T : ℕ → TypePlan) (rest : Parts)
+            → LeadsToNamed (place_of self.entry.places.now) made rest (plan.with_texts (plan.is_mixed definition.now.content)
+            (plan.with_order (plan.is_ordered definition.now.content) (plan.order_plan T self.entry.set.now nillable definition.now) (plan.attributes self.entry.set.now definition.now.uses rest)))) }
+    {
+        let mut parts = begin(self.alloc, is_mixed(&definition.content))?;
+        push_content_order(&mut parts, nillable, definition)?;
+        self.push_attributes(&mut parts, definition.uses.items())?;
+        Ok(parts)
     }
-    own_type(alloc, set, places, levels, set.element(decl))
-}
 
-// The type of a declaration, where it isn't referred to.
-#[cycle(content)]
-pub(crate) fn own_type(
-    alloc: Global,
-    set: &SchemaSet,
-    places: &Places,
-    levels: u32,
-    element: &ElementDecl,
-) -> Result<Tree<TypeLabel>, Memory>
-    requires linked { IsLinked set.now }
-    requires typed { IsTyped set.now element.now.kind }
-    ensures { IfOk result (λ made. IsNamed (place_of places.now) (plan.own_type set.now (plan.in_place set.now levels) element.now) made) }
-{
-    let nillable = element.nillable;
-    match element.kind {
-        TypeOf::Simple(n) => {
-            if nillable {
-                nillable_simple_type(alloc, set, places, n)
-            } else {
-                simple_at(alloc, set, places, n)
-            }
+    // The type of nillable elements of the simple type with this number.
+    fn nillable_simple_type(self, n: u32) -> Result<Tree<TypeLabel>, Memory>
+        requires linked { IsLinked self.set.now }
+        requires number { n < length self.set.now.simples }
+        ensures { IfOk result (λ made. IsNamed (place_of self.entry.places.now) (plan.nillable_simple_type self.entry.set.now n) made) }
+    {
+        let kid = self.simple_at(n)?;
+        let mut parts = PartList::new(self.alloc);
+        push_nillable(self.alloc, &mut parts, kid)?;
+        let marks = sequence_marks(self.alloc, true, false, false)?;
+        Ok(parts.into_sequence(marks))
+    }
+
+    // The type where a particle of the element with this number stands.
+    #[cycle(content)]
+    fn particle_type(self, levels: u32, decl: u32) -> Result<Tree<TypeLabel>, Memory>
+        requires linked { IsLinked self.set.now }
+        requires number { decl < length self.set.now.elements }
+        ensures { IfOk result (λ made. IsNamed (place_of self.entry.places.now) (declared self.entry.set.now levels decl) made) }
+    {
+        if decl < self.set.global_count() {
+            return Ok(self.places.reference(self.alloc, Subject::Element(decl)));
         }
-        TypeOf::Complex(n) => match set.complex(n).name {
-            Some(_) => {
-                let subject = if nillable {
-                    Subject::Nillable(n)
+        self.own_type(levels, self.set.element(decl))
+    }
+
+    // The type of a declaration, where it isn't referred to.
+    #[cycle(content)]
+    pub(crate) fn own_type(
+        self,
+        levels: u32,
+        element: &ElementDecl,
+    ) -> Result<Tree<TypeLabel>, Memory>
+        requires linked { IsLinked self.set.now }
+        requires typed { IsTyped self.set.now element.now.kind }
+        ensures { IfOk result (λ made. IsNamed (place_of self.entry.places.now) (plan.own_type self.entry.set.now (plan.in_place self.entry.set.now levels) element.now) made) }
+    {
+        let nillable = element.nillable;
+        match element.kind {
+            TypeOf::Simple(n) => {
+                if nillable {
+                    self.nillable_simple_type(n)
                 } else {
-                    Subject::Complex(n)
-                };
-                Ok(places.reference(alloc, subject))
+                    self.simple_at(n)
+                }
             }
-            None => in_place(alloc, set, places, levels, nillable, n),
-        },
-    }
-}
-
-/// The type of the complex type with this number, in which at most so many types without a name stand in one another,
-/// itself included.
-#[cycle(content)]
-pub(crate) fn in_place(
-    alloc: Global,
-    set: &SchemaSet,
-    places: &Places,
-    levels: u32,
-    nillable: bool,
-    n: u32,
-) -> Result<Tree<TypeLabel>, Memory>
-    requires linked { IsLinked set.now }
-    requires number { n < length set.now.complexes }
-    ensures { IfOk result (λ made. IsNamed (place_of places.now) (plan.in_place set.now levels nillable n) made) }
-{
-    if levels == 0 {
-        let marks = Marks::of(Vec::new(alloc));
-        return Ok(PartList::new(alloc).into_sequence(marks));
-    }
-    complex_type(alloc, set, places, levels - 1, nillable, set.complex(n))
-}
-
-#[cycle(content)]
-fn complex_type(
-    alloc: Global,
-    set: &SchemaSet,
-    places: &Places,
-    levels: u32,
-    nillable: bool,
-    definition: &ComplexDef,
-) -> Result<Tree<TypeLabel>, Memory>
-    requires linked { IsLinked set.now }
-    requires definition { IsComplexType set.now definition.now }
-    ensures { IfOk result (λ made. IsNamed (place_of places.now) (plan.complex_plan (declared set.now levels) set.now nillable definition.now) made) }
-{
-    let content = &definition.content;
-    let mut parts = first_parts(alloc, set, places, nillable, definition)?;
-    push_rest(alloc, &mut parts, set, places, levels, nillable, content)?;
-    marked_sequence(alloc, parts, nillable, content)
-}
-
-// What stands behind the attributes.
-#[cycle(content)]
-fn push_rest(
-    alloc: Global,
-    parts: &mut PartList,
-    set: &SchemaSet,
-    places: &Places,
-    levels: u32,
-    nillable: bool,
-    content: &Content,
-) -> Result<(), Memory>
-    requires linked { IsLinked set.now }
-    requires content { IsContent set.now content.now }
-    ensures { OnOk result ((whole : Parts) → LeadsToNamed (place_of places.now) parts.old (plan.rest_parts (declared set.now levels) set.now nillable content.now) whole
-        → LeadsToNamed (place_of places.now) parts.new finish whole) }
-{
-    if nillable {
-        let kid = content_type(alloc, set, places, levels, content)?;
-        push_nillable(alloc, parts, kid)
-    } else {
-        push_content(alloc, parts, set, places, levels, content)
-    }
-}
-
-// The type of what a nillable element has where it isn't nil.
-#[cycle(content)]
-fn content_type(
-    alloc: Global,
-    set: &SchemaSet,
-    places: &Places,
-    levels: u32,
-    content: &Content,
-) -> Result<Tree<TypeLabel>, Memory>
-    requires linked { IsLinked set.now }
-    requires content { IsContent set.now content.now }
-    ensures { IfOk result (λ made. IsNamed (place_of places.now) (plan.content_type (declared set.now levels) set.now content.now) made) }
-{
-    if let Content::Simple(n) = content {
-        return simple_at(alloc, set, places, *n);
-    }
-    let mut parts = PartList::new(alloc);
-    push_content(alloc, &mut parts, set, places, levels, content)?;
-    let marks = Marks::of(Vec::new(alloc));
-    Ok(parts.into_sequence(marks))
-}
-
-#[cycle(content)]
-fn push_content(
-    alloc: Global,
-    parts: &mut PartList,
-    set: &SchemaSet,
-    places: &Places,
-    levels: u32,
-    content: &Content,
-) -> Result<(), Memory>
-    requires linked { IsLinked set.now }
-    requires content { IsContent set.now content.now }
-    ensures { OnOk result ((whole : Parts) → LeadsToNamed (place_of places.now) parts.old (plan.content_parts (declared set.now levels) set.now content.now) whole
-        → LeadsToNamed (place_of places.now) parts.new finish whole) }
-{
-    match content {
-        Content::Empty => Ok(()),
-        Content::Simple(n) => {
-            let kid = simple_at(alloc, set, places, *n)?;
-            push_untagged(alloc, parts, "base", false, kid)
+            TypeOf::Complex(n) => match self.set.complex(n).name {
+                Some(_) => {
+                    let subject = if nillable {
+                        Subject::Nillable(n)
+                    } else {
+                        Subject::Complex(n)
+                    };
+                    Ok(self.places.reference(self.alloc, subject))
+                }
+                None => self.in_place(levels, nillable, n),
+            },
         }
-        Content::ElementOnly(particle) => {
-            push_top(alloc, parts, set, places, levels, particle.root())
+    }
+
+    /// The type of the complex type with this number, in which at most so many types without a name stand in one another,
+    /// itself included.
+    #[cycle(content)]
+    pub(crate) fn in_place(
+        self,
+        levels: u32,
+        nillable: bool,
+        n: u32,
+    ) -> Result<Tree<TypeLabel>, Memory>
+        requires linked { IsLinked self.set.now }
+        requires number { n < length self.set.now.complexes }
+        ensures { IfOk result (λ made. IsNamed (place_of self.entry.places.now) (plan.in_place self.entry.set.now levels nillable n) made) }
+    {
+        if levels == 0 {
+            let marks = Marks::of(Vec::new(self.alloc));
+            return Ok(PartList::new(self.alloc).into_sequence(marks));
         }
-        Content::Mixed(particle) => { push_top(alloc, parts, set, places, levels, particle.root()) }
+        self.complex_type(levels - 1, nillable, self.set.complex(n))
     }
-}
 
-// The parts of a content model.
-#[cycle(content)]
-fn push_top(
-    alloc: Global,
-    parts: &mut PartList,
-    set: &SchemaSet,
-    places: &Places,
-    levels: u32,
-    particle: &Tree<ParticleLabel>,
-) -> Result<(), Memory>
-    requires linked { IsLinked set.now }
-    requires known { IsKnown set.now particle.now }
-    ensures { OnOk result ((whole : Parts) → LeadsToNamed (place_of places.now) parts.old (plan.top (declared set.now levels) (seen particle.now)) whole
-        → LeadsToNamed (place_of places.now) parts.new finish whole) }
-{
-    let label = particle.label();
-    if is_plain(label) {
-        return push_particles(alloc, parts, set, places, levels, false, particle.kids());
+    #[cycle(content)]
+    fn complex_type(
+        self,
+        levels: u32,
+        nillable: bool,
+        definition: &ComplexDef,
+    ) -> Result<Tree<TypeLabel>, Memory>
+        requires linked { IsLinked self.set.now }
+        requires definition { IsComplexType self.set.now definition.now }
+        ensures { IfOk result (λ made. IsNamed (place_of self.entry.places.now) (plan.complex_plan (declared self.entry.set.now levels) self.entry.set.now nillable definition.now) made) }
+    {
+        let content = &definition.content;
+        let mut parts = self.first_parts(nillable, definition)?;
+        self.push_rest(&mut parts, levels, nillable, content)?;
+        marked_sequence(self.alloc, parts, nillable, content)
     }
-    let kid = term_type(alloc, set, places, levels, particle)?;
-    push_particle(alloc, parts, false, label, kid)
-}
 
-// The type of one occurrence of a particle.
-#[cycle(content)]
-fn term_type(
-    alloc: Global,
-    set: &SchemaSet,
-    places: &Places,
-    levels: u32,
-    particle: &Tree<ParticleLabel>,
-) -> Result<Tree<TypeLabel>, Memory>
-    requires linked { IsLinked set.now }
-    requires known { IsKnown set.now particle.now }
-    ensures { IfOk result (λ made. IsNamed (place_of places.now) (plan.term_type (declared set.now levels) (term_of particle.now)) made) }
-{
-    match particle.label().kind {
-        ParticleKind::Element { decl, .. } => particle_type(alloc, set, places, levels, decl),
-        ParticleKind::Sequence | ParticleKind::All => {
-            sequence_type(alloc, set, places, levels, particle.kids())
+    // What stands behind the attributes.
+    #[cycle(content)]
+    fn push_rest(
+        self,
+        parts: &mut PartList,
+        levels: u32,
+        nillable: bool,
+        content: &Content,
+    ) -> Result<(), Memory>
+        requires linked { IsLinked self.set.now }
+        requires content { IsContent self.set.now content.now }
+        ensures { OnOk result ((whole : Parts) → LeadsToNamed (place_of self.entry.places.now) parts.old (plan.rest_parts (declared self.entry.set.now levels) self.entry.set.now nillable content.now) whole
+            → LeadsToNamed (place_of self.entry.places.now) parts.new finish whole) }
+    {
+        if nillable {
+            let kid = self.content_type(levels, content)?;
+            push_nillable(self.alloc, parts, kid)
+        } else {
+            self.push_content(parts, levels, content)
         }
-        ParticleKind::Choice => choice_type(alloc, set, places, levels, particle.kids()),
     }
-}
 
-// The type of a sequence of these particles.
-#[cycle(content)]
-fn sequence_type(
-    alloc: Global,
-    set: &SchemaSet,
-    places: &Places,
-    levels: u32,
-    particles: &[Tree<ParticleLabel>],
-) -> Result<Tree<TypeLabel>, Memory>
-    requires linked { IsLinked set.now }
-    requires known { AreKnown set.now particles.now }
-    ensures { IfOk result (λ made. IsNamed (place_of places.now) (plan_of.sequence false false false (plan.particle_parts (declared set.now levels) false (all_seen (roses_of particles.now)))) made) }
-{
-    let mut parts = PartList::new(alloc);
-    push_particles(alloc, &mut parts, set, places, levels, false, particles)?;
-    Ok(parts.into_sequence(Marks::of(Vec::new(alloc))))
-}
-
-// The type of a choice of these particles.
-#[cycle(content)]
-fn choice_type(
-    alloc: Global,
-    set: &SchemaSet,
-    places: &Places,
-    levels: u32,
-    particles: &[Tree<ParticleLabel>],
-) -> Result<Tree<TypeLabel>, Memory>
-    requires linked { IsLinked set.now }
-    requires known { AreKnown set.now particles.now }
-    ensures { IfOk result (λ made. IsNamed (place_of places.now) (plan_of.choice (plan.particle_parts (declared set.now levels) true (all_seen (roses_of particles.now)))) made) }
-{
-    let mut parts = PartList::new(alloc);
-    push_particles(alloc, &mut parts, set, places, levels, true, particles)?;
-    Ok(parts.into_choice(Marks::of(Vec::new(alloc))))
-}
-
-// The parts for particles of a group.
-#[cycle(content)]
-fn push_particles(
-    alloc: Global,
-    parts: &mut PartList,
-    set: &SchemaSet,
-    places: &Places,
-    levels: u32,
-    in_choice: bool,
-    particles: &[Tree<ParticleLabel>],
-) -> Result<(), Memory>
-    requires linked { IsLinked set.now }
-    requires known { AreKnown set.now particles.now }
-    ensures { OnOk result ((whole : Parts) → LeadsToNamed (place_of places.now) parts.old (plan.particle_parts (declared set.now levels) in_choice (all_seen (roses_of particles.now))) whole
-        → LeadsToNamed (place_of places.now) parts.new finish whole) }
-{
-    'particles: for particle in particles {
-        let kid = term_type(alloc, set, places, levels, particle)?;
-        push_particle(alloc, parts, in_choice, particle.label(), kid)?;
+    // The type of what a nillable element has where it isn't nil.
+    #[cycle(content)]
+    fn content_type(self, levels: u32, content: &Content) -> Result<Tree<TypeLabel>, Memory>
+        requires linked { IsLinked self.set.now }
+        requires content { IsContent self.set.now content.now }
+        ensures { IfOk result (λ made. IsNamed (place_of self.entry.places.now) (plan.content_type (declared self.entry.set.now levels) self.entry.set.now content.now) made) }
+    {
+        if let Content::Simple(n) = content {
+            return self.simple_at(*n);
+        }
+        let mut parts = PartList::new(self.alloc);
+        self.push_content(&mut parts, levels, content)?;
+        let marks = Marks::of(Vec::new(self.alloc));
+        Ok(parts.into_sequence(marks))
     }
-    Ok(())
+
+    #[cycle(content)]
+    fn push_content(
+        self,
+        parts: &mut PartList,
+        levels: u32,
+        content: &Content,
+    ) -> Result<(), Memory>
+        requires linked { IsLinked self.set.now }
+        requires content { IsContent self.set.now content.now }
+        ensures { OnOk result ((whole : Parts) → LeadsToNamed (place_of self.entry.places.now) parts.old (plan.content_parts (declared self.entry.set.now levels) self.entry.set.now content.now) whole
+            → LeadsToNamed (place_of self.entry.places.now) parts.new finish whole) }
+    {
+        match content {
+            Content::Empty => Ok(()),
+            Content::Simple(n) => {
+                let kid = self.simple_at(*n)?;
+                push_untagged(self.alloc, parts, "base", false, kid)
+            }
+            Content::ElementOnly(particle) => { self.push_top(parts, levels, particle.root()) }
+            Content::Mixed(particle) => { self.push_top(parts, levels, particle.root()) }
+        }
+    }
+
+    // The parts of a content model.
+    #[cycle(content)]
+    fn push_top(
+        self,
+        parts: &mut PartList,
+        levels: u32,
+        particle: &Tree<ParticleLabel>,
+    ) -> Result<(), Memory>
+        requires linked { IsLinked self.set.now }
+        requires known { IsKnown self.set.now particle.now }
+        ensures { OnOk result ((whole : Parts) → LeadsToNamed (place_of self.entry.places.now) parts.old (plan.top (declared self.entry.set.now levels) (seen particle.now)) whole
+            → LeadsToNamed (place_of self.entry.places.now) parts.new finish whole) }
+    {
+        let label = particle.label();
+        if is_plain(label) {
+            return self.push_particles(parts, levels, false, particle.kids());
+        }
+        let kid = self.term_type(levels, particle)?;
+        push_particle(self.alloc, parts, false, label, kid)
+    }
+
+    // The type of one occurrence of a particle.
+    #[cycle(content)]
+    fn term_type(
+        self,
+        levels: u32,
+        particle: &Tree<ParticleLabel>,
+    ) -> Result<Tree<TypeLabel>, Memory>
+        requires linked { IsLinked self.set.now }
+        requires known { IsKnown self.set.now particle.now }
+        ensures { IfOk result (λ made. IsNamed (place_of self.entry.places.now) (plan.term_type (declared self.entry.set.now levels) (term_of particle.now)) made) }
+    {
+        match particle.label().kind {
+            ParticleKind::Element { decl, .. } => self.particle_type(levels, decl),
+            ParticleKind::Sequence | ParticleKind::All => {
+                self.sequence_type(levels, particle.kids())
+            }
+            ParticleKind::Choice => self.choice_type(levels, particle.kids()),
+        }
+    }
+
+    // The type of a sequence of these particles.
+    #[cycle(content)]
+    fn sequence_type(
+        self,
+        levels: u32,
+        particles: &[Tree<ParticleLabel>],
+    ) -> Result<Tree<TypeLabel>, Memory>
+        requires linked { IsLinked self.set.now }
+        requires known { AreKnown self.set.now particles.now }
+        ensures { IfOk result (λ made. IsNamed (place_of self.entry.places.now) (plan_of.sequence false false false (plan.particle_parts (declared self.entry.set.now levels) false (all_seen (roses_of particles.now)))) made) }
+    {
+        let mut parts = PartList::new(self.alloc);
+        self.push_particles(&mut parts, levels, false, particles)?;
+        Ok(parts.into_sequence(Marks::of(Vec::new(self.alloc))))
+    }
+
+    // The type of a choice of these particles.
+    #[cycle(content)]
+    fn choice_type(
+        self,
+        levels: u32,
+        particles: &[Tree<ParticleLabel>],
+    ) -> Result<Tree<TypeLabel>, Memory>
+        requires linked { IsLinked self.set.now }
+        requires known { AreKnown self.set.now particles.now }
+        ensures { IfOk result (λ made. IsNamed (place_of self.entry.places.now) (plan_of.choice (plan.particle_parts (declared self.entry.set.now levels) true (all_seen (roses_of particles.now)))) made) }
+    {
+        let mut parts = PartList::new(self.alloc);
+        self.push_particles(&mut parts, levels, true, particles)?;
+        Ok(parts.into_choice(Marks::of(Vec::new(self.alloc))))
+    }
+
+    // The parts for particles of a group.
+    #[cycle(content)]
+    fn push_particles(
+        self,
+        parts: &mut PartList,
+        levels: u32,
+        in_choice: bool,
+        particles: &[Tree<ParticleLabel>],
+    ) -> Result<(), Memory>
+        requires linked { IsLinked self.set.now }
+        requires known { AreKnown self.set.now particles.now }
+        ensures { OnOk result ((whole : Parts) → LeadsToNamed (place_of self.entry.places.now) parts.old (plan.particle_parts (declared self.entry.set.now levels) in_choice (all_seen (roses_of particles.now))) whole
+            → LeadsToNamed (place_of self.entry.places.now) parts.new finish whole) }
+    {
+        'particles: for particle in particles {
+            let kid = self.term_type(levels, particle)?;
+            push_particle(self.alloc, parts, in_choice, particle.label(), kid)?;
+        }
+        Ok(())
+    }
 }

@@ -8,6 +8,7 @@ mod attributes;
 mod content;
 mod instructions;
 mod map;
+mod mapper;
 mod modules;
 mod orders;
 mod particles;

@@ -9,9 +9,8 @@ ghost use Rattle.map_assignments.specs.Private.Placing.{place_of, references_of}
 ghost use Rattle.map_subjects.specs.Subjects.{place_in, IsSubject};
 ghost use Rattle.map_assignments.specs.Mapped.{assignment_marks, wanted_reference, IsMapped, AreMapped};
 
-use crate::attributes::simple_at;
-use crate::content::{in_place, own_type};
 use crate::instructions::{push_name, push_qualified};
+use crate::mapper::Mapper;
 use crate::places::Places;
 use crate::simple::simple_type;
 use asn_names::{NameKind, Scope, convert};
@@ -24,26 +23,6 @@ use std::alloc::Global;
 
 // How many types without a name stand in one another, at most.
 const LEVELS: u32 = 21;
-
-// The type that has an assignment.
-fn body(
-    alloc: Global,
-    set: &SchemaSet,
-    places: &Places,
-    subject: Subject,
-) -> Result<Tree<TypeLabel>, Memory>
-    requires linked { IsLinked set.now }
-    requires subject { IsSubject set.now subject }
-    ensures { IfOk result (λ made. IsNamed (place_of places.now) (plan.body set.now subject) made) }
-{
-    match subject {
-        Subject::Element(n) => own_type(alloc, set, places, LEVELS, set.element(n)),
-        Subject::Attribute(n) => simple_at(alloc, set, places, set.attribute(n).simple),
-        Subject::Simple(n) => simple_type(alloc, &set.simple(n).space),
-        Subject::Complex(n) => in_place(alloc, set, places, LEVELS, false, n),
-        Subject::Nillable(n) => in_place(alloc, set, places, LEVELS, true, n),
-    }
-}
 
 // The instructions of an assignment with this reference.
 fn assignment_marks(
@@ -108,52 +87,66 @@ fn sealed(tree: Tree<TypeLabel>) -> Whole<TypeLabel>
     }
 }
 
-// The assignment behind these.
-fn assignment(
-    alloc: Global,
-    set: &SchemaSet,
-    places: &Places,
-    scope: &mut Scope,
-    made: &[Assignment],
-    entry: &NamedSubject,
-) -> Result<Assignment, Memory>
-    requires linked { IsLinked set.now }
-    requires subject { IsSubject set.now entry.now.subject }
-    requires scope { scope.old ≡ references_of made.now }
-    ensures mapped { IfOk result (λ assignment. IsMapped (place_of places.now) set.now (references_of made.now) entry.now assignment) }
-    ensures noted { IfOk result (λ assignment. scope.new ≡ references_of made.now ++ assignment.reference ∷ []) }
-{
-    let wanted = wanted_reference(alloc, places, made, entry.subject, &entry.name)?;
-    let reference = scope.take(NameKind::Reference, &wanted)?;
-    let marks = assignment_marks(alloc, entry.subject, &entry.name, &reference)?;
-    let tree = body(alloc, set, places, entry.subject)?;
-    Ok(Assignment {
-        reference,
-        marks,
-        body: sealed(tree),
-    })
-}
-
-// Makes the assignments of these components in their order, the first of all.
-fn push_assignments(
-    alloc: Global,
-    set: &SchemaSet,
-    places: &Places,
-    scope: &mut Scope,
-    made: &mut Vec<Assignment>,
-    entries: &[NamedSubject],
-) -> Result<(), Memory>
-    requires linked { IsLinked set.now }
-    requires entries { All (λ e. IsSubject set.now e.subject) entries.now }
-    requires scope { scope.old ≡ references_of made.old.items }
-    requires none { made.old.items ≡ [] }
-    ensures { OnOk result (AreMapped (place_of places.now) set.now [] entries.now made.new.items) }
-{
-    'entries: for entry in entries {
-        let next = assignment(alloc, set, places, scope, made, entry)?;
-        made.push(next)?;
+impl Mapper<'_> {
+    // The type that has an assignment.
+    fn body(self, subject: Subject) -> Result<Tree<TypeLabel>, Memory>
+        requires linked { IsLinked self.set.now }
+        requires subject { IsSubject self.set.now subject }
+        ensures { IfOk result (λ made. IsNamed (place_of self.entry.places.now) (plan.body self.entry.set.now subject) made) }
+    {
+        match subject {
+            Subject::Element(n) => self.own_type(LEVELS, self.set.element(n)),
+            Subject::Attribute(n) => self.simple_at(self.set.attribute(n).simple),
+            Subject::Simple(n) => simple_type(self.alloc, &self.set.simple(n).space),
+            Subject::Complex(n) => self.in_place(LEVELS, false, n),
+            Subject::Nillable(n) => self.in_place(LEVELS, true, n),
+        }
     }
-    Ok(())
+
+    // The assignment after these.
+    fn assignment(
+        self,
+        scope: &mut Scope,
+        made: &[Assignment],
+        entry: &NamedSubject,
+    ) -> Result<Assignment, Memory>
+        requires linked { IsLinked self.set.now }
+        requires subject { IsSubject self.set.now entry.now.subject }
+        requires scope { scope.old ≡ references_of made.now }
+        ensures mapped { IfOk result (λ assignment. IsMapped (place_of self.entry.places.now) self.entry.set.now (references_of made.now) entry.now assignment) }
+        ensures noted { IfOk result (λ assignment. scope.new ≡ references_of made.now ++ assignment.reference ∷ []) }
+    {
+        let name = &entry.name;
+        let wanted = wanted_reference(self.alloc, self.places, made, entry.subject, name)?;
+        let reference = scope.take(NameKind::Reference, &wanted)?;
+        let marks = assignment_marks(self.alloc, entry.subject, name, &reference)?;
+        let tree = self.body(entry.subject)?;
+        Ok(Assignment {
+            reference,
+            marks,
+            body: sealed(tree),
+        })
+    }
+
+    // Makes the assignments of these components in their order, the first of all.
+    fn push_assignments(
+        self,
+        scope: &mut Scope,
+        made: &mut Vec<Assignment>,
+        entries: &[NamedSubject],
+    ) -> Result<(), Memory>
+        requires linked { IsLinked self.set.now }
+        requires entries { All (λ e. IsSubject self.set.now e.subject) entries.now }
+        requires scope { scope.old ≡ references_of made.old.items }
+        requires none { made.old.items ≡ [] }
+        ensures { OnOk result (AreMapped (place_of self.entry.places.now) self.entry.set.now [] entries.now made.new.items) }
+    {
+        'entries: for entry in entries {
+            let next = self.assignment(scope, made, entry)?;
+            made.push(next)?;
+        }
+        Ok(())
+    }
 }
 
 /// The assignments of these components in this order, which is that of the module. There are fewer than 2^32 of them.
@@ -172,6 +165,11 @@ pub fn assignments(
     let mut made = Vec::with_capacity(alloc, entries.len())?;
     let places = Places::of_entries(alloc, set, entries)?;
     let mut scope = Scope::new(alloc);
-    push_assignments(alloc, set, &places, &mut scope, &mut made, entries)?;
+    let mapper = Mapper {
+        alloc,
+        set,
+        places: &places,
+    };
+    mapper.push_assignments(&mut scope, &mut made, entries)?;
     Ok(made)
 }

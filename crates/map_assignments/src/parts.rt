@@ -58,6 +58,11 @@ impl PartList {
         }
     }
 
+    /// The allocator of the parts.
+    pub(crate) fn alloc(&self) -> Global {
+        self.alloc
+    }
+
     // Takes an identifier made from this word.
     fn take_word(&mut self, word: &str) -> Result<Text, Memory>
         ensures taken { IfOk result (λ identifier. IsTaken Identifier self.old.scope word.now identifier) }

@@ -2,12 +2,12 @@ use Rattle.std.proofs.Common.{sym, subst}
 use Rattle.map_assignments.specs.Planning.{attributes, is_mixed, is_ordered, with_texts, with_order, order_plan}
 use Rattle.map_assignments.specs.Private.Placing.{place_of}
 use Rattle.map_assignments.specs.Private.Building.{LeadsToNamed}
-use Rattle.map_assignments.proofs.content.first_parts.Goals as goal
+use Rattle.map_assignments.proofs.mapper.Mapper.first_parts.Goals as goal
 
 pub returns : goal.returns
 returns c =
-    let s = c.args.set.now in
-    let place = place_of c.args.places.now in
+    let s = c.args.self.set.now in
+    let place = place_of c.args.self.places.now in
     let d = c.args.definition.now in
     λ T rest.
     let parts = attributes s d.uses rest in

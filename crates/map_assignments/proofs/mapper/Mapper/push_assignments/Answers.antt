@@ -2,12 +2,12 @@ use Rattle.std.proofs.Common.{[], ◌∷◌, ◌++◌, ap, sym, subst, ◌∙◌
 use Rattle.map_assignments.specs.Mapped.{IsMapped}
 use Rattle.map_assignments.specs.Private.Placing.{place_of, references_of}
 use Rattle.map_assignments.proofs.Mapping.{references-push, mapped-next, mapped-end}
-use Rattle.map_assignments.proofs.map.push_assignments.Goals as goal
+use Rattle.map_assignments.proofs.mapper.Mapper.push_assignments.Goals as goal
 
 pub entries-preserved : goal.entries-preserved
 entries-preserved c =
-    let place = place_of c.args.places.now in
-    let s = c.args.set.now in
+    let place = place_of c.args.self.places.now in
+    let s = c.args.self.set.now in
     let next = c.in_ok-next.next in
     let more = c.in_ok-push.ensures.items in
     let lent = c.deref.ensures.value in
@@ -19,4 +19,4 @@ entries-preserved c =
 
 pub returns : goal.returns
 returns c =
-    mapped-end (place_of c.args.places.now) c.args.set.now c.entries.made.items c.args.entries.now c.entries.entry-index c.entries-test.false c.entries.invariant.1
+    mapped-end (place_of c.args.self.places.now) c.args.self.set.now c.entries.made.items c.args.entries.now c.entries.entry-index c.entries-test.false c.entries.invariant.1

@@ -5,7 +5,7 @@ use Rattle.map_assignments.specs.Plans.{Parts}
 use Rattle.map_assignments.specs.Planning.{particle_parts}
 use Rattle.map_assignments.specs.Private.Placing.{place_of}
 use Rattle.map_assignments.specs.Private.Building.{LeadsToNamed, declared}
-use Rattle.map_assignments.proofs.content.+content.Given as goal
+use Rattle.map_assignments.proofs.mapper.Mapper.+content.Given as goal
 
 -- A complex type has so many levels below it, and a content model so many nodes.
 abbrev pub decreases-particle_type : goal.decreases-particle_type
@@ -47,5 +47,5 @@ decreases-push_particles l = 1048576 * l.levels + 4 * count_all (roses_of l.part
 -- the parts so far, with those of the particles that are left
 abbrev pub invariant-push_particles-particles : goal.invariant-push_particles-particles
 invariant-push_particles-particles l =
-    (whole : Parts) → LeadsToNamed (place_of l.places) l.initial.parts (particle_parts (declared l.set l.levels) l.in_choice (all_seen (roses_of l.particles))) whole
-    → LeadsToNamed (place_of l.places) l.parts (particle_parts (declared l.set l.levels) l.in_choice (all_seen (roses_of (drop l.particle-index l.particles)))) whole
+    (whole : Parts) → LeadsToNamed (place_of l.self.places.now) l.initial.parts (particle_parts (declared l.self.set.now l.levels) l.in_choice (all_seen (roses_of l.particles))) whole
+    → LeadsToNamed (place_of l.self.places.now) l.parts (particle_parts (declared l.self.set.now l.levels) l.in_choice (all_seen (roses_of (drop l.particle-index l.particles)))) whole
