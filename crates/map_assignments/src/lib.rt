@@ -18,4 +18,3 @@ mod words;
 
 pub use map::assignments;
 pub use modules::{map_set, root_type};
-pub use simple::type_of_simple;
