@@ -5,7 +5,6 @@ pub mod Signs
 pub mod Filling
 pub mod Contents
 mod Newest
-mod Allowing
 mod Types
 mod Parts
 mod Shows

@@ -38,7 +38,7 @@ closed-list new mid old l begun above = ap (λ up. closed_in up new.kids) (above
 pub closed-one : (new mid old : Zip ValueLabel) (l : ValueLabel) (v : Rose ValueLabel) → mid ≡ opened l old → new ≡ added v mid → closed new ≡ added (node l (roses_of (v ∷ []))) old
 closed-one new mid old l v begun push = ap closed (push ∙ ap (added v) begun)
 
--- the same where it gets its label last
+-- a node is closed where it gets its label last
 pub closed-labeled : (new mid old : Zip ValueLabel) (l blank : ValueLabel) → mid ≡ opened blank old → new.above ≡ mid.above → closed (relabeled l new) ≡ added (node l (roses_of new.kids)) old
 closed-labeled new mid old l blank begun above = ap (λ up. closed_in (relabeled_in l up) new.kids) (above ∙ ap (λ (z : Zip ValueLabel). z.above) begun)
 

@@ -1,6 +1,5 @@
 -- Steps of reading, one behind the other.
 use Rattle.std.proofs.Common.{◌≡◌, Bool, true, false, List, ◌++◌, ◌∷◌, [], refl, sym, ap, subst, append_assoc, Result, Ok, Err}
-use Rattle.std.specs.Prelude.{MatchBool}
 use Rattle.base_codecs.specs.declared.spots.Spot.{Spot}
 use Rattle.base_codecs.specs.Reading.{◌>>=◌, with_spot}
 use Rattle.base_codecs.proofs.Steps.{err_bind}
@@ -8,12 +7,6 @@ use Rattle.der_fields.specs.declared.stops.Stop.{Stop}
 use Rattle.der_decode.specs.declared.faults.Fault.{Fault}
 use Rattle.der_decode.specs.declared.faults.Fault.TheVariants as fault
 use Rattle.der_decode.specs.Private.Showing.{Shows, Fails}
-
-pub match_yes : (b : Bool) (A B : Type 0) → b ≡ true → MatchBool b A B → A
-match_yes b A B e h = subst (λ b. MatchBool b A B) e h
-
-pub match_no : (b : Bool) (A B : Type 0) → b ≡ false → MatchBool b A B → B
-match_no b A B e h = subst (λ b. MatchBool b A B) e h
 
 pub never_both : (b : Bool) → b ≡ true → b ≡ false → ⊥
 never_both true e f = absurd cc

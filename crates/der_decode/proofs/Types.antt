@@ -1,6 +1,7 @@
 -- Types of a module, as reading goes down them.
-use Rattle.std.proofs.Common.{◌≡◌, ℕ, suc, ◌+◌, ◌-◌, ◌*◌, ◌<◌, ◌≤◌, List, refl, ap, subst, arith, Some, None}
+use Rattle.std.proofs.Common.{◌≡◌, ℕ, suc, ◌+◌, ◌-◌, ◌*◌, ◌<◌, ◌≤◌, Bool, true, false, List, refl, sym, ◌∙◌, ap, subst, arith, Some, None}
 use Rattle.std.specs.Prelude.{slice_get, option_and_then}
+use Rattle.std.proofs.lemmas.Bool.{true≢false}
 use Rattle.base_trees.specs.Rose.{Rose, label_of, kids_of}
 use Rattle.asn_types.specs.declared.modules.Assignment.{Assignment}
 use Rattle.asn_types.specs.declared.types.Component.{Component}
@@ -8,7 +9,7 @@ use Rattle.asn_types.specs.declared.types.Form.{Form}
 use Rattle.asn_types.specs.declared.types.Form.TheVariants as form
 use Rattle.asn_types.specs.declared.types.TypeLabel.{TypeLabel}
 use Rattle.asn_types.specs.Modules.{IsModule, IsForm}
-use Rattle.asn_types.specs.Parts.{parts_of}
+use Rattle.asn_types.specs.Parts.{is_leaf, parts_of}
 use Rattle.asn_types.specs.Refs.{target, body_at, resolve, IsOf}
 use Rattle.asn_types.specs.Roles.{role_of}
 use Rattle.asn_values.specs.Values.{below, place_at}
@@ -26,6 +27,37 @@ kids-no_target (form.Sequence parts) h = refl
 kids-no_target (form.Choice parts) h = refl
 kids-no_target (form.SequenceOf part least most) h = refl
 kids-no_target f h = absurd h
+
+-- the test for a form without kids
+pub leaf-no_kids : (f : Form) (b : Bool) → b ≡ is_leaf f → b ≡ true → HasNoKids f
+leaf-no_kids f b is yes = by f (sym is ∙ yes)
+  where
+    by : (f : Form) → is_leaf f ≡ true → HasNoKids f
+    by form.Bool e = tt
+    by (form.Int least greatest) e = tt
+    by (form.Numbers numbers) e = tt
+    by (form.Words identifiers words) e = tt
+    by (form.Order identifiers) e = tt
+    by (form.Utf8 least most class) e = tt
+    by (form.Sequence parts) e = absurd (true≢false (sym e))
+    by (form.Choice parts) e = absurd (true≢false (sym e))
+    by (form.SequenceOf part least most) e = absurd (true≢false (sym e))
+    by (form.Ref to) e = absurd (true≢false (sym e))
+
+pub kids-no_leaf : (f : Form) (b : Bool) → b ≡ is_leaf f → b ≡ false → HasNoKids f → ⊥
+kids-no_leaf f b is no leaf = by f (sym is ∙ no) leaf
+  where
+    by : (f : Form) → is_leaf f ≡ false → HasNoKids f → ⊥
+    by form.Bool e h = true≢false e
+    by (form.Int least greatest) e h = true≢false e
+    by (form.Numbers numbers) e h = true≢false e
+    by (form.Words identifiers words) e h = true≢false e
+    by (form.Order identifiers) e h = true≢false e
+    by (form.Utf8 least most class) e h = true≢false e
+    by (form.Sequence parts) e h = h
+    by (form.Choice parts) e h = h
+    by (form.SequenceOf part least most) e h = h
+    by (form.Ref to) e h = h
 
 -- what a module says of a form without kids
 pub leaf-form : (M : List Assignment) (f : Form) → HasNoKids f → IsForm M f → IsLeaf f

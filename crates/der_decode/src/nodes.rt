@@ -1,5 +1,5 @@
 //! The nodes of a value.
-ghost use Rattle.std.specs.Prelude.{◌≡◌, [], ◌<◌, ◌≤◌, ◌+◌, IfOk, OnOk, MatchBool, length, false, drop, None};
+ghost use Rattle.std.specs.Prelude.{◌≡◌, [], ◌<◌, ◌≤◌, ◌+◌, IfOk, OnOk, length, false, drop, None};
 ghost use Rattle.base_trees.specs.Rose.{label_of, kids_of};
 ghost use Rattle.base_flat_trees.specs.Zips.{added};
 ghost use Rattle.asn_types.specs.declared.types.Form.TheVariants as form;
@@ -20,40 +20,14 @@ use crate::heads::{enter, head, unexpected};
 use crate::identifiers::{begins_so, is_open};
 use crate::leaves::leaf;
 use crate::rules::{has_no_rules, leaf_keeps, owned, unless_standard};
-use asn_types::{Component, Form, Module, Role, TypeLabel, resolve};
+use asn_types::{Component, Form, Module, TypeLabel, resolve};
+use asn_values::below;
 use base_codecs::Spot;
 use base_flat_trees::Builder;
 use base_trees::Tree;
 use der_fields::{Stop, Why};
 use simple_types::{Flags, Standard, ValueLabel, is_at_most};
 use std::alloc::Global;
-
-fn below(role: Role, depth: u32) -> u32
-    requires { depth ≤ 64 }
-    ensures same { result ≡ bodies.below role depth }
-    ensures few { result ≤ 65 }
-{
-    match role {
-        Role::Element => depth + 1,
-        _ => depth,
-    }
-}
-
-// Whether contents are no nodes.
-fn is_leaf(form: &Form) -> bool
-    ensures { MatchBool result (bodies.HasNoKids form.now) (bodies.HasNoKids form.now → ⊥) }
-{
-    match form {
-        Form::Bool
-        | Form::Int { .. }
-        | Form::Numbers { .. }
-        | Form::Words { .. }
-        | Form::Order { .. }
-        | Form::Utf8 { .. } => true,
-        Form::Sequence { .. } | Form::Choice { .. } | Form::SequenceOf { .. } | Form::Ref { .. } =>
-            false,
-    }
-}
 
 /// A node of a type, where so many elements stand in one another down to it, and its type is found. It is put behind others.
 #[cycle(nodes)]
@@ -77,7 +51,7 @@ pub(crate) fn node(
     ensures pushed { OnOk result (values.new ≡ added (newest values.new.kids) values.old) }
     ensures gives { Shows (λ behind. (newest values.new.kids, behind)) result (node_read module.now depth tag node.now octets.now spot) }
 {
-    if is_leaf(&found.label().form) {
+    if found.label().form.is_leaf() {
         return leaf_node(alloc, module, octets, spot, depth, tag, node, found, values);
     }
     if has_no_rules(module, found) {
@@ -86,7 +60,7 @@ pub(crate) fn node(
     ruled(alloc, module, octets, spot, depth, tag, node, found, values)
 }
 
-// The same of a node with kids whose values may break its rule.
+// Reads a node with child nodes whose values may break its rule.
 #[cycle(nodes)]
 fn ruled(
     alloc: Global,
@@ -114,7 +88,7 @@ fn ruled(
     Ok(behind)
 }
 
-// The same of a node without kids.
+// Reads a node without child nodes.
 fn leaf_node(
     alloc: Global,
     module: &Module,
@@ -369,7 +343,7 @@ fn component(
     }
 }
 
-// The same of one that has a default or fixed value, which is rare.
+// Reads a part that has a default or fixed value, which is rare.
 #[cycle(nodes)]
 fn standard(
     alloc: Global,
@@ -461,7 +435,7 @@ fn open_choice(
     }
 }
 
-// The same of these alternatives. It is entered before its alternative.
+// Reads a node of a CHOICE of these alternatives. It is entered before its alternative.
 #[cycle(nodes)]
 fn entered_choice(
     alloc: Global,

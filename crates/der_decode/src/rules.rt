@@ -6,20 +6,20 @@ ghost use Rattle.simple_types.specs.declared.labels.ValueLabel.{ValueLabel};
 ghost use Rattle.asn_types.specs.Modules.{AreWellFormed, IsModule};
 ghost use Rattle.asn_types.specs.Refs.{IsOf};
 ghost use Rattle.asn_values.specs.Values.{Kept, Own, OwnAt};
-ghost use Rattle.per_fields.specs.Owning as owning;
 ghost use Rattle.der_fields.specs.FieldsReading.{stop_at};
 ghost use Rattle.der_fields.specs.Reading as reading;
 ghost use Rattle.der_fields.specs.Reading.{leaf_of};
 ghost use Rattle.der_decode.specs.Private.Bodies.{HasNoKids};
 
 use crate::faults::Fault;
-use asn_types::{Component, Form, Module, TypeLabel, resolve};
-use asn_values::{kept, own, spelling};
+use asn_types::{Component, Form, Module, TypeLabel};
+use asn_values::{kept, own};
 use base_flat_trees::{Builder, Flat, Node};
 use base_texts::{Memory, is_treated};
 use base_trees::Tree;
 use der_fields::{Stop, Why};
-use simple_types::{Standard, ValueLabel, has_characters};
+use per_fields::is_standard;
+use simple_types::{ValueLabel, has_characters};
 use std::alloc::Global;
 
 /// Whether every value of a type, which is no reference, keeps the rules of its first node. LIST stands on a SEQUENCE OF
@@ -81,27 +81,6 @@ pub(crate) fn owned(
             why: Why::NotAValue,
         }))
     }
-}
-
-// Whether a value has the spelling of the default or fixed value of its part.
-fn is_standard(
-    alloc: Global,
-    module: &Module,
-    part: &Component,
-    kid: &Tree<TypeLabel>,
-    value: &Node<'_, ValueLabel>,
-) -> Result<bool, Memory>
-    requires known { IsModule module.now }
-    requires of { IsOf module.now kid.now }
-    ensures { IfOk result (λ b. b ≡ owning.is_standard module.now part.now kid.now value.now) }
-{
-    let text = match &part.standard {
-        Standard::Free => return Ok(false),
-        Standard::Default(text) => text,
-        Standard::Fixed(text) => text,
-    };
-    let spelled = spelling(alloc, resolve(module, kid), value)?;
-    Ok(spelled == *text)
 }
 
 // Why a part isn't kept.

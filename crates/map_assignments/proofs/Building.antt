@@ -89,7 +89,7 @@ adds-marked before after l name ms optional kid same free marks added = record {
   kid_added = added.kid_added;
 }
 
--- the same part by another name for its name and its instructions
+-- a part that was added, with its name and its instructions given by equal terms
 pub adds-same : (before after : PartList) (name same : List ℕ) (ms marks : List Instruction) (optional : Bool) (kid : Rose TypeLabel)
     → name ≡ same → ms ≡ marks → AddsPart before after name Free (λ g. ms) optional kid → AddsPart before after same Free (λ g. marks) optional kid
 adds-same before after name same ms marks optional kid is are added = record {

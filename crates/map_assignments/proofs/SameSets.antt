@@ -56,7 +56,7 @@ module _ (T U : ℕ → TypePlan) (same : (d : ℕ) → T d ≡ U d) where
       ap (λ x. if is_once least most then x else top_part T (model.sequence ps) least most) (parts-same false ps)
       ∙ ap (λ x. if is_once least most then particle_parts U false ps else x) (top-part-same (model.sequence ps) least most)
 
--- the same set, but for how its simple types are kept
+-- two sets that differ at most in how their simple types are stored
 pub record AreSame (s t : Set) : Type 0 where
   pub elements : s.elements ≡ t.elements
   pub globals : s.globals ≡ t.globals

@@ -19,4 +19,3 @@ mod words;
 
 pub use map::assignments;
 pub use modules::{map_set, root_type};
-pub use simple::type_of_simple;

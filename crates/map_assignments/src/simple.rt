@@ -5,7 +5,7 @@ ghost use Rattle.base_trees.specs.Rose as rose;
 ghost use Rattle.simple_types.specs.Sound.{Sound, AreSound};
 ghost use Rattle.simple_types.specs.Seen.{space_of, spaces_in};
 ghost use Rattle.simple_types.specs.Space.{UnionOf};
-ghost use Rattle.asn_types.specs.Simples.{white_space_marks, MapsTo};
+ghost use Rattle.asn_types.specs.Simples.{white_space_marks};
 ghost use Rattle.map_assignments.specs.Naming.{type_label, list_item, AreMembers, IsLeaf, IsSimpleType};
 
 use crate::instructions::{one_mark, push_white_space};
@@ -122,14 +122,4 @@ pub(crate) fn simple_type(alloc: Global, simple: &Simple) -> Result<Tree<TypeLab
         }
         Simple::Union(members) => union_type(alloc, members.items()),
     }
-}
-
-/// The type to which a simple type is mapped where it stands in place, with its identifiers. It stands for that simple
-/// type.
-pub fn type_of_simple(alloc: Global, simple: &Simple) -> Result<Tree<TypeLabel>, Memory>
-    requires { Sound (space_of simple.now) }
-    ensures made { IfOk result (λ made. IsSimpleType (space_of simple.now) made) }
-    ensures maps { IfOk result (λ made. MapsTo (space_of simple.now) made) }
-{
-    simple_type(alloc, simple)
 }

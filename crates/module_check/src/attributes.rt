@@ -45,7 +45,7 @@ fn meant_simple<'a>(context: &Context<'a>, node: &Tree<PlainLabel>) -> Option<&'
     }
 }
 
-/// The same through references, where the type is one: as it is known of the assignment that is meant.
+/// Returns the simple type of an attribute whose type is a reference, as it is known of the assignment that is meant.
 pub fn shared_simple<'a>(
     context: &Context<'a>,
     spot: Spot,

@@ -42,7 +42,7 @@ fn leads(followed: &Followed, reference: &Text) -> bool
     }
 }
 
-// The same of a type that is a reference.
+// Returns whether a type is no reference, or its reference leads on within the number.
 fn leads_itself(followed: &Followed, form: &PlainForm) -> bool
     requires { Knows followed.now.references.now followed.now.assignments.now }
     ensures { result ≡ rule.if_reference (leads_in (option_map (λ w. w.now) followed.now.within) followed.now.assignments.now) form.now }
@@ -71,7 +71,7 @@ fn is_near(
     is_element(own, label, i, part) || near(followed, kid)
 }
 
-// The same of a type.
+// Returns whether each reference that is reached from the type without passing an element leads on within the number.
 #[cycle(near)]
 fn near(followed: &Followed, node: &Tree<PlainLabel>) -> bool
     requires { Knows followed.now.references.now followed.now.assignments.now }

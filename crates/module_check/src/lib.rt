@@ -12,7 +12,6 @@ mod orders;
 mod part_faults;
 mod parts;
 mod references;
-mod reserved;
 mod type_faults;
 mod type_marks;
 

@@ -135,7 +135,7 @@ impl<'a> Content<'a> {
     }
 }
 
-/// The same of the type of each assignment. The time is linear in the types.
+/// Returns the elements of the type of each assignment. The time is linear in the types.
 pub fn contents_of<'a>(
     alloc: Global,
     assignments: &'a [PlainAssignment],
@@ -159,7 +159,7 @@ fn has_order_of(label: &PlainLabel, kids: &[Tree<PlainLabel>], content: &Content
     }
 }
 
-// The same where the content is what this type means.
+// Returns whether the type has the part with the order of the elements of the content that this type refers to.
 fn has_content_order(
     context: &Context,
     label: &PlainLabel,

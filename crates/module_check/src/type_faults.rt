@@ -43,7 +43,7 @@ fn behind_fault(
     value_fault(context, simple, part, kid)
 }
 
-// The same with what stands before the type.
+// Returns the first fault of a part: of what precedes its type, then of the type, then of its default or fixed value.
 #[cycle(types)]
 fn judged_fault(
     context: &Context,

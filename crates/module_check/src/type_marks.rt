@@ -27,7 +27,7 @@ fn position_of(items: &[PlainName], identifier: &Text) -> Option<usize>
     items.iter().position(|item| item.name == *identifier)
 }
 
-// The same of the items from a least number on.
+// Returns the number of the first item with the identifier, of those from a least number on.
 fn position_from(items: &[PlainName], least: usize, identifier: &Text) -> Option<usize>
     ensures number { result ≡ option_map (λ i. least + i) (position (λ (i : PlainName). bytes_eq i.name identifier.now) (drop least items.now)) }
     ensures small { IfSome result (λ i. i + 1 < 2 ^ 64) }
@@ -41,7 +41,7 @@ fn position_from(items: &[PlainName], least: usize, identifier: &Text) -> Option
     }
 }
 
-// The same where the items are none of an order, and so stand for words.
+// Returns that number where the items are words, and None where they are the parts of an order.
 fn word_number(spot: Spot, items: &[PlainName], least: usize, identifier: &Text) -> Option<usize>
     ensures number { result ≡ (if simple.is_order_item spot then None
         else option_map (λ i. least + i) (position (λ (i : PlainName). bytes_eq i.name identifier.now) (drop least items.now))) }
@@ -74,7 +74,7 @@ fn is_simple(context: &Context, spot: Spot, node: &Tree<PlainLabel>) -> Result<b
     Ok(found.is_some())
 }
 
-// The same of what stands here by its label and its parts.
+// Returns whether a type at this spot is mapped to a simple type, in terms of its label and its parts.
 fn stands_for_simple(context: &Context, spot: Spot, node: &Tree<PlainLabel>) -> Result<bool, Memory>
     ensures { IfOk result (λ is. is ≡ is_simple_of spot (label_of node.now) (roses_of (kids_of node.now))) }
 {

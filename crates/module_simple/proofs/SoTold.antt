@@ -57,7 +57,7 @@ pub all-told : (t : Option (Rose PlainLabel)) (vs : List (Rose PlainValueLabel))
 all-told t [] xs b e same = nothing-left xs b same ∙ no-values t xs
 all-told t (v ∷ vs) xs b e same = absurd (omega (arith, eqb-true (length (v ∷ vs)) 0 e))
 
--- the same behind the last value
+-- after the last value
 pub end-told : (t : Option (Rose PlainLabel)) (vs : List (Rose PlainValueLabel)) (i : ℕ) (xs : List (Rose ValueLabel)) (b : Bool) (due : Bool) → length vs ≤ i → ((b ≡ true) ↔ (xs ≡ []))
     → are_told t (roses_of (drop i vs)) (roses_of xs) ≡ due → b ≡ due
 end-told t vs i xs b due past same so =

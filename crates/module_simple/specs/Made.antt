@@ -3,7 +3,7 @@ use Rattle.std.specs.Prelude.{◌≡◌, ℕ, Bool, true, false, Option, Some, N
 use Rattle.simple_types.specs.declared.simples.Simple.{Simple}
 use Rattle.simple_types.specs.Seen.{space_of, spaces_in}
 use Rattle.simple_types.specs.Sound.{Sound, AreSound}
-use Rattle.simple_types.specs.Space.{Space, Spaces, ListOf}
+use Rattle.simple_types.specs.Space.{Space, Spaces}
 
 -- the space of a simple type, where there is one
 abbrev pub made_space : Option Simple → Option Space
@@ -19,13 +19,9 @@ IsMade (Some simple) = Sound (space_of simple)
 abbrev pub Makes : Option Simple → Option Space → Type 0
 Makes found due = (due ≡ made_space found) × IsMade found
 
--- the same of each of several
+-- the simple types with these spaces, each of which is sound
 abbrev pub AreMade : Option Spaces → List Simple → Type 0
 AreMade due simples = (due ≡ Some (spaces_in simples)) × AreSound (spaces_in simples)
-
-abbrev pub is_list_space : Space → Bool
-is_list_space (ListOf item least most) = true
-is_list_space _ = false
 
 -- ---- what is written behind what stood there
 

@@ -265,7 +265,8 @@ fn write_spelling(
     }
 }
 
-// The same by this index of the type, or by one of its own where there is none.
+// Appends the spelling of a value as this index of its type gives it, or makes an index where there is none. Returns
+// whether the value is of the type.
 fn write_at(
     alloc: Global,
     index: Option<&Tree<Index>>,

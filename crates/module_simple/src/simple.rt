@@ -3,11 +3,11 @@ ghost use Rattle.std.specs.Prelude.{◌≡◌, ◌&&◌, Some, None, IfOk, Match
 ghost use Rattle.std.specs.List.{list_all};
 ghost use Rattle.base_trees.specs.Rose.{roses_of};
 ghost use Rattle.simple_types.specs.Seen.{space_of, spaces_in};
-ghost use Rattle.simple_types.specs.Sound.{Sound, AreSound, has_list, have_list, is_union};
+ghost use Rattle.simple_types.specs.Sound.{Sound, AreSound, has_list};
 ghost use Rattle.simple_types.specs.Space.{Booleans};
 ghost use Rattle.module_text.specs.Told as told;
 ghost use Rattle.module_text.specs.Simple as rule;
-ghost use Rattle.module_simple.specs.Made.{Makes, AreMade, is_list_space};
+ghost use Rattle.module_simple.specs.Made.{Makes, AreMade};
 
 use base_texts::{Memory, Text, WhiteSpace, is_treated};
 use base_trees::Tree;
@@ -19,7 +19,7 @@ use module_text::{
     Alone, NumberedItem, PlainEnds, PlainForm, PlainLabel, PlainName, PlainPart, PlainRange, Spot,
     TypeMark,
 };
-use simple_types::{Class, NumberList, Simple, SimpleList, TextList};
+use simple_types::{Class, NumberList, Simple, SimpleList, TextList, has_list, is_union};
 use std::alloc::Global;
 
 fn is_counted(n: usize) -> bool
@@ -160,46 +160,6 @@ fn text_simple(size: &Option<PlainEnds>, class: Class, space: Option<WhiteSpace>
         max: sizes.1,
         class,
     })
-}
-
-#[tactic(auto, unfolding(simple_types::specs::Seen::space_of))]
-fn is_union(simple: &Simple) -> bool
-    ensures { result ≡ is_union (space_of simple.now) }
-{
-    matches!(simple, Simple::Union(_))
-}
-
-#[tactic(auto, unfolding(simple_types::specs::Seen::space_of))]
-fn is_list(simple: &Simple) -> bool
-    ensures { result ≡ is_list_space (space_of simple.now) }
-{
-    matches!(simple, Simple::List { .. })
-}
-
-// Whether a list stands among the members of a union.
-fn have_list(members: &[Simple]) -> bool
-    requires { AreSound (spaces_in members.now) }
-    ensures { result ≡ have_list (spaces_in members.now) }
-{
-    'members: for member in members {
-        if is_list(member) {
-            return true;
-        }
-    }
-    false
-}
-
-// Whether it is a list, or a union with a list among its members.
-#[tactic(auto, unfolding(simple_types::specs::Seen::space_of))]
-fn has_list(simple: &Simple) -> bool
-    requires { Sound (space_of simple.now) }
-    ensures { result ≡ has_list (space_of simple.now) }
-{
-    match simple {
-        Simple::List { .. } => true,
-        Simple::Union(members) => have_list(members.items()),
-        _ => false,
-    }
 }
 
 // Whether parts have no instructions but NAME.

@@ -11,7 +11,7 @@ use Rattle.asn_types.specs.declared.types.Component.{Component}
 use Rattle.asn_types.specs.declared.types.Form.{Form}
 use Rattle.asn_types.specs.declared.types.Form.TheVariants as form
 use Rattle.asn_types.specs.declared.types.TypeLabel.{TypeLabel}
-use Rattle.asn_types.specs.Parts.{parts_of}
+use Rattle.asn_types.specs.Parts.{is_leaf, parts_of}
 use Rattle.asn_types.specs.Refs.{resolve, IsOf}
 use Rattle.asn_types.specs.Roles.{role_of}
 use Rattle.asn_values.specs.Values.{ComponentPlace, none_if, places_in, places, below, FitsAt, FitEach}
@@ -20,7 +20,7 @@ use Rattle.base_codecs.specs.declared.spots.Spot.{Spot}
 use Rattle.per_fields.specs.Levels.{levels_needed}
 use Rattle.per_fields.specs.Reading.{◌>>=◌, moved}
 use Rattle.per_fields.specs.Nodes.{content_at, enter_by, owned_at, kept_at, node_read}
-use Rattle.per_decode.specs.Private.Bodies.{IsKnown, HasFields, is_leaf, part_read, kid_at, fields_at, body_at}
+use Rattle.per_decode.specs.Private.Bodies.{IsKnown, HasFields, part_read, kid_at, fields_at, body_at}
 use Rattle.per_decode.proofs.Bodies.{node-shallow}
 use Rattle.per_decode.proofs.Parts.{if_some, Kid, kid_here}
 use Rattle.per_decode.proofs.Types.{resolved-levels}

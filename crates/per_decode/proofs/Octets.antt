@@ -108,7 +108,7 @@ module _ (n p t h l nodes limit : ℕ) (whole : List ℕ) (old : Option (List �
             rw (stays.0, stays.1, e) (at.bits step);
       }
 
--- the same, where one begins
+-- where an octet begins
 module _ (n p t h l nodes limit : ℕ) (whole : List ℕ) (old : Option (List ℕ)) (same : l ≡ limit) (step : IsInStep p t) (far : p ≤ 8 * t) (aligned : p % 8 ≡ 0) (within : t ≤ l) (at : IsAt whole limit p t h old) where
   begins : p ≡ 8 * t
   begins = omega (arith, step, far, aligned)

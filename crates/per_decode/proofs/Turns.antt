@@ -149,7 +149,7 @@ module _ (aligned : Bool) {A : Type 0} (least : ℕ) (most : Option ℕ) (items 
           fails_first limit whole e taken X (left_at before total X s) (λ b. Ok (front ++ b.0, b.1)) (sits-left before total X s inside).inside (λ b l. record { later = omega arith; inside = l })
           (subst (FailsAt limit whole e taken) (sym same) f)
 
-      -- the same, where the items of a fragment are read behind those before it
+      -- that fragment, where its items are read after those that precede it
       front_more : (i : Result (List A × Spot) Stop) → with_front front (i >>= λ y. joined y.0 (left_at k (total + k * unit) X y.1)) ≡ (with_front front i >>= λ z. joined z.0 (left_at k (total + k * unit) X z.1))
       front_more (Ok y) = front_then front y.0 (left_at k (total + k * unit) X y.1)
       front_more (Err f) = refl

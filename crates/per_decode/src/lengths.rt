@@ -107,7 +107,7 @@ impl<'a, S: Source, K: Origin, V: Variant> Run<'a, S, K, V> {
         self.length_from(before, begin, x)
     }
 
-    // The same of a count within these bounds.
+    // Reads the length of a count within these bounds, which begins here.
     #[tactic(auto, unfolding(per_fields::specs::Fields::count_here))]
     #[inline(always)]
     fn count_here(

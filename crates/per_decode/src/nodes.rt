@@ -7,17 +7,16 @@ ghost use Rattle.base_flat_trees.specs.Zips.{added};
 ghost use Rattle.base_codecs.specs.Cursors.{IsInStep};
 ghost use Rattle.base_texts.specs.Faults.{HasRisen};
 ghost use Rattle.asn_types.specs.declared.types.Form.TheVariants as form;
-ghost use Rattle.asn_types.specs.Parts.{parts_of};
+ghost use Rattle.asn_types.specs.Parts.{is_leaf, parts_of};
 ghost use Rattle.asn_types.specs.Refs.{IsOf, resolve};
 ghost use Rattle.asn_types.specs.Roles.{role_of};
-ghost use Rattle.asn_values.specs.Values.{FitsAt, Kept, Own, OwnAt, present_from};
+ghost use Rattle.asn_values.specs.Values.{FitsAt, Kept, Own, OwnAt, below, present_from};
 ghost use Rattle.asn_values.specs.Private.Placing.{FitKids};
 ghost use Rattle.per_fields.specs.Laws.{Present};
 ghost use Rattle.per_fields.specs.Fields.{counted_at, list_at};
 ghost use Rattle.simple_types.specs.Sound.{AreSizes};
 ghost use Rattle.simple_types.specs.Lexical.{is_at_most};
 ghost use Rattle.per_fields.specs.Nodes as nodes;
-ghost use Rattle.per_fields.specs.Owning as owning;
 ghost use Rattle.per_fields.specs.Nodes.{sequence_at, choice_at, items_at, is_no_text, node_read};
 ghost use Rattle.per_decode.specs.Private.Standing.{GoesOn};
 ghost use Rattle.per_decode.specs.Private.Giving.{Gives, spot};
@@ -29,12 +28,12 @@ use crate::leaves::{boolean, enumerated, integer, presence};
 use crate::lengths::{MOST_UNITS, Piece, UNIT};
 use crate::run::{Origin, Run};
 use crate::texts::text;
-use asn_types::{Component, Form, Module, Role, TypeLabel, resolve, role};
-use asn_values::{kept, own, spelling};
+use asn_types::{Component, Form, Module, TypeLabel, resolve, role};
+use asn_values::{below, kept, own};
 use base_flat_trees::{Builder, Flat, Node};
 use base_texts::{Memory, Source};
 use base_trees::Tree;
-use per_fields::{Stop, Variant, Why};
+use per_fields::{Stop, Variant, Why, is_standard};
 use simple_types::{Flags, Standard, ValueLabel};
 use std::alloc::Global;
 
@@ -44,35 +43,6 @@ const MOST_DEEP: u32 = 64;
 /// How many nodes a value may have.
 const MOST_NODES: u32 = 1_048_576;
 
-#[inline(always)]
-fn below(role: Role, depth: u32) -> u32
-    requires { depth ≤ 64 }
-    ensures same { result ≡ bodies.below role depth }
-    ensures few { result ≤ 65 }
-{
-    match role {
-        Role::Element => depth + 1,
-        _ => depth,
-    }
-}
-
-// Whether the values of a type, which is no reference, have no kids.
-#[inline(always)]
-fn is_leaf(found: &Tree<TypeLabel>) -> bool
-    ensures { result ≡ bodies.is_leaf (label_of found.now).form }
-{
-    match &found.label().form {
-        Form::Bool
-        | Form::Int { .. }
-        | Form::Numbers { .. }
-        | Form::Words { .. }
-        | Form::Order { .. }
-        | Form::Utf8 { .. } => true,
-        Form::Sequence { .. } | Form::Choice { .. } | Form::SequenceOf { .. } | Form::Ref { .. } =>
-            false,
-    }
-}
-
 // A depth at which a part is read as at its own, that is, so many elements stand in one another down to it. Behind its
 // references this type is found. A part without kids is read alike wherever it isn't too deep, so that its role, which
 // takes time, is looked up only at the last depth.
@@ -80,11 +50,11 @@ fn is_leaf(found: &Tree<TypeLabel>) -> bool
 fn part_depth(node: &Tree<TypeLabel>, part: u32, found: &Tree<TypeLabel>, depth: u32) -> u32
     requires part { part < length (parts_of (label_of node.now).form) }
     requires depth { depth ≤ 64 }
-    ensures same { ((depth < 64) × (bodies.is_leaf (label_of found.now).form ≡ true) × (result ≡ depth))
-        ⊎ IfSome (slice_get (parts_of (label_of node.now).form) part) (λ component. result ≡ bodies.below (role_of (label_of node.now) part component) depth) }
+    ensures same { ((depth < 64) × (is_leaf (label_of found.now).form ≡ true) × (result ≡ depth))
+        ⊎ IfSome (slice_get (parts_of (label_of node.now).form) part) (λ component. result ≡ below (role_of (label_of node.now) part component) depth) }
     ensures few { result ≤ 65 }
 {
-    if depth < MOST_DEEP && is_leaf(found) {
+    if depth < MOST_DEEP && found.label().form.is_leaf() {
         return depth;
     }
     below(role(node.label(), part), depth)
@@ -132,27 +102,6 @@ fn owned(
     } else {
         Err(stopped(stop, begin, Why::NotAValue, end))
     }
-}
-
-// Whether a value has the spelling of the default or fixed value of its part.
-fn is_standard(
-    alloc: Global,
-    module: &Module,
-    part: &Component,
-    kid: &Tree<TypeLabel>,
-    value: &Node<'_, ValueLabel>,
-) -> Result<bool, Memory>
-    requires known { bodies.IsKnown module.now }
-    requires of { IsOf module.now kid.now }
-    ensures { IfOk result (λ b. b ≡ owning.is_standard module.now part.now kid.now value.now) }
-{
-    let text = match &part.standard {
-        Standard::Free => return Ok(false),
-        Standard::Default(text) => text,
-        Standard::Fixed(text) => text,
-    };
-    let spelled = spelling(alloc, resolve(module, kid), value)?;
-    Ok(spelled == *text)
 }
 
 // Why a part isn't kept.
@@ -277,7 +226,7 @@ fn body<S: Source, K: Origin, V: Variant>(
     ruled(alloc, module, run, depth, node, found, begin, values)
 }
 
-// The same of a node whose values may break its rules, where its type is found and no text.
+// Reads a node whose values may break its rules. Its type is found and is no text.
 #[inline(never)]
 #[cycle(nodes)]
 fn ruled<S: Source, K: Origin, V: Variant>(
@@ -496,7 +445,7 @@ fn component<S: Source, K: Origin, V: Variant>(
     }
 }
 
-// The same of one that has a default or fixed value, which is rare.
+// Reads a part that has a default or fixed value, which is rare.
 #[inline(never)]
 #[cycle(nodes)]
 fn standard<S: Source, K: Origin, V: Variant>(

@@ -52,7 +52,7 @@ impl<'a, S: Source, K: Origin, V: Variant> Run<'a, S, K, V> {
         self.take_both(begin, n)
     }
 
-    // The same of more than 64 bits, which are taken at twice.
+    // Takes a number of more than 64 bits in two steps.
     #[inline(never)]
     fn take_both(&mut self, begin: u64, n: u32) -> Result<u128, Fault>
         requires many { 64 < n }
@@ -113,7 +113,7 @@ impl<'a, S: Source, K: Origin, V: Variant> Run<'a, S, K, V> {
         Ok(x)
     }
 
-    // The same behind padding.
+    // Reads a number after padding to the next octet.
     #[tactic(auto, unfolding(per_fields::specs::Fields::aligned_at))]
     fn aligned(&mut self, top: u64, n: u32) -> Result<u64, Fault>
         requires few { n ≤ 64 }

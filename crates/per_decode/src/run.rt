@@ -164,7 +164,7 @@ impl<'a, S: Source, K: Origin, V: Variant> Run<'a, S, K, V> {
         }
     }
 
-    // The same at any bit.
+    // Fills the octets with the bits from here on, which may begin inside an octet.
     fn fill_across(&mut self, octets: &mut [u8]) -> Result<(), Fault>
         requires few { length octets.old ≤ 65536 }
         requires in_step { IsInStep self.old.bits.position self.old.bits.taken }

@@ -63,7 +63,7 @@ pub(crate) fn text<S: Source, K: Origin, V: Variant>(
     }
 }
 
-// The same behind a length of so few octets. They are read in place.
+// Reads a text of at most `ROOM` octets after its length. They are read in place.
 #[inline(always)]
 fn short_text<S: Source, K: Origin, V: Variant>(
     alloc: Global,
@@ -109,7 +109,7 @@ fn short_text<S: Source, K: Origin, V: Variant>(
     )
 }
 
-// The same behind any length.
+// Reads a text of any length after its first length.
 #[inline(never)]
 fn long_text<S: Source, K: Origin, V: Variant>(
     alloc: Global,
@@ -197,7 +197,7 @@ fn few_octets(
     }
 }
 
-// The same of these octets, which are copied.
+// Appends the text of these octets, which are copied.
 #[inline(never)]
 fn copied_text(
     alloc: Global,

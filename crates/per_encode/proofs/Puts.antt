@@ -60,7 +60,7 @@ last_taken aligned f xs old sink mid new short so_far head items =
     ∙ ap (λ n. sink ++ then_bits (head_bits aligned (Last n) p) (in_turn ws) p) (sym m)
     ∙ ap (λ bs. sink ++ bs) (sym (counted-last aligned ws p (omega (arith, short, m)))) ∙ so_far
 
--- the same of a list from a number on
+-- a fragment of the rest of a list from a number on was put
 pub fragment_put : (aligned : Bool) {A : Type 0} (f : A → Writer) (xs : List A) (at k : ℕ) (old sink mid new : List Bool) → 16384 ≤ length xs - at → units_of (length xs - at) ≡ k
     → mid ≡ sink ++ head_bits aligned (Units k) (length sink) → new ≡ mid ++ in_turn (map f (take (at + k * 16384 - at) (drop at xs))) (length mid)
     → sink ++ counted_bits aligned (map f (drop at xs)) (length sink) ≡ old → new ++ counted_bits aligned (map f (drop (at + k * 16384) xs)) (length new) ≡ old

@@ -43,7 +43,7 @@ pub fn encode_by<V: Variant>(
     whole_octets(sink)
 }
 
-/// The same, aligned.
+/// Returns the complete encoding of a value of the type of the assignment with this number, in canonical aligned PER.
 pub fn encode(alloc: Global, module: &Module, t: u32, value: &Value) -> Result<Vec<u8>, Memory>
     requires { In module.now t value.now }
     ensures { IfOk result (λ octets. octet_bits octets.items ≡ complete module.now t value.now) }

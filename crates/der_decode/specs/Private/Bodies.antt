@@ -4,7 +4,6 @@ use Rattle.std.specs.List.{position_from}
 use Rattle.base_trees.specs.Rose.{Rose, label_of, kids_of}
 use Rattle.simple_types.specs.declared.labels.ValueLabel.{ValueLabel}
 use Rattle.asn_types.specs.declared.modules.Assignment.{Assignment}
-use Rattle.asn_types.specs.declared.roles.Role.{Role}
 use Rattle.asn_types.specs.declared.types.Component.{Component}
 use Rattle.asn_types.specs.declared.types.Form.{Form}
 use Rattle.asn_types.specs.declared.types.Form.TheVariants as form
@@ -15,9 +14,6 @@ use Rattle.base_codecs.specs.Reading.{◌>>=◌, with_spot, entered_at}
 use Rattle.der_fields.specs.FieldsReading.{Octets}
 use Rattle.der_fields.specs.Encoding.{TaggedPlace, tagged_place}
 use Rattle.der_fields.specs.Reading.{starts, parts_from, choice_of, nothing_at, contents_at, is_over, over, headed_at, kept_at, part_at, node_read}
-
-abbrev pub below : Role → ℕ → ℕ
-below role depth = values.below role depth
 
 -- contents that are no nodes
 abbrev pub HasNoKids : Form → Type 0

@@ -26,7 +26,8 @@ abbrev pub Shows : {A B : Type 0} → (A → B × Spot) → Result A Fault → R
 Shows view (Ok x) found = found ≡ Ok (view x)
 Shows view (Err e) found = Fails e found
 
--- the same of the parts of a SEQUENCE, of which the flags tell which are present, and those that are
+-- the parts of a SEQUENCE that are read and the spot after them, or the stop, unless memory is missing; the flags give
+-- which are present
 abbrev pub ShowsParts : Result Spot Fault → List Bool → List (Rose ValueLabel) → Result (List (Option (Rose ValueLabel)) × Spot) Stop → Type 0
 ShowsParts (Ok r) flags vs found = (os : List (Option (Rose ValueLabel))) × (found ≡ Ok (os, r)) × (flags_of os ≡ flags) × (those_of os ≡ vs)
 ShowsParts (Err e) flags vs found = Fails e found

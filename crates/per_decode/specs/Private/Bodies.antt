@@ -1,10 +1,9 @@
 -- Parts of the reading of a node, as the code has them.
-use Rattle.std.specs.Prelude.{ℕ, Bool, true, false, Result, Option, Some, None, List, [], ◌∷◌, ◌++◌, slice_get, replicate, Ok}
+use Rattle.std.specs.Prelude.{ℕ, Bool, Result, Option, Some, None, List, [], ◌∷◌, ◌++◌, slice_get, replicate, Ok}
 use Rattle.base_trees.specs.Rose.{Rose, Roses, label_of, kids_of, node, none}
 use Rattle.simple_types.specs.declared.labels.ValueLabel.{ValueLabel}
 use Rattle.simple_types.specs.declared.labels.ValueLabel.TheVariants as value
 use Rattle.asn_types.specs.declared.modules.Assignment.{Assignment}
-use Rattle.asn_types.specs.declared.roles.Role.{Role}
 use Rattle.asn_types.specs.declared.types.Component.{Component}
 use Rattle.asn_types.specs.declared.types.Form.{Form}
 use Rattle.asn_types.specs.declared.types.Form.TheVariants as form
@@ -17,9 +16,6 @@ use Rattle.base_codecs.specs.declared.spots.Spot.{Spot}
 use Rattle.per_fields.specs.declared.stops.Stop.{Stop}
 use Rattle.per_fields.specs.Reading.{◌>>=◌, Reader, each_at}
 use Rattle.per_fields.specs.Nodes.{content_at, kept_at, part_at, owned_at, node_read, nothing_at, last_at}
-
-abbrev pub below : Role → ℕ → ℕ
-below role depth = values.below role depth
 
 -- what is known of each module
 abbrev pub IsKnown : List Assignment → Type 0
@@ -40,16 +36,6 @@ IsNoText _ = Unit {0}
 abbrev pub IsText : Form → Type 0
 IsText (form.Utf8 least most class) = Unit {0}
 IsText _ = ⊥
-
--- no kids, and no reference
-abbrev pub is_leaf : Form → Bool
-is_leaf form.Bool = true
-is_leaf (form.Int least greatest) = true
-is_leaf (form.Numbers numbers) = true
-is_leaf (form.Words identifiers words) = true
-is_leaf (form.Order identifiers) = true
-is_leaf (form.Utf8 least most class) = true
-is_leaf _ = false
 
 abbrev pub text_leaf : List ℕ → Rose ValueLabel
 text_leaf octets = node (value.Utf8 octets) none

@@ -69,7 +69,7 @@ module _ (limit : ℕ) (whole : List ℕ) where
   abbrev pub Gives : {A B : Type 0} → (A → B) → Result A Fault → Spot → Stop → ℕ → Reader B → Spot → Type 0
   Gives view result new stop taken read old = Shows view result new stop taken (read (input limit whole) old)
 
-  -- the same of what the caller is told
+  -- the value and the spot after it, or the error that the caller gets for a fault
   abbrev pub Tells : {A B : Type 0} → (A → B) → Result A DecodeError → Spot → ℕ → Result (B × Spot) Stop → Type 0
   Tells view (Ok x) new taken found = found ≡ Ok (view x, new)
   Tells view (Err e) new taken found = (halt : Halt) × (error_of halt ≡ e) × FailsAt halt taken found

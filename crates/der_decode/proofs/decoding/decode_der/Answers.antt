@@ -3,7 +3,7 @@ use Rattle.asn_types.proofs.Inside.{body-of}
 use Rattle.asn_values.specs.Values.{In}
 use Rattle.der_fields.specs.Encoding.{distinguished}
 use Rattle.der_fields.specs.Laws.{Begins}
-use Rattle.der_decode.proofs.Allowing.{fits-allowed}
+use Rattle.asn_values.proofs.Allowing.{fits-allowed}
 use Rattle.der_decode.proofs.Final.{fits_body, in_module, begins_with, as_long, fault_told}
 use Rattle.der_decode.proofs.Octets.{octets_of_bytes}
 use Rattle.der_decode.proofs.decoding.decode_der.Goals as goal

@@ -27,15 +27,15 @@ use Rattle.der_decode.proofs.Newest.{newest-pushed, pushed-newest, closed-list, 
 use Rattle.der_decode.proofs.Owning.{node_plain, node_keeps, node_unowned, node_fails, free_read, part_keeps, part_unkept}
 use Rattle.der_decode.proofs.Parts.{got_here, kids-parts, components_few, kid_here}
 use Rattle.der_decode.proofs.Sequences.{through_none, through_there, through_absent, through_missing, through_fails, through_more, through_end, sequence_fails, sequence_reads}
-use Rattle.der_decode.proofs.Shows.{match_yes, match_no, shows_as, fails_as, fails_then, with_front, same_front}
-use Rattle.der_decode.proofs.Types.{resolved-kids, resolved-levels}
+use Rattle.der_decode.proofs.Shows.{shows_as, fails_as, fails_then, with_front, same_front}
+use Rattle.der_decode.proofs.Types.{leaf-no_kids, kids-no_leaf, resolved-kids, resolved-levels}
 use Rattle.der_decode.proofs.nodes.+nodes.Goals as goal
 
 -- A NODE, by its form and its rule
 
 pub node-leaf_node-requires-clause-form : goal.node-leaf_node-requires-clause-form
 node-leaf_node-requires-clause-form t c =
-    rw c.label.ensures at (match_yes c.is_leaf.result _ _ c.if-is_leaf.true c.is_leaf.ensures)
+    rw c.label.ensures at (leaf-no_kids _ c.is_leaf.result c.is_leaf.ensures c.if-is_leaf.true)
 
 pub node-has_no_rules-requires : goal.node-has_no_rules-requires
 node-has_no_rules-requires t c =
@@ -48,7 +48,7 @@ node-headed-requires t c =
     let M = c.args.module.now in
     let u = c.args.node.now in
     let d = c.decreases in
-    let no_leaf = rw (c.label.ensures, c.requires.found) at (match_no c.is_leaf.result _ _ c.if-is_leaf.false c.is_leaf.ensures) in
+    let no_leaf = rw (c.label.ensures, c.requires.found) at (kids-no_leaf _ c.is_leaf.result c.is_leaf.ensures c.if-is_leaf.false) in
     let has = subst (λ (w : Rose TypeLabel). HasKids (label_of w).form) (sym c.requires.found) (resolved-kids M c.requires.known u c.requires.of no_leaf) in
     let of = subst (IsOf M) (sym c.requires.found) (resolved-of-module M u c.requires.of) in
     (omega (arith, d), (c.requires.known, (of, (has, c.requires.inside))))
@@ -58,7 +58,7 @@ node-ruled-requires t c =
     let M = c.args.module.now in
     let u = c.args.node.now in
     let d = c.decreases in
-    let no_leaf = rw (c.label.ensures, c.requires.found) at (match_no c.is_leaf.result _ _ c.if-is_leaf.false c.is_leaf.ensures) in
+    let no_leaf = rw (c.label.ensures, c.requires.found) at (kids-no_leaf _ c.is_leaf.result c.is_leaf.ensures c.if-is_leaf.false) in
     let has = subst (λ (w : Rose TypeLabel). HasKids (label_of w).form) (sym c.requires.found) (resolved-kids M c.requires.known u c.requires.of no_leaf) in
     (omega (arith, d), (c.requires.known, (c.requires.of, (c.requires.found, (has, c.requires.inside)))))
 

@@ -4,7 +4,7 @@ use Rattle.asn_values.specs.Values.{In}
 use Rattle.asn_types.proofs.Inside.{body-of}
 use Rattle.per_decode.specs.Answers.{AnswersBy}
 use Rattle.per_decode.proofs.Final.{in_module, answers_told}
-use Rattle.per_decode.proofs.Fitting.{fits-allowed}
+use Rattle.asn_values.proofs.Allowing.{fits-allowed}
 use Rattle.per_decode.proofs.decoding.decode_by.Goals as goal
 
 pub of-requires : goal.of-requires

@@ -3,7 +3,7 @@ use Rattle.base_trees.specs.Rose.{Allowed}
 use Rattle.asn_types.specs.Parts.{MayHave}
 use Rattle.asn_types.specs.Refs.{resolve}
 use Rattle.asn_types.proofs.Chaining.{of-allowed, resolved-of-module}
-use Rattle.der_decode.proofs.rules.is_standard.Goals as goal
+use Rattle.per_fields.proofs.defaults.is_standard.Goals as goal
 
 pub spelling-requires : goal.spelling-requires
 spelling-requires c =
