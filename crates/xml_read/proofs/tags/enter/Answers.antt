@@ -32,8 +32,8 @@ from_utf8-requires c =
     let plain : IsPlain (tag_seen c.args.tag.now).name = search rules in
     subst IsUtf8 plain.whole (local_utf8 c.args.tag.now.name.now plain.qname)
 
-pub returns-then-is_plain-clause-ok : goal.returns-then-is_plain-clause-ok
-returns-then-is_plain-clause-ok c =
+pub returns-then-is_ascii_name_alone-clause-ok : goal.returns-then-is_ascii_name_alone-clause-ok
+returns-then-is_ascii_name_alone-clause-ok c =
     let empty : nat_eq (length c.args.tag.now.attributes.items) 0 ≡ true = search rules in
     let none : (tag_seen c.args.tag.now).attributes ≡ [] = ap (λ (t : Tag). t.attributes) (bare_is c.args.tag.now empty) in
     let plain : IsPlain (tag_seen c.args.tag.now).name = search rules in
