@@ -39,17 +39,17 @@ fn are_words(how: WhiteSpace, words: &[Text]) -> bool
 }
 
 // Whether an item or alternative is never absent and has no instructions but NAME.
-fn is_plain(part: &Component) -> bool
+fn is_always_there(part: &Component) -> bool
     ensures { IsTrue result ↔ IsPlain part.now }
 {
     !part.optional && part.marks.tell_nothing()
 }
 
-fn are_plain(parts: &[Component]) -> bool
+fn are_always_there(parts: &[Component]) -> bool
     ensures { IsTrue result ↔ ArePlain parts.now }
 {
     'parts: for part in parts {
-        if !is_plain(part) {
+        if !is_always_there(part) {
             return false;
         }
     }
@@ -153,7 +153,7 @@ fn union_at(
     requires choice { (label_of node.now).form ≡ Form.Choice parts.now }
     ensures { IfOk result (λ found. Finds found node.now) }
 {
-    if !node.label().marks.tell_use_union() || !are_plain(parts) {
+    if !node.label().marks.tell_use_union() || !are_always_there(parts) {
         return Ok(None);
     }
     let kids = node.kids();
@@ -180,7 +180,7 @@ fn list_at(
     requires list { (label_of node.now).form ≡ Form.SequenceOf part.now min max }
     ensures { IfOk result (λ found. Finds found node.now) }
 {
-    if !node.label().marks.tell_list() || !is_plain(part) {
+    if !node.label().marks.tell_list() || !is_always_there(part) {
         return Ok(None);
     }
     let Some(kid) = node.kids().first() else {

@@ -21,8 +21,8 @@ use Rattle.der_fields.specs.declared.stops.Why.TheVariants.{Tag}
 use Rattle.der_fields.specs.FieldsReading.{Octets, stop_at}
 use Rattle.der_fields.specs.Encoding.{TaggedPlace, tagged_place}
 use Rattle.der_fields.specs.Reading.{starts, is_optional, unexpected, parts_from, choice_of, choice_at, is_over, over}
-use Rattle.der_decode.specs.declared.faults.Fault.{Fault}
-use Rattle.der_decode.specs.declared.faults.Fault.TheVariants as fault
+use Rattle.der_decode.specs.declared.faults.DerEnd.{DerEnd}
+use Rattle.der_decode.specs.declared.faults.DerEnd.TheVariants as fault
 use Rattle.der_decode.specs.Private.Bodies.{first_start, part_read, kid_at, entered_kid, alternative_read, alternative_place}
 use Rattle.der_decode.specs.Private.Showing.{Fails, spot}
 use Rattle.der_decode.proofs.Heading.{enters, enters_not}
@@ -177,7 +177,7 @@ module _ (read : Octets (Rose ValueLabel)) (X : List ℕ) (s : Spot) where
   unfolding ended_at
   ended-is = refl
 
-  pub ended_fails : (e : Fault) → Fails e (read X s) → Fails e (ended_at (λ r. stop_at r.at Tag) read X s)
+  pub ended_fails : (e : DerEnd) → Fails e (read X s) → Fails e (ended_at (λ r. stop_at r.at Tag) read X s)
   ended_fails (fault.Stopped stop) h = ended-is ∙ err_bind (read X s) told_end stop h
   ended_fails fault.Memory h = tt
 

@@ -20,8 +20,8 @@ use Rattle.der_fields.specs.declared.stops.Stop.{Stop}
 use Rattle.der_fields.specs.declared.stops.Why.TheVariants.{Content, Range, NotUtf8, NotAValue}
 use Rattle.der_fields.specs.FieldsReading.{stop_at}
 use Rattle.der_fields.specs.Reading.{leaf_of, bool_of, bool_at, whole_at, int_of, int_at, item_with, item_of, item_at, enum_at, text_at, contents_at, owned_at}
-use Rattle.der_decode.specs.declared.faults.Fault.{Fault}
-use Rattle.der_decode.specs.declared.faults.Fault.TheVariants as fault
+use Rattle.der_decode.specs.declared.faults.DerEnd.{DerEnd}
+use Rattle.der_decode.specs.declared.faults.DerEnd.TheVariants as fault
 use Rattle.der_decode.specs.Private.Leaves.{IsLeaf, IsPlain, end_of, Reads, ReadsLeaf, IsLeafAt, StopsLeaf}
 use Rattle.der_decode.proofs.Windows.{stop_so}
 use Rattle.der_decode.proofs.Filling.{left_is}
@@ -162,22 +162,22 @@ module _ (f : Form) (X : List ℕ) (begin : ℕ) (s : Spot) (inside : s.at ≤ l
   abbrev Told : ValueLabel → Type 0
   Told label = (label ≡ value.Utf8 (drop s.at X)) × IsUtf8 (drop s.at X)
 
-  abbrev Faulty : Fault → Type 0
+  abbrev Faulty : DerEnd → Type 0
   Faulty e = (e ≡ fault.Memory) ⊎ ((e ≡ fault.Stopped (stop_at begin NotUtf8)) × (IsUtf8 (drop s.at X) → ⊥))
 
-  pub text_kids : (r : Result ValueLabel Fault) → IfOk r Told → IfOk r (λ label. MayHave label 0)
+  pub text_kids : (r : Result ValueLabel DerEnd) → IfOk r Told → IfOk r (λ label. MayHave label 0)
   text_kids (Ok label) k = subst (λ m. MayHave m 0) (sym k.0) refl
   text_kids (Err e) k = tt
 
-  pub text_tells : (r : Result ValueLabel Fault) → IfOk r Told → IfOk r (λ label. is_no_text label ≡ false)
+  pub text_tells : (r : Result ValueLabel DerEnd) → IfOk r Told → IfOk r (λ label. is_no_text label ≡ false)
   text_tells (Ok label) k = ap is_no_text k.0 ∙ is_text (drop s.at X) k.1
   text_tells (Err e) k = tt
 
-  pub text_reads : (r : Result ValueLabel Fault) → IfOk r Told → IfOk r (λ label. IsLeafAt f X s label)
+  pub text_reads : (r : Result ValueLabel DerEnd) → IfOk r Told → IfOk r (λ label. IsLeafAt f X s label)
   text_reads (Ok label) k = subst (λ g. IsLeafAt g X s label) (sym is) (subst (λ m. IsLeafAt (form.Utf8 least most class) X s m) (sym k.0) (text_is least most class X s inside))
   text_reads (Err e) k = tt
 
-  pub text_faults : (r : Result ValueLabel Fault) → IfErr r Faulty → IfErr r (λ e. StopsLeaf f X begin s e)
+  pub text_faults : (r : Result ValueLabel DerEnd) → IfErr r Faulty → IfErr r (λ e. StopsLeaf f X begin s e)
   text_faults (Ok label) k = tt
   text_faults (Err e) k = by k
     where

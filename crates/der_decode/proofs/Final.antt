@@ -21,8 +21,8 @@ use Rattle.der_fields.specs.Reading.{start, node_read, root_at}
 use Rattle.der_fields.specs.Laws.{Begins, reading_of}
 use Rattle.der_fields.proofs.NodeLaws.{root_codec}
 use Rattle.der_decode.specs.Answers.{Says}
-use Rattle.der_decode.specs.declared.faults.Fault.{Fault}
-use Rattle.der_decode.specs.declared.faults.Fault.TheVariants as fault
+use Rattle.der_decode.specs.declared.faults.DerEnd.{DerEnd}
+use Rattle.der_decode.specs.declared.faults.DerEnd.TheVariants as fault
 use Rattle.der_decode.specs.Private.Showing.{Fails, error_of}
 use Rattle.der_fields.specs.Stopping.{DerStop}
 use Rattle.der_fields.proofs.StopLaw.{stops_as_read}
@@ -75,6 +75,6 @@ module _ (M : List Assignment) (is : IsModule M) (bounded : IsBounded M) (t : �
   stops_there stop e = (stops_as_read M t X is bounded assigned fine stop).0 (reading_is ∙ ap Some e)
 
   -- what the caller is told of a fault
-  pub fault_told : (e : Fault) → Fails e (root_at M a.body X start) → Says M t X (Err (error_of e))
+  pub fault_told : (e : DerEnd) → Fails e (root_at M a.body X start) → Says M t X (Err (error_of e))
   fault_told (fault.Stopped stop) h = stops_there stop h
   fault_told fault.Memory h = tt

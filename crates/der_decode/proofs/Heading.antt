@@ -20,8 +20,8 @@ use Rattle.der_fields.specs.Octets.{begins}
 use Rattle.der_fields.specs.FieldsReading.{stop_at, Octets, sized_at, tagged_at, expected_at}
 use Rattle.der_fields.specs.Encoding.{TaggedPlace, identifier, is_open}
 use Rattle.der_fields.specs.Reading.{contents_at, sequence_at, choice_at, sequence_of_at, headed_at, is_over, over}
-use Rattle.der_decode.specs.declared.faults.Fault.{Fault}
-use Rattle.der_decode.specs.declared.faults.Fault.TheVariants as fault
+use Rattle.der_decode.specs.declared.faults.DerEnd.{DerEnd}
+use Rattle.der_decode.specs.declared.faults.DerEnd.TheVariants as fault
 use Rattle.der_decode.specs.declared.fields.Window.{Window}
 use Rattle.der_decode.specs.Private.Bodies.{HasNoKids, IsChoice, kid_at, headed_read, contents_read, item_place}
 use Rattle.der_decode.specs.Private.Windows.{IsWindow, HasNoWindow}
@@ -134,7 +134,7 @@ module _ (M : List Assignment) (depth : ℕ) (tag : Option ℕ) (u : Rose TypeLa
   closed-is : headed_read M depth tag u X s ≡ behind_head depth (identifier tag (label_of u).form) its_contents X s
   closed-is = headed-closed M (kid_at M depth) depth tag (label_of u) (kids_of u) X s closed
 
-  pub headless : (e : Fault) → ShowsHead (Err e) depth (identifier tag (label_of u).form) X s → Fails e (headed_read M depth tag u X s)
+  pub headless : (e : DerEnd) → ShowsHead (Err e) depth (identifier tag (label_of u).form) X s → Fails e (headed_read M depth tag u X s)
   headless (fault.Stopped stop) h = closed-is ∙ h its_contents
   headless fault.Memory h = tt
 

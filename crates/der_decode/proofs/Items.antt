@@ -17,8 +17,8 @@ use Rattle.der_fields.specs.declared.stops.Why.TheVariants.{Range}
 use Rattle.der_fields.specs.FieldsReading.{Octets, stop_at}
 use Rattle.der_fields.specs.Encoding.{TaggedPlace, tagged_place}
 use Rattle.der_fields.specs.Reading.{node_of, is_size, never, sequence_of_at}
-use Rattle.der_decode.specs.declared.faults.Fault.{Fault}
-use Rattle.der_decode.specs.declared.faults.Fault.TheVariants as fault
+use Rattle.der_decode.specs.declared.faults.DerEnd.{DerEnd}
+use Rattle.der_decode.specs.declared.faults.DerEnd.TheVariants as fault
 use Rattle.der_decode.specs.Private.Showing.{Fails}
 use Rattle.der_decode.proofs.Shows.{with_front, regroup}
 
@@ -55,7 +55,7 @@ module _ (read : Octets (Rose ValueLabel)) (X : List ℕ) (front : List (Rose Va
         ap (with_front front) (turn ∙ ap (λ k. k >>= λ a. at_most_at never (length X - (n + 1)) read X a.1 >>= λ as'. with_spot (a.0 ∷ as'.0) as'.1) e)
         ∙ regroup front v (at_most_at never (length X - (n + 1)) read X r)
 
-    pub items_fail : (e : Fault) → Fails e (read X s) → Fails e (with_front front (rest_at n))
+    pub items_fail : (e : DerEnd) → Fails e (read X s) → Fails e (with_front front (rest_at n))
     items_fail (fault.Stopped stop) h =
         ap (with_front front) (turn ∙ err_bind (read X s) (λ a. at_most_at never (length X - (n + 1)) read X a.1 >>= λ as'. with_spot (a.0 ∷ as'.0) as'.1) stop h)
     items_fail fault.Memory h = tt
@@ -72,7 +72,7 @@ module _ (kid : TaggedPlace → Octets (Rose ValueLabel)) (begin least : ℕ) (m
   unfolding sequence_of_at
   list-is = refl
 
-  pub list_fails : (e : Fault) → Fails e all_items → Fails e (sequence_of_at kid begin least most (Some p) X s)
+  pub list_fails : (e : DerEnd) → Fails e all_items → Fails e (sequence_of_at kid begin least most (Some p) X s)
   list_fails (fault.Stopped stop) h = list-is ∙ err_bind all_items counted stop h
   list_fails fault.Memory h = tt
 

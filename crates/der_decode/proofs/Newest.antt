@@ -5,7 +5,7 @@ use Rattle.base_trees.specs.Rose.{Rose, node, none, roses_of}
 use Rattle.base_flat_trees.specs.Zips.{Zip, opened, added, closed, closed_in, relabeled, relabeled_in}
 use Rattle.simple_types.specs.declared.labels.ValueLabel.{ValueLabel}
 use Rattle.simple_types.specs.declared.labels.ValueLabel.TheVariants as value
-use Rattle.der_decode.specs.declared.faults.Fault.{Fault}
+use Rattle.der_decode.specs.declared.faults.DerEnd.{DerEnd}
 use Rattle.der_decode.specs.Private.Newest.{last_of, newest}
 
 last-push : (u : Rose ValueLabel) (vs : List (Rose ValueLabel)) (v : Rose ValueLabel) → last_of u (vs ++ v ∷ []) ≡ v
@@ -23,11 +23,11 @@ newest-pushed new old v e = ap (λ (z : Zip ValueLabel). newest z.kids) e ∙ ne
 pub pushed-newest : (new old : Zip ValueLabel) (v : Rose ValueLabel) → new ≡ added v old → new ≡ added (newest new.kids) old
 pushed-newest new old v e = e ∙ ap (λ w. added w old) (sym (newest-pushed new old v e))
 
-pub newest-told : {A : Type 0} (answer : Result A Fault) (new old : Zip ValueLabel) (v : Rose ValueLabel) → IfOk answer (λ _. new ≡ added v old) → IfOk answer (λ _. newest new.kids ≡ v)
+pub newest-told : {A : Type 0} (answer : Result A DerEnd) (new old : Zip ValueLabel) (v : Rose ValueLabel) → IfOk answer (λ _. new ≡ added v old) → IfOk answer (λ _. newest new.kids ≡ v)
 newest-told (Ok x) new old v e = newest-pushed new old v e
 newest-told (Err f) new old v e = tt
 
-pub pushed-told : {A : Type 0} (answer : Result A Fault) (new old : Zip ValueLabel) (v : Rose ValueLabel) → IfOk answer (λ _. new ≡ added v old) → IfOk answer (λ _. new ≡ added (newest new.kids) old)
+pub pushed-told : {A : Type 0} (answer : Result A DerEnd) (new old : Zip ValueLabel) (v : Rose ValueLabel) → IfOk answer (λ _. new ≡ added v old) → IfOk answer (λ _. new ≡ added (newest new.kids) old)
 pushed-told (Ok x) new old v e = pushed-newest new old v e
 pushed-told (Err f) new old v e = tt
 
@@ -43,6 +43,6 @@ pub closed-labeled : (new mid old : Zip ValueLabel) (l blank : ValueLabel) → m
 closed-labeled new mid old l blank begun above = ap (λ up. closed_in (relabeled_in l up) new.kids) (above ∙ ap (λ (z : Zip ValueLabel). z.above) begun)
 
 -- what is known of the value is known of the newest
-pub newest-has : {A : Type 0} (P : Rose ValueLabel → Type 0) (answer : Result A Fault) (v w : Rose ValueLabel) → IfOk answer (λ _. w ≡ v) → IfOk answer (λ _. P v) → IfOk answer (λ _. P w)
+pub newest-has : {A : Type 0} (P : Rose ValueLabel → Type 0) (answer : Result A DerEnd) (v w : Rose ValueLabel) → IfOk answer (λ _. w ≡ v) → IfOk answer (λ _. P v) → IfOk answer (λ _. P w)
 newest-has P (Ok x) v w e h = subst P (sym e) h
 newest-has P (Err f) v w e h = tt

@@ -24,8 +24,8 @@ use Rattle.der_fields.proofs.Unfolding.{node_recursion}
 use Rattle.per_fields.specs.Nodes.{is_no_text}
 use Rattle.per_fields.specs.Owning.{owns, keeps}
 use Rattle.per_fields.proofs.Owns.{owns_own, own_owns, kept_keeps, keeps_kept}
-use Rattle.der_decode.specs.declared.faults.Fault.{Fault}
-use Rattle.der_decode.specs.declared.faults.Fault.TheVariants as fault
+use Rattle.der_decode.specs.declared.faults.DerEnd.{DerEnd}
+use Rattle.der_decode.specs.declared.faults.DerEnd.TheVariants as fault
 use Rattle.der_decode.specs.Private.Bodies.{HasNoKids, part_read, kid_at, headed_read}
 use Rattle.der_decode.specs.Private.Leaves.{IsLeafAt, StopsLeaf}
 use Rattle.der_decode.specs.Private.Showing.{Fails, Shows, ShowsHead, spot, behind_head}
@@ -66,17 +66,17 @@ module _ (M : List Assignment) (is : IsModule M) (depth : ℕ) (tag : Option ℕ
       node_breaks : (Own M t v → ⊥) → node_read M depth tag t X s ≡ Err (stop_at s.at NotAValue)
       node_breaks wrong = node-is ∙ ap ruled read ∙ owned-not s.at v r text wrong
 
-      pub node_unowned : (e : Fault) → (e ≡ fault.Memory) ⊎ ((e ≡ fault.Stopped (stop_at s.at NotAValue)) × (Own M t v → ⊥)) → Fails e (node_read M depth tag t X s)
+      pub node_unowned : (e : DerEnd) → (e ≡ fault.Memory) ⊎ ((e ≡ fault.Stopped (stop_at s.at NotAValue)) × (Own M t v → ⊥)) → Fails e (node_read M depth tag t X s)
       node_unowned e (inl m) = subst (λ f. Fails f (node_read M depth tag t X s)) (sym m) tt
       node_unowned e (inr n) = subst (λ f. Fails f (node_read M depth tag t X s)) (sym n.0) (node_breaks n.1)
 
     -- before its rule it fails
-    pub node_fails : (e : Fault) → Fails e (headed_read M depth tag (resolve M t) X s) → Fails e (node_read M depth tag t X s)
+    pub node_fails : (e : DerEnd) → Fails e (headed_read M depth tag (resolve M t) X s) → Fails e (node_read M depth tag t X s)
     node_fails (fault.Stopped stop) h = node-is ∙ err_bind (headed_read M depth tag (resolve M t) X s) (owned_at M s.at (resolve M t)) stop h
     node_fails fault.Memory h = tt
 
     -- where every value keeps the rule, a node is what is read before it
-    pub node_plain : (w : Rose ValueLabel) (answer : Result Spot Fault) → ((v : Rose ValueLabel) → Own M t v) → IfOk answer (λ _. is_no_text (label_of w) ≡ false)
+    pub node_plain : (w : Rose ValueLabel) (answer : Result Spot DerEnd) → ((v : Rose ValueLabel) → Own M t v) → IfOk answer (λ _. is_no_text (label_of w) ≡ false)
         → Shows (λ r. (w, r)) answer (headed_read M depth tag (resolve M t) X s) → Shows (λ r. (w, r)) answer (node_read M depth tag t X s)
     node_plain w (Ok r) own text read = node_keeps w r read text (own w)
     node_plain w (Err e) own text h = node_fails e h
@@ -89,7 +89,7 @@ module _ (M : List Assignment) (is : IsModule M) (depth : ℕ) (tag : Option ℕ
       leaf-is : headed_read M depth tag (resolve M t) X s ≡ behind_head depth (identifier tag (label_of (resolve M t)).form) leaf_contents X s
       leaf-is = headed-closed M (kid_at M depth) depth tag (label_of (resolve M t)) (kids_of (resolve M t)) X s (leaf-closed tag (label_of (resolve M t)).form leaf)
 
-      pub leaf_headless : (e : Fault) → ShowsHead (Err e) depth (identifier tag (label_of (resolve M t)).form) X s → Fails e (node_read M depth tag t X s)
+      pub leaf_headless : (e : DerEnd) → ShowsHead (Err e) depth (identifier tag (label_of (resolve M t)).form) X s → Fails e (node_read M depth tag t X s)
       leaf_headless (fault.Stopped stop) h = node_fails (fault.Stopped stop) (leaf-is ∙ h leaf_contents)
       leaf_headless fault.Memory h = tt
 
@@ -98,7 +98,7 @@ module _ (M : List Assignment) (is : IsModule M) (depth : ℕ) (tag : Option ℕ
         leaf-read : headed_read M depth tag (resolve M t) X s ≡ leaf_contents (take end X) (spot at nodes)
         leaf-read = leaf-is ∙ head leaf_contents
 
-        pub leaf_stops : (e : Fault) → StopsLeaf (label_of (resolve M t)).form (take end X) s.at (spot at nodes) e → Fails e (node_read M depth tag t X s)
+        pub leaf_stops : (e : DerEnd) → StopsLeaf (label_of (resolve M t)).form (take end X) s.at (spot at nodes) e → Fails e (node_read M depth tag t X s)
         leaf_stops (fault.Stopped stop) h = node-is ∙ ap ruled leaf-read ∙ h M (kid_at M depth) (label_of (resolve M t)) (kids_of (resolve M t)) (resolve M t)
         leaf_stops fault.Memory h = tt
 
@@ -141,6 +141,6 @@ module _ (M : List Assignment) (depth : ℕ) (tag : Option ℕ) (part : Componen
     pub part_keeps : Kept M part t v → part_read M depth tag part t X s ≡ Ok (v, r)
     part_keeps h = ap kept read ∙ kept-goes v r h
 
-    pub part_unkept : (e : Fault) → (e ≡ fault.Memory) ⊎ ((e ≡ fault.Stopped (stop_at s.at (unkept_why M part t v))) × (Kept M part t v → ⊥)) → Fails e (part_read M depth tag part t X s)
+    pub part_unkept : (e : DerEnd) → (e ≡ fault.Memory) ⊎ ((e ≡ fault.Stopped (stop_at s.at (unkept_why M part t v))) × (Kept M part t v → ⊥)) → Fails e (part_read M depth tag part t X s)
     part_unkept e (inl m) = subst (λ f. Fails f (part_read M depth tag part t X s)) (sym m) tt
     part_unkept e (inr n) = subst (λ f. Fails f (part_read M depth tag part t X s)) (sym n.0) (ap kept read ∙ kept-not v r n.1)

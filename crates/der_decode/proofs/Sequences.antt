@@ -19,8 +19,8 @@ use Rattle.der_fields.specs.declared.stops.Stop.{Stop}
 use Rattle.der_fields.specs.FieldsReading.{Octets}
 use Rattle.der_fields.specs.Encoding.{TaggedPlace, tagged_place}
 use Rattle.der_fields.specs.Reading.{has_some, flags_of, those_of, starts, is_optional, unexpected, parts_from, sequence_of, sequence_at}
-use Rattle.der_decode.specs.declared.faults.Fault.{Fault}
-use Rattle.der_decode.specs.declared.faults.Fault.TheVariants as fault
+use Rattle.der_decode.specs.declared.faults.DerEnd.{DerEnd}
+use Rattle.der_decode.specs.declared.faults.DerEnd.TheVariants as fault
 use Rattle.der_decode.specs.Private.Showing.{Fails, ShowsParts}
 use Rattle.der_decode.proofs.Parts.{parts_split}
 use Rattle.der_decode.proofs.Shows.{with_front, regroup, same_front}
@@ -105,7 +105,7 @@ module _ (M : List Assignment) (kid : TaggedPlace → Octets (Rose ValueLabel)) 
       pub through_missing : starts M here (drop s.at X) ≡ false → part.optional ≡ false → all ≡ Err (unexpected X s)
       through_missing e needed = sym h.so_far ∙ ap (with_front h.done) (absent e ∙ cond_false part.optional if_absent (Err (unexpected X s)) needed)
 
-      pub through_fails : starts M here (drop s.at X) ≡ true → (e : Fault) → Fails e (kid here X s) → Fails e all
+      pub through_fails : starts M here (drop s.at X) ≡ true → (e : DerEnd) → Fails e (kid here X s) → Fails e all
       through_fails e (fault.Stopped stop) read =
           sym h.so_far ∙ ap (with_front h.done) (there e ∙ err_bind (kid here X s) (λ a. read_from (i + 1) X a.1 >>= λ as'. with_spot (Some a.0 ∷ as'.0) as'.1) stop read)
       through_fails e fault.Memory read = tt
@@ -132,7 +132,7 @@ module _ (M : List Assignment) (kid : TaggedPlace → Octets (Rose ValueLabel)) 
   unfolding sequence_at
   sequence-is = refl
 
-  pub sequence_fails : (e : Fault) → Fails e all → Fails e (sequence_at M kid l ts parts X began)
+  pub sequence_fails : (e : DerEnd) → Fails e all → Fails e (sequence_at M kid l ts parts X began)
   sequence_fails (fault.Stopped stop) h = sequence-is ∙ err_bind all (λ a. with_spot (sequence_of a.0) a.1) stop h
   sequence_fails fault.Memory h = tt
 

@@ -4,8 +4,8 @@ use Rattle.base_codecs.specs.declared.spots.Spot.{Spot}
 use Rattle.base_codecs.specs.Reading.{◌>>=◌, with_spot}
 use Rattle.base_codecs.proofs.Steps.{err_bind}
 use Rattle.der_fields.specs.declared.stops.Stop.{Stop}
-use Rattle.der_decode.specs.declared.faults.Fault.{Fault}
-use Rattle.der_decode.specs.declared.faults.Fault.TheVariants as fault
+use Rattle.der_decode.specs.declared.faults.DerEnd.{DerEnd}
+use Rattle.der_decode.specs.declared.faults.DerEnd.TheVariants as fault
 use Rattle.der_decode.specs.Private.Showing.{Shows, Fails}
 
 pub never_both : (b : Bool) → b ≡ true → b ≡ false → ⊥
@@ -13,14 +13,14 @@ never_both true e f = absurd cc
 never_both false e f = absurd cc
 
 -- what reads the same
-pub shows_as : {A B : Type 0} (view : A → B × Spot) (answer : Result A Fault) (x y : Result (B × Spot) Stop) → y ≡ x → Shows view answer x → Shows view answer y
+pub shows_as : {A B : Type 0} (view : A → B × Spot) (answer : Result A DerEnd) (x y : Result (B × Spot) Stop) → y ≡ x → Shows view answer x → Shows view answer y
 shows_as view answer x y e h = subst (Shows view answer) (sym e) h
 
-pub fails_as : {B : Type 0} (e : Fault) (x y : Result (B × Spot) Stop) → y ≡ x → Fails e x → Fails e y
+pub fails_as : {B : Type 0} (e : DerEnd) (x y : Result (B × Spot) Stop) → y ≡ x → Fails e x → Fails e y
 fails_as e x y same h = subst (Fails e) (sym same) h
 
 -- what fails first fails
-pub fails_then : {B D : Type 0} (e : Fault) (r : Result (B × Spot) Stop) (f : B × Spot → Result (D × Spot) Stop) → Fails e r → Fails e (r >>= f)
+pub fails_then : {B D : Type 0} (e : DerEnd) (r : Result (B × Spot) Stop) (f : B × Spot → Result (D × Spot) Stop) → Fails e r → Fails e (r >>= f)
 fails_then (fault.Stopped stop) r f h = err_bind r f stop h
 fails_then fault.Memory r f h = tt
 

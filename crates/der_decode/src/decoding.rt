@@ -9,7 +9,7 @@ ghost use Rattle.der_decode.specs.Private.Showing.{Shows, error_of};
 
 use crate::decoded::Decoded;
 use crate::errors::DecodeError;
-use crate::faults::Fault;
+use crate::faults::DerEnd;
 use crate::nodes::node;
 use asn_types::{Module, TypeLabel, resolve};
 use base_codecs::Spot;
@@ -30,13 +30,13 @@ fn root(
     module: &Module,
     body: &Tree<TypeLabel>,
     octets: &[u8],
-) -> Result<(Flat<ValueLabel>, Spot), Fault>
+) -> Result<(Flat<ValueLabel>, Spot), DerEnd>
     requires known { IsModule module.now }
     requires of { IsOf module.now body.now }
     ensures gives { Shows (λ read. (read.0, read.1)) result (root_at module.now body.now octets.now start) }
 {
     if octets.is_empty() {
-        return Err(Fault::Stopped(Stop {
+        return Err(DerEnd::Stopped(Stop {
             at: 0,
             why: Why::Short,
         }));
@@ -59,15 +59,15 @@ fn root(
 }
 
 // What a fault is to the caller.
-fn told(fault: Fault) -> DecodeError
+fn told(fault: DerEnd) -> DecodeError
     ensures { result ≡ error_of fault }
 {
     match fault {
-        Fault::Stopped(stop) => DecodeError::Bad {
+        DerEnd::Stopped(stop) => DecodeError::Bad {
             at: stop.at,
             why: stop.why,
         },
-        Fault::Memory => DecodeError::Memory,
+        DerEnd::Memory => DecodeError::Memory,
     }
 }
 

@@ -1,5 +1,5 @@
 //! Why no value is read.
-ghost use Rattle.der_decode.specs.declared.faults.Fault.TheVariants as faults;
+ghost use Rattle.der_decode.specs.declared.faults.DerEnd.TheVariants as faults;
 ghost use Rattle.std.specs.Prelude.{◌≡◌};
 
 use base_texts::Memory;
@@ -8,39 +8,39 @@ use std::alloc::{AllocError, AllocFailed};
 
 /// Why no value is read: the first fault of the octets, or memory is missing.
 #[derive(Clone, Copy)]
-pub(crate) enum Fault {
+pub(crate) enum DerEnd {
     Stopped(Stop),
     Memory,
 }
 
-impl From<Stop> for Fault {
+impl From<Stop> for DerEnd {
     ghost from_gives = { λ stop fault. fault ≡ faults.Stopped stop };
 
-    fn from(stop: Stop) -> Fault {
-        Fault::Stopped(stop)
+    fn from(stop: Stop) -> DerEnd {
+        DerEnd::Stopped(stop)
     }
 }
 
-impl From<AllocError> for Fault {
+impl From<AllocError> for DerEnd {
     ghost from_gives = { λ _ fault. fault ≡ faults.Memory };
 
-    fn from(_: AllocError) -> Fault {
-        Fault::Memory
+    fn from(_: AllocError) -> DerEnd {
+        DerEnd::Memory
     }
 }
 
-impl<T: Drop> From<AllocFailed<T>> for Fault {
+impl<T: Drop> From<AllocFailed<T>> for DerEnd {
     ghost from_gives = { λ _ fault. fault ≡ faults.Memory };
 
-    fn from(_: AllocFailed<T>) -> Fault {
-        Fault::Memory
+    fn from(_: AllocFailed<T>) -> DerEnd {
+        DerEnd::Memory
     }
 }
 
-impl From<Memory> for Fault {
+impl From<Memory> for DerEnd {
     ghost from_gives = { λ _ fault. fault ≡ faults.Memory };
 
-    fn from(_: Memory) -> Fault {
-        Fault::Memory
+    fn from(_: Memory) -> DerEnd {
+        DerEnd::Memory
     }
 }

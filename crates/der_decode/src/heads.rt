@@ -2,10 +2,10 @@
 ghost use Rattle.std.specs.Prelude.{◌≡◌, ◌<◌, ◌≤◌, true, false, IfOk, IfErr, OnOk, length};
 ghost use Rattle.der_fields.specs.Encoding.{identifier};
 ghost use Rattle.der_fields.specs.Reading as reading;
-ghost use Rattle.der_decode.specs.declared.faults.Fault.TheVariants as faults;
+ghost use Rattle.der_decode.specs.declared.faults.DerEnd.TheVariants as faults;
 ghost use Rattle.der_decode.specs.Private.Showing.{ShowsHead};
 
-use crate::faults::Fault;
+use crate::faults::DerEnd;
 use crate::fields::{Window, sized};
 use crate::identifiers::{begins_so, identifier_size};
 use asn_types::Form;
@@ -58,14 +58,14 @@ pub(crate) fn head(
     depth: u32,
     tag: Option<u32>,
     form: &Form,
-) -> Result<Window, Fault>
+) -> Result<Window, DerEnd>
     requires inside { spot.at ≤ length octets.now }
     ensures inside { IfOk result (λ w. (spot.at < w.at) × (w.at ≤ w.end) × (w.end ≤ length octets.now)) }
     ensures few { OnOk result ((depth ≤ 64) × (spot.nodes < 1048576)) }
     ensures gives { ShowsHead result depth (identifier tag form.now) octets.now spot }
 {
     if !begins_so(octets, spot.at, tag, form) {
-        return Err(Fault::Stopped(Stop {
+        return Err(DerEnd::Stopped(Stop {
             at: spot.at,
             why: Why::Tag,
         }));

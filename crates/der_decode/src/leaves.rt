@@ -7,7 +7,7 @@ ghost use Rattle.der_fields.specs.FieldsReading.{stop_at};
 ghost use Rattle.der_fields.specs.Reading.{bool_at, int_at, enum_at, item_below, item_with};
 ghost use Rattle.der_decode.specs.Private.Leaves.{IsLeaf, IsLeafAt, IsPlain, Reads, ReadsLeaf, StopsLeaf};
 
-use crate::faults::Fault;
+use crate::faults::DerEnd;
 use crate::wholes::whole;
 use asn_types::Form;
 use base_codecs::Spot;
@@ -118,18 +118,18 @@ fn plain(form: &Form, octets: &[u8], spot: Spot) -> Result<ValueLabel, Stop>
 }
 
 // A text of a node that begins at an octet (clause 8.23).
-fn text(alloc: Global, octets: &[u8], begin: u64, spot: Spot) -> Result<ValueLabel, Fault>
+fn text(alloc: Global, octets: &[u8], begin: u64, spot: Spot) -> Result<ValueLabel, DerEnd>
     requires { spot.at ≤ length octets.now }
     ensures ok { IfOk result (λ label. (label ≡ value.Utf8 (drop spot.at octets.now)) × IsUtf8 (drop spot.at octets.now)) }
-    ensures err { IfErr result (λ fault. (fault ≡ Fault.Memory) ⊎ ((fault ≡ Fault.Stopped (stop_at begin Why.NotUtf8)) × (IsUtf8 (drop spot.at octets.now) → ⊥))) }
+    ensures err { IfErr result (λ fault. (fault ≡ DerEnd.Memory) ⊎ ((fault ≡ DerEnd.Stopped (stop_at begin Why.NotUtf8)) × (IsUtf8 (drop spot.at octets.now) → ⊥))) }
 {
     match Text::of(alloc, &octets[spot.at as usize..]) {
         Ok(text) => Ok(ValueLabel::Utf8(text)),
-        Err(TextError::NotUtf8) => Err(Fault::Stopped(Stop {
+        Err(TextError::NotUtf8) => Err(DerEnd::Stopped(Stop {
             at: begin,
             why: Why::NotUtf8,
         })),
-        Err(TextError::Memory) => Err(Fault::Memory),
+        Err(TextError::Memory) => Err(DerEnd::Memory),
     }
 }
 
@@ -141,7 +141,7 @@ pub(crate) fn leaf(
     octets: &[u8],
     begin: u64,
     spot: Spot,
-) -> Result<ValueLabel, Fault>
+) -> Result<ValueLabel, DerEnd>
     requires leaf { IsLeaf form.now }
     requires inside { spot.at ≤ length octets.now }
     ensures kids { IfOk result (λ label. MayHave label 0) }

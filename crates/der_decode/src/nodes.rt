@@ -15,7 +15,7 @@ ghost use Rattle.der_decode.specs.Private.Bodies as bodies;
 ghost use Rattle.der_decode.specs.Private.Newest.{newest};
 ghost use Rattle.der_decode.specs.Private.Showing.{Shows, ShowsParts};
 
-use crate::faults::Fault;
+use crate::faults::DerEnd;
 use crate::heads::{enter, head, unexpected};
 use crate::identifiers::{begins_so, is_open};
 use crate::leaves::leaf;
@@ -41,7 +41,7 @@ pub(crate) fn node(
     node: &Tree<TypeLabel>,
     found: &Tree<TypeLabel>,
     values: &mut Builder<ValueLabel>,
-) -> Result<Spot, Fault>
+) -> Result<Spot, DerEnd>
     requires depth { depth ≤ 65 }
     requires known { IsModule module.now }
     requires of { IsOf module.now node.now }
@@ -72,7 +72,7 @@ fn ruled(
     node: &Tree<TypeLabel>,
     found: &Tree<TypeLabel>,
     values: &mut Builder<ValueLabel>,
-) -> Result<Spot, Fault>
+) -> Result<Spot, DerEnd>
     requires known { IsModule module.now }
     requires of { IsOf module.now node.now }
     requires found { found.now ≡ resolve module.now node.now }
@@ -99,7 +99,7 @@ fn leaf_node(
     node: &Tree<TypeLabel>,
     found: &Tree<TypeLabel>,
     values: &mut Builder<ValueLabel>,
-) -> Result<Spot, Fault>
+) -> Result<Spot, DerEnd>
     requires known { IsModule module.now }
     requires of { IsOf module.now node.now }
     requires found { found.now ≡ resolve module.now node.now }
@@ -118,7 +118,7 @@ fn leaf_node(
     };
     let value = leaf(alloc, form, &octets[..window.end as usize], spot.at, inner)?;
     if !leaf_keeps(module, found, &value) {
-        return Err(Fault::Stopped(Stop {
+        return Err(DerEnd::Stopped(Stop {
             at: spot.at,
             why: Why::NotAValue,
         }));
@@ -141,7 +141,7 @@ fn headed(
     tag: Option<u32>,
     found: &Tree<TypeLabel>,
     values: &mut Builder<ValueLabel>,
-) -> Result<Spot, Fault>
+) -> Result<Spot, DerEnd>
     requires known { IsModule module.now }
     requires of { IsOf module.now found.now }
     requires form { bodies.HasKids (label_of found.now).form }
@@ -175,7 +175,7 @@ fn contents(
     depth: u32,
     found: &Tree<TypeLabel>,
     values: &mut Builder<ValueLabel>,
-) -> Result<Spot, Fault>
+) -> Result<Spot, DerEnd>
     requires depth { depth ≤ 64 }
     requires known { IsModule module.now }
     requires of { IsOf module.now found.now }
@@ -229,7 +229,7 @@ fn sequence(
     found: &Tree<TypeLabel>,
     parts: &[Component],
     values: &mut Builder<ValueLabel>,
-) -> Result<Spot, Fault>
+) -> Result<Spot, DerEnd>
     requires depth { depth ≤ 64 }
     requires known { IsModule module.now }
     requires of { IsOf module.now found.now }
@@ -274,7 +274,7 @@ fn components(
     parts: &[Component],
     present: &mut Flags,
     values: &mut Builder<ValueLabel>,
-) -> Result<Spot, Fault>
+) -> Result<Spot, DerEnd>
     requires depth { depth ≤ 64 }
     requires known { IsModule module.now }
     requires of { IsOf module.now found.now }
@@ -295,7 +295,7 @@ fn components(
         let tag = Some(i as u32);
         if !begins_so(octets, reached.at, tag, &to.label().form) {
             if !part.optional {
-                return Err(Fault::Stopped(unexpected(octets, reached)));
+                return Err(DerEnd::Stopped(unexpected(octets, reached)));
             }
             present.push(alloc, false)?;
             continue;
@@ -307,7 +307,7 @@ fn components(
         present.push(alloc, true)?;
     }
     if reached.at < octets.len() as u64 {
-        return Err(Fault::Stopped(unexpected(octets, reached)));
+        return Err(DerEnd::Stopped(unexpected(octets, reached)));
     }
     Ok(reached)
 }
@@ -325,7 +325,7 @@ fn component(
     kid: &Tree<TypeLabel>,
     found: &Tree<TypeLabel>,
     values: &mut Builder<ValueLabel>,
-) -> Result<Spot, Fault>
+) -> Result<Spot, DerEnd>
     requires depth { depth ≤ 65 }
     requires known { IsModule module.now }
     requires of { IsOf module.now kid.now }
@@ -356,7 +356,7 @@ fn standard(
     kid: &Tree<TypeLabel>,
     found: &Tree<TypeLabel>,
     values: &mut Builder<ValueLabel>,
-) -> Result<Spot, Fault>
+) -> Result<Spot, DerEnd>
     requires depth { depth ≤ 65 }
     requires known { IsModule module.now }
     requires of { IsOf module.now kid.now }
@@ -407,7 +407,7 @@ fn open_choice(
     depth: u32,
     found: &Tree<TypeLabel>,
     values: &mut Builder<ValueLabel>,
-) -> Result<Spot, Fault>
+) -> Result<Spot, DerEnd>
     requires known { IsModule module.now }
     requires of { IsOf module.now found.now }
     requires form { bodies.IsChoice (label_of found.now).form }
@@ -446,7 +446,7 @@ fn entered_choice(
     found: &Tree<TypeLabel>,
     parts: &[Component],
     values: &mut Builder<ValueLabel>,
-) -> Result<Spot, Fault>
+) -> Result<Spot, DerEnd>
     requires known { IsModule module.now }
     requires of { IsOf module.now found.now }
     requires form { (label_of found.now).form ≡ form.Choice parts.now }
@@ -458,7 +458,7 @@ fn entered_choice(
         (choice_at module.now (bodies.entered_kid module.now depth) (label_of found.now) (kids_of found.now) parts.now octets.now spot) }
 {
     match first_start(module, octets, spot, found, parts) {
-        None => Err(Fault::Stopped(unexpected(octets, spot))),
+        None => Err(DerEnd::Stopped(unexpected(octets, spot))),
         Some(i) => {
             enter(depth, spot)?;
             let inner = Spot {
@@ -481,7 +481,7 @@ fn choice(
     found: &Tree<TypeLabel>,
     parts: &[Component],
     values: &mut Builder<ValueLabel>,
-) -> Result<Spot, Fault>
+) -> Result<Spot, DerEnd>
     requires depth { depth ≤ 64 }
     requires known { IsModule module.now }
     requires of { IsOf module.now found.now }
@@ -494,11 +494,11 @@ fn choice(
         (ended_at (λ r. stop_at r.at Why.Tag) (choice_at module.now (bodies.kid_at module.now depth) (label_of found.now) (kids_of found.now) parts.now) octets.now spot) }
 {
     match first_start(module, octets, spot, found, parts) {
-        None => Err(Fault::Stopped(unexpected(octets, spot))),
+        None => Err(DerEnd::Stopped(unexpected(octets, spot))),
         Some(i) => {
             let behind = alternative(alloc, module, octets, spot, depth, found, parts, i, values)?;
             if behind.at < octets.len() as u64 {
-                return Err(Fault::Stopped(Stop {
+                return Err(DerEnd::Stopped(Stop {
                     at: behind.at,
                     why: Why::Tag,
                 }));
@@ -520,7 +520,7 @@ fn alternative(
     parts: &[Component],
     index: u32,
     values: &mut Builder<ValueLabel>,
-) -> Result<Spot, Fault>
+) -> Result<Spot, DerEnd>
     requires depth { depth ≤ 64 }
     requires known { IsModule module.now }
     requires of { IsOf module.now found.now }
@@ -569,7 +569,7 @@ fn sequence_of(
     min: u32,
     max: Option<u32>,
     values: &mut Builder<ValueLabel>,
-) -> Result<Spot, Fault>
+) -> Result<Spot, DerEnd>
     requires depth { depth ≤ 64 }
     requires known { IsModule module.now }
     requires of { IsOf module.now found.now }
@@ -586,13 +586,13 @@ fn sequence_of(
     values.open(ValueLabel::SequenceOf)?;
     let read = items(alloc, module, octets, spot, inner, part, item, values)?;
     if read.1 < min as usize {
-        return Err(Fault::Stopped(Stop {
+        return Err(DerEnd::Stopped(Stop {
             at: begin,
             why: Why::Range,
         }));
     }
     if !is_at_most(read.1, max) {
-        return Err(Fault::Stopped(Stop {
+        return Err(DerEnd::Stopped(Stop {
             at: begin,
             why: Why::Range,
         }));
@@ -612,7 +612,7 @@ fn items(
     part: &Component,
     item: &Tree<TypeLabel>,
     values: &mut Builder<ValueLabel>,
-) -> Result<(Spot, usize), Fault>
+) -> Result<(Spot, usize), DerEnd>
     requires depth { depth ≤ 65 }
     requires known { IsModule module.now }
     requires of { IsOf module.now item.now }

@@ -11,7 +11,7 @@ ghost use Rattle.der_fields.specs.Reading as reading;
 ghost use Rattle.der_fields.specs.Reading.{leaf_of};
 ghost use Rattle.der_decode.specs.Private.Bodies.{HasNoKids};
 
-use crate::faults::Fault;
+use crate::faults::DerEnd;
 use asn_types::{Component, Form, Module, TypeLabel};
 use asn_values::{kept, own};
 use base_flat_trees::{Builder, Flat, Node};
@@ -65,18 +65,18 @@ pub(crate) fn owned(
     value: Flat<ValueLabel>,
     begin: u64,
     values: &mut Builder<ValueLabel>,
-) -> Result<(), Fault>
+) -> Result<(), DerEnd>
     requires known { IsModule module.now }
     requires of { IsOf module.now node.now }
     ensures pushed { OnOk result (values.new ≡ added value values.old) }
     ensures ok { OnOk result (Own module.now node.now value) }
-    ensures err { IfErr result (λ fault. (fault ≡ Fault.Memory) ⊎ ((fault ≡ Fault.Stopped (stop_at begin Why.NotAValue)) × (Own module.now node.now value → ⊥))) }
+    ensures err { IfErr result (λ fault. (fault ≡ DerEnd.Memory) ⊎ ((fault ≡ DerEnd.Stopped (stop_at begin Why.NotAValue)) × (Own module.now node.now value → ⊥))) }
 {
     if own(alloc, module, node, &value.root())? {
         values.append(value.into_trees())?;
         Ok(())
     } else {
-        Err(Fault::Stopped(Stop {
+        Err(DerEnd::Stopped(Stop {
             at: begin,
             why: Why::NotAValue,
         }))
@@ -113,18 +113,18 @@ pub(crate) fn unless_standard(
     value: Flat<ValueLabel>,
     begin: u64,
     values: &mut Builder<ValueLabel>,
-) -> Result<(), Fault>
+) -> Result<(), DerEnd>
     requires known { IsModule module.now }
     requires of { IsOf module.now kid.now }
     ensures pushed { OnOk result (values.new ≡ added value values.old) }
     ensures ok { OnOk result (Kept module.now part.now kid.now value) }
-    ensures err { IfErr result (λ fault. (fault ≡ Fault.Memory) ⊎ ((fault ≡ Fault.Stopped (stop_at begin (reading.unkept_why module.now part.now kid.now value))) × (Kept module.now part.now kid.now value → ⊥))) }
+    ensures err { IfErr result (λ fault. (fault ≡ DerEnd.Memory) ⊎ ((fault ≡ DerEnd.Stopped (stop_at begin (reading.unkept_why module.now part.now kid.now value))) × (Kept module.now part.now kid.now value → ⊥))) }
 {
     if kept(alloc, module, part, kid, &value.root())? {
         values.append(value.into_trees())?;
         Ok(())
     } else {
         let why = unkept_why(alloc, module, part, kid, &value.root())?;
-        Err(Fault::Stopped(Stop { at: begin, why }))
+        Err(DerEnd::Stopped(Stop { at: begin, why }))
     }
 }

@@ -12,10 +12,10 @@ use Rattle.schema_components.specs.declared.components.Content.TheVariants as co
 use Rattle.schema_components.specs.Components.{Set}
 use Rattle.map_assignments.specs.Plans.{TypePlan, sequence, finish}
 use Rattle.map_assignments.specs.Planning.{particle_part, term_type, particle_parts, top_part, top, content_parts, content_type}
-use Rattle.map_assignments.specs.Private.Building.{term_of, is_plain}
+use Rattle.map_assignments.specs.Private.Building.{term_of, stands_as_parts}
 use Rattle.map_assignments.proofs.Known.{seen-parts, term-parts}
 
-pub plain-sequence : (kind : ParticleKind) (least : ℕ) (most : Option ℕ) → is_plain kind least most ≡ true → (kind ≡ Sequence) ⊎ (kind ≡ AllKind)
+pub plain-sequence : (kind : ParticleKind) (least : ℕ) (most : Option ℕ) → stands_as_parts kind least most ≡ true → (kind ≡ Sequence) ⊎ (kind ≡ AllKind)
 plain-sequence (Element d name) least most e = absurd (cc)
 plain-sequence Sequence least most e = inl refl
 plain-sequence Choice least most e = absurd (cc)
@@ -34,14 +34,14 @@ module _ (T : ℕ → TypePlan) where
   group-type kind ps (inl is) = ap (λ k. term_type T (term_seen k ps)) is
   group-type kind ps (inr is) = ap (λ k. term_type T (term_seen k ps)) is
 
-  plain : (kind : ParticleKind) (ps : Particles) (least : ℕ) (most : Option ℕ) → is_plain kind least most ≡ true
+  plain : (kind : ParticleKind) (ps : Particles) (least : ℕ) (most : Option ℕ) → stands_as_parts kind least most ≡ true
       → top T (occurs (term_seen kind ps) least most) ≡ particle_parts T false ps
   plain (Element d name) ps least most e = absurd (cc)
   plain Sequence ps least most e = ap (λ b. if b then particle_parts T false ps else top_part T (model.sequence ps) least most) e
   plain Choice ps least most e = absurd (cc)
   plain AllKind ps least most e = refl
 
-  other : (kind : ParticleKind) (ps : Particles) (least : ℕ) (most : Option ℕ) → is_plain kind least most ≡ false
+  other : (kind : ParticleKind) (ps : Particles) (least : ℕ) (most : Option ℕ) → stands_as_parts kind least most ≡ false
       → top T (occurs (term_seen kind ps) least most) ≡ particle_part false (term_seen kind ps) (term_type T (term_seen kind ps)) least most finish
   other (Element d name) ps least most e = refl
   other Sequence ps least most e = ap (λ b. if b then particle_parts T false ps else top_part T (model.sequence ps) least most) e
@@ -50,10 +50,10 @@ module _ (T : ℕ → TypePlan) where
 
   -- the parts of a content model
   module _ (t : Rose ParticleLabel) (l : ParticleLabel) (kids : List (Rose ParticleLabel)) (is : l ≡ label_of t) (below : kids ≡ kids_of t) where
-    pub top-plain : is_plain l.kind l.min l.max ≡ true → top T (seen t) ≡ particle_parts T false (all_seen (roses_of kids))
+    pub top-plain : stands_as_parts l.kind l.min l.max ≡ true → top T (seen t) ≡ particle_parts T false (all_seen (roses_of kids))
     top-plain e = ap (top T) (seen-parts t l kids is below) ∙ plain l.kind (all_seen (roses_of kids)) l.min l.max e
 
-    pub top-other : is_plain l.kind l.min l.max ≡ false
+    pub top-other : stands_as_parts l.kind l.min l.max ≡ false
         → top T (seen t) ≡ particle_part false (term_seen l.kind (all_seen (roses_of kids))) (term_type T (term_of t)) l.min l.max finish
     top-other e =
         ap (top T) (seen-parts t l kids is below) ∙ other l.kind (all_seen (roses_of kids)) l.min l.max e

@@ -14,7 +14,7 @@ ghost use Rattle.map_assignments.specs.Private.Building.{LeadsToNamed, declared,
 
 use crate::mapper::Mapper;
 use crate::orders::order_type;
-use crate::particles::{is_plain, push_nillable, push_particle, push_texts, push_untagged};
+use crate::particles::{push_nillable, push_particle, push_texts, push_untagged, stands_as_parts};
 use crate::parts::PartList;
 use asn_types::{Instruction, Marks, TypeLabel};
 use base_texts::Memory;
@@ -329,7 +329,7 @@ impl Mapper<'_> {
             → LeadsToNamed (place_of self.entry.places.now) parts.new finish whole) }
     {
         let label = particle.label();
-        if is_plain(label) {
+        if stands_as_parts(label) {
             return self.push_particles(parts, levels, false, particle.kids());
         }
         let kid = self.term_type(levels, particle)?;

@@ -11,7 +11,7 @@ ghost use Rattle.map_assignments.specs.Plans.{TypePlan, Parts};
 ghost use Rattle.map_assignments.specs.Plans as plan;
 ghost use Rattle.map_assignments.specs.Planning.{label_of, list_label_of, is_once, is_optional, particle_part, texts_type, labels};
 ghost use Rattle.map_assignments.specs.Naming.{type_label, repeated_part, wanted, IsNamed};
-ghost use Rattle.map_assignments.specs.Private.Building.{AddsPart, Adds, LeadsToNamed, is_plain};
+ghost use Rattle.map_assignments.specs.Private.Building.{AddsPart, Adds, LeadsToNamed, stands_as_parts};
 
 use crate::instructions::{one_mark, push_qualified};
 use crate::parts::PartList;
@@ -34,8 +34,8 @@ fn is_once(min: u32, max: Option<u32>) -> bool
 }
 
 /// Whether the particles of a group stand for themselves where it is the top one: a sequence that stands once, or an all.
-pub(crate) fn is_plain(label: &ParticleLabel) -> bool
-    ensures { result ≡ is_plain label.now.kind label.now.min label.now.max }
+pub(crate) fn stands_as_parts(label: &ParticleLabel) -> bool
+    ensures { result ≡ stands_as_parts label.now.kind label.now.min label.now.max }
 {
     match label.kind {
         ParticleKind::Sequence => is_once(label.min, label.max),

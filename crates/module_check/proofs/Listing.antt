@@ -22,7 +22,7 @@ use Rattle.module_text.specs.declared.types.PlainLabel.{PlainLabel}
 use Rattle.module_text.specs.declared.modules.PlainAssignment.{PlainAssignment}
 use Rattle.module_text.specs.Ranks.{rank_of_type_mark}
 use Rattle.module_text.specs.Texts.{parts_of}
-use Rattle.module_text.specs.declared.reasons.Fault.{Fault}
+use Rattle.module_text.specs.declared.reasons.TextFault.{TextFault}
 use Rattle.module_text.specs.declared.reasons.ModuleWhy.{ModuleWhy}
 use Rattle.module_text.specs.declared.reasons.ModuleWhy.TheVariants.{Duplicate, LongChain, Spelling}
 use Rattle.module_text.specs.declared.spots.Spot.{Spot}
@@ -40,7 +40,7 @@ use Rattle.module_check.proofs.Firsts.{first-front, first-behind}
 use Rattle.module_check.proofs.Chaining.{roses_of-list_of}
 
 -- where no fault is the first, none is that of the lists before
-pub none-front : (xs ys : List Fault) → None ≡ first (xs ++ ys) → None ≡ first xs
+pub none-front : (xs ys : List TextFault) → None ≡ first (xs ++ ys) → None ≡ first xs
 unfolding first
 none-front [] ys e = refl
 none-front (x ∷ xs) ys e = absurd (cc)
@@ -61,21 +61,21 @@ whole (node l ts) = ap (node l) (roses_of-list_of ts)
 -- ---- instructions of types
 
 module _ (P : List PlainAssignment) (spot : Spot) (t : Rose PlainLabel) where
-  abbrev pub marks_left : Option ℕ → ℕ → List TypeMark → Option Fault
+  abbrev pub marks_left : Option ℕ → ℕ → List TypeMark → Option TextFault
   marks_left before least ms = first (type_mark_faults P spot (label_of t) (roses_of (kids_of t)) before least ms)
 
   abbrev pub stands : Option ℕ → ℕ → TypeMark → Bool
   stands before least m = stands_once before (rank_of_type_mark m.kind) && type_mark_may P spot (label_of t) (roses_of (kids_of t)) least m.kind
 
   module _ (marks : List TypeMark) (i : ℕ) (m : TypeMark) (at : i < length marks) (here : m ≡ get_or marks i m) (before : Option ℕ) (least : ℕ)
-      (b : Bool) (is : b ≡ stands before least m) (due : Option Fault) (left : marks_left before least (drop i marks) ≡ due) where
+      (b : Bool) (is : b ≡ stands before least m) (due : Option TextFault) (left : marks_left before least (drop i marks) ≡ due) where
     mark_here : marks_left before least (m ∷ drop (i + 1) marks) ≡ due
     mark_here =
         ap (λ (k : TypeMark). marks_left before least (k ∷ drop (i + 1) marks)) here
         ∙ sym (at_drop_more (λ ms. marks_left before least ms) marks i m at)
         ∙ left
 
-    pub mark-stopped : (f : Fault) → Some f ≡ first (unless b m.at Spelling) → Some f ≡ due
+    pub mark-stopped : (f : TextFault) → Some f ≡ first (unless b m.at Spelling) → Some f ≡ due
     mark-stopped f e =
         first-front (unless (stands before least m) m.at Spelling) _ f (e ∙ ap (λ b. first (unless b m.at Spelling)) is) ∙ mark_here
 
@@ -99,7 +99,7 @@ type-split P spot nameless (node l ts) =
     ap (λ us. type_mark_faults P spot l us None 0 l.marks ++ form_faults P spot l.marks l.form
     ++ part_faults P spot (has_list l.marks || nameless) l 0 [] (nameless_parts l.marks) (parts_of l.form) us) (sym (roses_of-list_of ts))
 
-grouped : (U R N M T F A Z : List Fault)
+grouped : (U R N M T F A Z : List TextFault)
     → (((((((U ++ R) ++ N) ++ M) ++ T) ++ F) ++ A) ++ Z) ≡ U ++ ((((R ++ N) ++ M) ++ (T ++ (F ++ A))) ++ Z)
 grouped U R N M T F A Z = simp append_assoc
 
@@ -156,7 +156,7 @@ same-noted seen before (b ∷ x) same (c ∷ t) =
     ∙ sym (last_text before (b ∷ x) (c ∷ t))
 
 -- what is left of the parts of a type, of which these identifiers were noted
-pub record PartsLeft (P : List PlainAssignment) (spot : Spot) (nameless : Bool) (l : PlainLabel) (seen : List (List ℕ)) (i front : ℕ) (parts : List PlainPart) (ts : Roses PlainLabel) (due : Option Fault) : Type 0 where
+pub record PartsLeft (P : List PlainAssignment) (spot : Spot) (nameless : Bool) (l : PlainLabel) (seen : List (List ℕ)) (i front : ℕ) (parts : List PlainPart) (ts : Roses PlainLabel) (due : Option TextFault) : Type 0 where
   pub before : List (List ℕ)
   pub same : (t : List ℕ) → is_listed seen t ≡ is_listed before t
   pub rest : first (part_faults P spot nameless l i before front parts ts) ≡ due
@@ -184,11 +184,11 @@ module _ (P : List PlainAssignment) (spot : Spot) (nameless : Bool) (l : PlainLa
         ∙ ap (λ n. first (part_faults P spot nameless l 0 [] n (parts_of l.form) ts)) (all_left (nameless_parts l.marks));
   }
 
-  module _ (seen : List (List ℕ)) (i f : ℕ) (parts : List PlainPart) (kids : List (Rose PlainLabel)) (due : Option Fault)
+  module _ (seen : List (List ℕ)) (i f : ℕ) (parts : List PlainPart) (kids : List (Rose PlainLabel)) (due : Option TextFault)
       (left : PartsLeft P spot nameless l seen i (f - i) (drop i parts) (roses_of (drop i kids)) due)
       (part : PlainPart) (kid : Rose PlainLabel) (at : i < length parts) (within : i < length kids)
       (here : part ≡ get_or parts i part) (there : kid ≡ get_or kids i kid) where
-    abbrev behind : List Fault
+    abbrev behind : List TextFault
     behind = part_faults P spot nameless l (i + 1) (left.before ++ part.identifier ∷ []) (f - i - 1) (drop (i + 1) parts) (roses_of (drop (i + 1) kids))
 
     one_left : first (unless (not (is_listed seen part.identifier)) part.at Duplicate ++ (own_faults P spot nameless l i (nat_lt i f) part kid ++ behind)) ≡ due
@@ -210,7 +210,7 @@ module _ (P : List PlainAssignment) (spot : Spot) (nameless : Bool) (l : PlainLa
     fresh_left e =
         sym (ap (λ b. first (unless (not b) part.at Duplicate ++ (own_faults P spot nameless l i (nat_lt i f) part kid ++ behind))) e) ∙ one_left
 
-    pub parts-faulty : (b : Bool) (g : Fault) → is_listed seen part.identifier ≡ false → b ≡ nat_lt i f
+    pub parts-faulty : (b : Bool) (g : TextFault) → is_listed seen part.identifier ≡ false → b ≡ nat_lt i f
         → Some g ≡ first (own_faults P spot nameless l i b part kid) → Some g ≡ due
     parts-faulty b g e so found =
         first-front (own_faults P spot nameless l i (nat_lt i f) part kid) behind g (found ∙ ap (λ k. first (own_faults P spot nameless l i k part kid)) so)
@@ -230,7 +230,7 @@ module _ (P : List PlainAssignment) (spot : Spot) (nameless : Bool) (l : PlainLa
         less : f - (i + 1) ≡ f - i - 1
         less = omega arith
 
-  module _ (seen : List (List ℕ)) (i f : ℕ) (parts : List PlainPart) (kids : List (Rose PlainLabel)) (due : Option Fault)
+  module _ (seen : List (List ℕ)) (i f : ℕ) (parts : List PlainPart) (kids : List (Rose PlainLabel)) (due : Option TextFault)
       (left : PartsLeft P spot nameless l seen i f (drop i parts) (roses_of (drop i kids)) due) where
     past_by : (short : Bool) → nat_le (length parts) i ≡ short → min (length parts) (length kids) ≤ i
         → part_faults P spot nameless l i left.before f (drop i parts) (roses_of (drop i kids)) ≡ []
@@ -361,10 +361,10 @@ module _ (P : List PlainAssignment) (spot : Spot) (nameless : Bool) (f : PlainFo
       ap (λ (k : PlainLabel). front_faults P nameless f part b k) e
       ∙ ap (λ b. front_faults P nameless f part b (label_of t)) (is ∙ made-some simple _ made)
 
-  pub there-front : (g : Fault) → Some g ≡ first (front_faults P nameless f part b l) → Some g ≡ first (faults_there P spot nameless f front part t)
+  pub there-front : (g : TextFault) → Some g ≡ first (front_faults P nameless f part b l) → Some g ≡ first (faults_there P spot nameless f front part t)
   there-front g found = first-front _ (type_faults P spot front t ++ value_faults P (space_at P spot part.marks t) part t) g (found ∙ ap first front_so)
 
-  pub there-behind : (found : Option Fault) → None ≡ first (front_faults P nameless f part b l)
+  pub there-behind : (found : Option TextFault) → None ≡ first (front_faults P nameless f part b l)
       → found ≡ first (type_faults P spot front t ++ value_faults P (made_space simple) part t)
       → found ≡ first (faults_there P spot nameless f front part t)
   there-behind found quiet is_found =
@@ -374,18 +374,18 @@ module _ (P : List PlainAssignment) (spot : Spot) (nameless : Bool) (f : PlainFo
 -- ---- a type
 
 module _ (P : List PlainAssignment) (spot : Spot) (nameless : Bool) (t : Rose PlainLabel) where
-  abbrev pub own : List Fault
+  abbrev pub own : List TextFault
   own = type_mark_faults P spot (label_of t) (roses_of (kids_of t)) None 0 (label_of t).marks ++ form_faults P spot (label_of t).marks (label_of t).form
 
   own_split : type_faults P spot nameless t
       ≡ own ++ part_faults P spot (has_list (label_of t).marks || nameless) (label_of t) 0 [] (nameless_parts (label_of t).marks) (parts_of (label_of t).form) (roses_of (kids_of t))
   own_split = type-split P spot nameless t
 
-  pub type-own : (g : Fault) → Some g ≡ first own → Some g ≡ first (type_faults P spot nameless t)
+  pub type-own : (g : TextFault) → Some g ≡ first own → Some g ≡ first (type_faults P spot nameless t)
   type-own g found = first-front own _ g found ∙ ap first (sym own_split)
 
   pub type-parts : (l : PlainLabel) (b : Bool) (kids : List (Rose PlainLabel)) → l ≡ label_of t → b ≡ (has_list l.marks || nameless) → kids ≡ kids_of t
-      → None ≡ first own → (found : Option Fault)
+      → None ≡ first own → (found : Option TextFault)
       → found ≡ first (part_faults P spot b l 0 [] (nameless_parts l.marks) (parts_of l.form) (roses_of kids))
       → found ≡ first (type_faults P spot nameless t)
   type-parts l b kids e eb ek quiet found is =
@@ -398,14 +398,14 @@ module _ (P : List PlainAssignment) (spot : Spot) (nameless : Bool) (t : Rose Pl
 -- what stands behind the instructions of a type
 pub form-behind : (P : List PlainAssignment) (spot : Spot) (t : Rose PlainLabel) (l : PlainLabel) (ms : List TypeMark) → l ≡ label_of t → ms ≡ l.marks
     → None ≡ first (type_mark_faults P spot (label_of t) (roses_of (kids_of t)) None 0 (label_of t).marks)
-    → (found : Option Fault) → found ≡ first (form_faults P spot ms l.form) → found ≡ first (own P spot false t)
+    → (found : Option TextFault) → found ≡ first (form_faults P spot ms l.form) → found ≡ first (own P spot false t)
 form-behind P spot t l ms e em quiet found is =
     first-behind (type_mark_faults P spot (label_of t) (roses_of (kids_of t)) None 0 (label_of t).marks) _ found quiet
     (is ∙ ap (λ ks. first (form_faults P spot ks l.form)) em ∙ ap (λ (k : PlainLabel). first (form_faults P spot k.marks k.form)) e)
 
 -- ---- assignments
 
-module _ (P : List PlainAssignment) (seen : List (List ℕ)) (i : ℕ) (a : PlainAssignment) (at : i < length P) (here : a ≡ get_or P i a) (due : Option Fault)
+module _ (P : List PlainAssignment) (seen : List (List ℕ)) (i : ℕ) (a : PlainAssignment) (at : i < length P) (here : a ≡ get_or P i a) (due : Option TextFault)
     (left : first (faults_from P seen (drop i P)) ≡ due) where
   a_left : first (assignment_faults P seen a ++ faults_from P (seen ++ a.reference ∷ []) (drop (i + 1) P)) ≡ due
   a_left =
@@ -413,7 +413,7 @@ module _ (P : List PlainAssignment) (seen : List (List ℕ)) (i : ℕ) (a : Plai
       ∙ sym (at_drop_more (λ Q. first (faults_from P seen Q)) P i a at)
       ∙ left
 
-  pub assignment-faulty : (g : Fault) → Some g ≡ first (assignment_faults P seen a) → Some g ≡ due
+  pub assignment-faulty : (g : TextFault) → Some g ≡ first (assignment_faults P seen a) → Some g ≡ due
   assignment-faulty g found = first-front (assignment_faults P seen a) _ g found ∙ a_left
 
   pub assignment-passed : (now : List (List ℕ)) (reference : List ℕ) → None ≡ first (assignment_faults P seen a) → reference ≡ a.reference
@@ -430,26 +430,26 @@ assignment-grouped P seen a = simp append_assoc
 
 module _ (P : List PlainAssignment) (seen : List (List ℕ)) (a : PlainAssignment) (b : Bool)
     (is : b ≡ (not (has_text seen a.reference) && not (has_text reserved_words a.reference))) where
-  pub assignment-taken : (g : Fault) → Some g ≡ first (unless b a.at Duplicate) → Some g ≡ first (assignment_faults P seen a)
+  pub assignment-taken : (g : TextFault) → Some g ≡ first (unless b a.at Duplicate) → Some g ≡ first (assignment_faults P seen a)
   assignment-taken g found =
       first-front (unless (not (has_text seen a.reference) && not (has_text reserved_words a.reference)) a.at Duplicate)
       (unless (chains_end P a.body) a.at LongChain ++ body_faults P a) g (found ∙ ap (λ k. first (unless k a.at Duplicate)) is)
       ∙ ap first (sym (assignment-grouped P seen a))
 
   module _ (ends : Bool) (so : ends ≡ chains_end P a.body) (free : None ≡ first (unless b a.at Duplicate)) where
-    behind_name : (found : Option Fault) → found ≡ first (unless (chains_end P a.body) a.at LongChain ++ body_faults P a)
+    behind_name : (found : Option TextFault) → found ≡ first (unless (chains_end P a.body) a.at LongChain ++ body_faults P a)
         → found ≡ first (assignment_faults P seen a)
     behind_name found due =
         first-behind (unless (not (has_text seen a.reference) && not (has_text reserved_words a.reference)) a.at Duplicate)
         (unless (chains_end P a.body) a.at LongChain ++ body_faults P a) found (free ∙ ap (λ k. first (unless k a.at Duplicate)) is) due
         ∙ ap first (sym (assignment-grouped P seen a))
 
-    pub assignment-long : (g : Fault) → Some g ≡ first (unless ends a.at LongChain) → Some g ≡ first (assignment_faults P seen a)
+    pub assignment-long : (g : TextFault) → Some g ≡ first (unless ends a.at LongChain) → Some g ≡ first (assignment_faults P seen a)
     assignment-long g found =
         behind_name (Some g)
         (first-front (unless (chains_end P a.body) a.at LongChain) (body_faults P a) g (found ∙ ap (λ k. first (unless k a.at LongChain)) so))
 
-    pub assignment-behind : None ≡ first (unless ends a.at LongChain) → (found : Option Fault) → found ≡ first (body_faults P a)
+    pub assignment-behind : None ≡ first (unless ends a.at LongChain) → (found : Option TextFault) → found ≡ first (body_faults P a)
         → found ≡ first (assignment_faults P seen a)
     assignment-behind quiet found due =
         behind_name found
@@ -463,12 +463,12 @@ module _ (P : List PlainAssignment) (a : PlainAssignment) (b : Bool) (is : b ≡
       ∙ ap (λ r. part_mark_faults (is_some (space_at P Elsewhere a.marks a.body)) r None ms) named
       ∙ ap (λ xs. part_mark_faults (is_some (space_at P Elsewhere a.marks a.body)) a.reference None xs) own
 
-  pub body-marks : (g : Fault) → Some g ≡ first (part_mark_faults b name None ms) → Some g ≡ first (body_faults P a)
+  pub body-marks : (g : TextFault) → Some g ≡ first (part_mark_faults b name None ms) → Some g ≡ first (body_faults P a)
   body-marks g found =
       first-front (part_mark_faults (is_some (space_at P Elsewhere a.marks a.body)) a.reference None a.marks) (type_faults P Elsewhere false a.body) g
       (found ∙ ap first marks_so)
 
-  pub body-behind : None ≡ first (part_mark_faults b name None ms) → (found : Option Fault) → found ≡ first (type_faults P Elsewhere false a.body)
+  pub body-behind : None ≡ first (part_mark_faults b name None ms) → (found : Option TextFault) → found ≡ first (type_faults P Elsewhere false a.body)
       → found ≡ first (body_faults P a)
   body-behind quiet found due =
       first-behind (part_mark_faults (is_some (space_at P Elsewhere a.marks a.body)) a.reference None a.marks) (type_faults P Elsewhere false a.body) found

@@ -9,7 +9,7 @@ use Rattle.module_text.specs.declared.modules.PlainAssignment.{PlainAssignment}
 use Rattle.module_text.specs.declared.spots.Spot.{Spot}
 use Rattle.module_text.specs.declared.spots.Spot.TheVariants.{Elsewhere}
 use Rattle.module_text.specs.declared.reasons.ModuleWhy.TheVariants as why
-use Rattle.module_text.specs.declared.reasons.Fault.{Fault}
+use Rattle.module_text.specs.declared.reasons.TextFault.{TextFault}
 use Rattle.module_text.specs.Listed.{unless}
 use Rattle.module_text.specs.Resolving.{resolve}
 use Rattle.module_text.specs.Simple.{is_simple}
@@ -28,25 +28,25 @@ abbrev pub is_simple_of : Spot → PlainLabel → Roses PlainLabel → Bool
 is_simple_of spot l ts = is_simple spot (node l ts)
 
 -- the faults of a part but for Duplicate, before those of its type, which has this label
-abbrev pub front_faults : List PlainAssignment → Bool → PlainForm → PlainPart → Bool → PlainLabel → List Fault
+abbrev pub front_faults : List PlainAssignment → Bool → PlainForm → PlainPart → Bool → PlainLabel → List TextFault
 front_faults P nameless form part simple l =
     (if is_bare part l then reference_faults P l.form else [])
     ++ unless (is_named_so nameless form part) part.at why.Spelling
     ++ part_mark_faults simple part.identifier None part.marks
 
 -- those behind it
-abbrev pub value_faults : List PlainAssignment → Option Space → PlainPart → Rose PlainLabel → List Fault
+abbrev pub value_faults : List PlainAssignment → Option Space → PlainPart → Rose PlainLabel → List TextFault
 value_faults P space part t = fixed_faults space part.fixed ++ absence_faults space part.fixed (resolve P t) part.absence
 
 -- all of them, where the type of the part stands here
-abbrev pub faults_there : List PlainAssignment → Spot → Bool → PlainForm → Bool → PlainPart → Rose PlainLabel → List Fault
+abbrev pub faults_there : List PlainAssignment → Spot → Bool → PlainForm → Bool → PlainPart → Rose PlainLabel → List TextFault
 faults_there P spot nameless form front part t =
     front_faults P nameless form part (is_some (space_at P spot part.marks t)) (label_of t)
     ++ (type_faults P spot front t ++ value_faults P (space_at P spot part.marks t) part t)
 
-abbrev pub own_faults : List PlainAssignment → Spot → Bool → PlainLabel → ℕ → Bool → PlainPart → Rose PlainLabel → List Fault
+abbrev pub own_faults : List PlainAssignment → Spot → Bool → PlainLabel → ℕ → Bool → PlainPart → Rose PlainLabel → List TextFault
 own_faults P spot nameless l i front part t = faults_there P (part_spot spot l i part) nameless l.form front part t
 
 -- the faults of an assignment but for those of its reference
-abbrev pub body_faults : List PlainAssignment → PlainAssignment → List Fault
+abbrev pub body_faults : List PlainAssignment → PlainAssignment → List TextFault
 body_faults P a = part_mark_faults (is_some (space_at P Elsewhere a.marks a.body)) a.reference None a.marks ++ type_faults P Elsewhere false a.body

@@ -17,7 +17,7 @@ use asn_names::is_reserved;
 use base_texts::{Memory, Text};
 use module_pieces::{Seen, has_attribute, part_mark_fault, unless};
 use module_simple::simple_told;
-use module_text::{Fault, ModuleWhy, PlainAssignment, Spot};
+use module_text::{ModuleWhy, PlainAssignment, Spot, TextFault};
 use simple_types::Simple;
 use std::alloc::Global;
 
@@ -50,7 +50,7 @@ fn is_simple_attribute(context: &Context, assignment: &PlainAssignment) -> Resul
 
 // The first fault of the instructions of an assignment and of its type.
 #[tactic(auto, using(crate::proofs::Firsts::firsts))]
-fn body_fault(context: &Context, assignment: &PlainAssignment) -> Result<Option<Fault>, Memory>
+fn body_fault(context: &Context, assignment: &PlainAssignment) -> Result<Option<TextFault>, Memory>
     requires { IsKnown context.now }
     ensures { IfOk result (λ found. found ≡ first (body_faults context.now.assignments.now assignment.now)) }
 {
@@ -77,7 +77,7 @@ fn assignment_fault(
     within: &[bool],
     seen: &Seen,
     assignment: &PlainAssignment,
-) -> Result<Option<Fault>, Memory>
+) -> Result<Option<TextFault>, Memory>
     requires known { IsKnown context.now }
     requires within { within.now ≡ all_within 3 context.now.assignments.now }
     ensures { IfOk result (λ found. found ≡ first (rule.assignment_faults context.now.assignments.now seen.now assignment.now)) }
@@ -99,7 +99,7 @@ fn assignment_fault(
 }
 
 // The first fault of the assignments.
-fn fault_of(context: &Context, within: &[bool]) -> Result<Option<Fault>, Memory>
+fn fault_of(context: &Context, within: &[bool]) -> Result<Option<TextFault>, Memory>
     requires known { IsKnown context.now }
     requires within { within.now ≡ all_within 3 context.now.assignments.now }
     ensures { IfOk result (λ found. found ≡ first (rule.faults context.now.assignments.now)) }
@@ -119,7 +119,10 @@ fn fault_of(context: &Context, within: &[bool]) -> Result<Option<Fault>, Memory>
 ///
 /// # Errors
 /// `Memory` for want of memory alone.
-pub fn first_fault(alloc: Global, assignments: &[PlainAssignment]) -> Result<Option<Fault>, Memory>
+pub fn first_fault(
+    alloc: Global,
+    assignments: &[PlainAssignment],
+) -> Result<Option<TextFault>, Memory>
     ensures { IfOk result (λ found. found ≡ first (rule.faults assignments.now)) }
 {
     let references = References::of(alloc, assignments)?;

@@ -10,12 +10,12 @@ use crate::context::Context;
 use base_texts::Memory;
 use module_pieces::{numbered_fault, range_fault, size_fault, unless, word_fault, written_words};
 use module_simple::is_order_item;
-use module_text::{Fault, ModuleWhy, PlainForm, PlainName, Spot, TypeMark};
+use module_text::{ModuleWhy, PlainForm, PlainName, Spot, TextFault, TypeMark};
 use std::alloc::Global;
 
 /// The fault of a reference without an assignment.
 #[tactic(auto, unfolding(module_text::specs::Listed::first))]
-pub fn reference_fault(context: &Context, form: &PlainForm) -> Option<Fault>
+pub fn reference_fault(context: &Context, form: &PlainForm) -> Option<TextFault>
     requires { IsKnown context.now }
     ensures { result ≡ first (rule.reference_faults context.now.assignments.now form.now) }
 {
@@ -36,7 +36,7 @@ fn items_fault(
     spot: Spot,
     marks: &[TypeMark],
     items: &[PlainName],
-) -> Result<Option<Fault>, Memory>
+) -> Result<Option<TextFault>, Memory>
     ensures { IfOk result (λ found. found ≡
         first (rule.word_faults (simple.is_order_item spot) [] None items.now (told.words_of marks.now items.now))) }
 {
@@ -51,7 +51,7 @@ pub fn form_fault(
     spot: Spot,
     marks: &[TypeMark],
     form: &PlainForm,
-) -> Result<Option<Fault>, Memory>
+) -> Result<Option<TextFault>, Memory>
     requires { IsKnown context.now }
     ensures { IfOk result (λ found. found ≡ first (rule.form_faults context.now.assignments.now spot marks.now form.now)) }
 {

@@ -17,7 +17,7 @@ use module_pieces::{
     Seen, has_embed_values, has_list, has_use_order, is_sequence_of, part_mark_fault, unless,
 };
 use module_simple::{absence_fault, fixed_fault, item_spot};
-use module_text::{Fault, ModuleWhy, PlainForm, PlainLabel, PlainPart, Spot};
+use module_text::{ModuleWhy, PlainForm, PlainLabel, PlainPart, Spot, TextFault};
 use simple_types::Simple;
 use std::alloc::Global;
 
@@ -47,7 +47,7 @@ fn is_bare(part: &PlainPart, label: &PlainLabel) -> bool
 
 // The fault of a part that is a reference and nothing else.
 #[tactic(auto, unfolding(module_text::specs::Listed::first))]
-fn bare_fault(context: &Context, part: &PlainPart, label: &PlainLabel) -> Option<Fault>
+fn bare_fault(context: &Context, part: &PlainPart, label: &PlainLabel) -> Option<TextFault>
     requires { IsKnown context.now }
     ensures { result ≡ first (if rule.is_bare part.now label.now then rule.reference_faults context.now.assignments.now label.now.form else []) }
 {
@@ -74,7 +74,7 @@ pub fn part_front_fault(
     part: &PlainPart,
     simple: bool,
     label: &PlainLabel,
-) -> Option<Fault>
+) -> Option<TextFault>
     requires { IsKnown context.now }
     ensures { result ≡ first (front_faults context.now.assignments.now nameless form.now part.now simple label.now) }
 {
@@ -95,7 +95,7 @@ pub fn value_fault(
     simple: &Option<Simple>,
     part: &PlainPart,
     kid: &Tree<PlainLabel>,
-) -> Result<Option<Fault>, Memory>
+) -> Result<Option<TextFault>, Memory>
     requires known { IsKnown context.now }
     requires simple { IsMade simple.now }
     ensures { IfOk result (λ found. found ≡ first (value_faults context.now.assignments.now (made_space simple.now) part.now kid.now)) }

@@ -18,7 +18,7 @@ use crate::type_marks::type_mark_fault;
 use base_texts::Memory;
 use base_trees::Tree;
 use module_pieces::{Seen, has_attribute};
-use module_text::{Fault, ModuleWhy, PlainForm, PlainLabel, PlainPart, Spot};
+use module_text::{ModuleWhy, PlainForm, PlainLabel, PlainPart, Spot, TextFault};
 use simple_types::Simple;
 
 // The first fault of the type of a part, which stands here, and of what stands behind it. The type stands for this simple type,
@@ -31,7 +31,7 @@ fn behind_fault(
     front: bool,
     part: &PlainPart,
     kid: &Tree<PlainLabel>,
-) -> Result<Option<Fault>, Memory>
+) -> Result<Option<TextFault>, Memory>
     requires known { IsKnown context.now }
     requires simple { IsMade simple.now }
     ensures { IfOk result (λ found. found ≡
@@ -54,7 +54,7 @@ fn judged_fault(
     form: &PlainForm,
     part: &PlainPart,
     kid: &Tree<PlainLabel>,
-) -> Result<Option<Fault>, Memory>
+) -> Result<Option<TextFault>, Memory>
     requires known { IsKnown context.now }
     requires simple { Makes simple.now (rule.space_at context.now.assignments.now spot part.now.marks kid.now) }
     ensures { IfOk result (λ found. found ≡ first (faults_there context.now.assignments.now spot nameless form.now front part.now kid.now)) }
@@ -77,7 +77,7 @@ fn part_fault(
     i: usize,
     part: &PlainPart,
     kid: &Tree<PlainLabel>,
-) -> Result<Option<Fault>, Memory>
+) -> Result<Option<TextFault>, Memory>
     requires known { IsKnown context.now }
     requires within { i < length (texts.parts_of label.now.form) }
     ensures { IfOk result (λ found. found ≡ first (own_faults context.now.assignments.now spot nameless label.now i front part.now kid.now)) }
@@ -102,7 +102,7 @@ fn parts_fault(
     nameless: bool,
     label: &PlainLabel,
     kids: &[Tree<PlainLabel>],
-) -> Result<Option<Fault>, Memory>
+) -> Result<Option<TextFault>, Memory>
     requires { IsKnown context.now }
     ensures { IfOk result (λ found. found ≡ first (rule.part_faults context.now.assignments.now spot nameless label.now 0 []
         (rule.nameless_parts label.now.marks) (texts.parts_of label.now.form) (roses_of kids.now))) }
@@ -114,7 +114,7 @@ fn parts_fault(
         let part = &parts[i];
         let kid = &kids[i];
         if is_listed(&seen, &part.identifier) {
-            return Ok(Some(Fault {
+            return Ok(Some(TextFault {
                 at: part.at,
                 why: ModuleWhy::Duplicate,
             }));
@@ -133,7 +133,7 @@ fn own_fault(
     context: &Context,
     spot: Spot,
     node: &Tree<PlainLabel>,
-) -> Result<Option<Fault>, Memory>
+) -> Result<Option<TextFault>, Memory>
     requires { IsKnown context.now }
     ensures { IfOk result (λ found. found ≡
         first (rule.type_mark_faults context.now.assignments.now spot (label_of node.now) (roses_of (kids_of node.now)) None 0 (label_of node.now).marks
@@ -153,7 +153,7 @@ pub fn type_fault(
     spot: Spot,
     nameless: bool,
     node: &Tree<PlainLabel>,
-) -> Result<Option<Fault>, Memory>
+) -> Result<Option<TextFault>, Memory>
     requires { IsKnown context.now }
     ensures { IfOk result (λ found. found ≡ first (rule.type_faults context.now.assignments.now spot nameless node.now)) }
 {

@@ -17,7 +17,7 @@ use module_pieces::{
     has_content, has_texts, is_choice, is_sequence_of, is_told_so, rank, stands_once, unless,
 };
 use module_simple::{is_order_item, simple_told};
-use module_text::{Fault, ModuleWhy, PlainForm, PlainLabel, PlainName, Spot, TypeMarkKind};
+use module_text::{ModuleWhy, PlainForm, PlainLabel, PlainName, Spot, TextFault, TypeMarkKind};
 
 // The number of the first of these items with the identifier.
 fn position_of(items: &[PlainName], identifier: &Text) -> Option<usize>
@@ -151,7 +151,7 @@ pub fn type_mark_fault(
     context: &Context,
     spot: Spot,
     node: &Tree<PlainLabel>,
-) -> Result<Option<Fault>, Memory>
+) -> Result<Option<TextFault>, Memory>
     requires { IsKnown context.now }
     ensures { IfOk result (λ found. found ≡
         first (rule.type_mark_faults context.now.assignments.now spot (label_of node.now) (roses_of (kids_of node.now)) None 0 (label_of node.now).marks)) }

@@ -30,7 +30,7 @@ use Rattle.module_text.specs.declared.modules.PlainAssignment.{PlainAssignment}
 use Rattle.module_text.specs.Texts.{ends_text, range_text, number_range_text, size_text, part_mark_text, type_mark_text, part_marks_text, type_marks_text, fixed_text, absence_text, item_text, parts_of, level_of_parts, form_text, part_text, part_texts, type_text, assignment_text}
 use Rattle.module_text.specs.Places.{behind, placed_number, placed_ends, placed_number_range, placed_size, placed_part_marks, placed_type_marks, placed_fixed, placed_absence, placed_items, placed_names, placed_parts, parts_at, next_at, type_at, placed_form, type_texts, placed_type, placed_types, placed_assignment, placed_from}
 use Rattle.module_text.specs.declared.reasons.ModuleWhy.TheVariants as why
-use Rattle.module_text.specs.declared.reasons.Fault.{Fault}
+use Rattle.module_text.specs.declared.reasons.TextFault.{TextFault}
 use Rattle.module_text.specs.declared.spots.Spot.{Spot}
 use Rattle.module_text.specs.Listed.{fault, unless, order}
 use Rattle.module_text.specs.Told.{has_list}
@@ -298,10 +298,10 @@ module _ (P : List PlainAssignment) where
   no_parts spot nameless l i before front (more t ts) = refl
 
   -- a form without parts
-  alone : (a d : ℕ) (xs : List Fault) (spot : Spot) (nameless : Bool) (l : PlainLabel) (i : ℕ) (before : List (List ℕ)) (front : ℕ) (ts : Roses PlainLabel)
+  alone : (a d : ℕ) (xs : List TextFault) (spot : Spot) (nameless : Bool) (l : PlainLabel) (i : ℕ) (before : List (List ℕ)) (front : ℕ) (ts : Roses PlainLabel)
       → Run a d xs → a ≤ d → Run a d (xs ++ part_faults P spot nameless l i before front [] ts)
   alone a d xs spot nameless l i before front ts r ad =
-      let Q : List Fault → Type 0 = λ fs. Run a d (xs ++ fs) in
+      let Q : List TextFault → Type 0 = λ fs. Run a d (xs ++ fs) in
       subst Q (sym (no_parts spot nameless l i before front ts)) (joined a d d d xs [] r (nothing _ _) ad (omega arith) (omega arith))
 
   abbrev FormRun : PlainForm → Roses PlainLabel → Type 0
@@ -387,7 +387,7 @@ module _ (P : List PlainAssignment) where
   -- ---- parts
 
   -- a reference that is all of a part
-  lone : (p c q : ℕ) (b : Bool) (zs : List Fault) → zs ≡ [] → q ≡ p → 7 * p + 4 ≤ c
+  lone : (p c q : ℕ) (b : Bool) (zs : List TextFault) → zs ≡ [] → q ≡ p → 7 * p + 4 ≤ c
       → Front p c (unless b q why.Unresolved) (([] ++ unless b q why.Unresolved) ++ zs)
   lone p c q true zs e same le = silent refl e
   lone p c q false zs e same le = unresolved (ap (λ n. fault n why.Unresolved ∷ []) same) le

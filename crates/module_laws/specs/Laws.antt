@@ -2,7 +2,7 @@
 use Rattle.std.specs.Prelude.{◌≡◌, ℕ, ◌<◌, ◌^◌, ◌↔◌, Some, List, [], length}
 use Rattle.module_text.specs.declared.modules.PlainAssignment.{PlainAssignment}
 use Rattle.module_text.specs.Grammar.{IsTextOf}
-use Rattle.module_text.specs.declared.reasons.Fault.{Fault}
+use Rattle.module_text.specs.declared.reasons.TextFault.{TextFault}
 use Rattle.module_text.specs.Listed.{first, IsLeast}
 use Rattle.module_text.specs.Faults.{faults}
 use Rattle.module_text.specs.Meaning.{module_meant}
@@ -12,7 +12,7 @@ use Rattle.module_text.specs.ReadBack.{IsReadBack}
 abbrev pub LeastIsFirst : Type 0
 LeastIsFirst =
     (bytes : List ℕ) (assignments : List PlainAssignment) → IsTextOf bytes assignments
-    → (f : Fault) → (first (faults assignments) ≡ Some f) ↔ IsLeast (faults assignments) f
+    → (f : TextFault) → (first (faults assignments) ≡ Some f) ↔ IsLeast (faults assignments) f
 
 -- A text without a fault is the print of the module that it tells, which is printable: of as many bytes as a number of 32 bits
 -- counts, since no module has more assignments, and no type more parts.

@@ -7,7 +7,7 @@ use Rattle.module_text.specs.declared.marks.PartMark.{PartMark}
 use Rattle.module_text.specs.declared.types.NumberedItem.{NumberedItem}
 use Rattle.module_text.specs.declared.types.PlainName.{PlainName}
 use Rattle.module_text.specs.Ranks.{rank_of_part_mark}
-use Rattle.module_text.specs.declared.reasons.Fault.{Fault}
+use Rattle.module_text.specs.declared.reasons.TextFault.{TextFault}
 use Rattle.module_text.specs.declared.reasons.ModuleWhy.TheVariants.{Duplicate, Spelling}
 use Rattle.module_text.specs.Listed.{fault, first}
 use Rattle.module_text.specs.Told.{whole_of}
@@ -37,7 +37,7 @@ pub item-again : (before : List (List ℕ)) (last : Option ℤ) (item : Numbered
 unfolding first
 item-again before last item items e = rw e refl
 
-pub item-faulty : (before : List (List ℕ)) (last : Option ℤ) (item : NumberedItem) (items : List NumberedItem) (f : Fault)
+pub item-faulty : (before : List (List ℕ)) (last : Option ℤ) (item : NumberedItem) (items : List NumberedItem) (f : TextFault)
     → has_text before item.identifier.name ≡ false
     → Some f ≡ first (item_faults last item)
     → Some f ≡ first (numbered_faults before last (item ∷ items))

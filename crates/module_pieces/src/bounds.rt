@@ -6,7 +6,7 @@ ghost use Rattle.module_text.specs.Faults as rule;
 
 use crate::finding::unless;
 use crate::numbers::{is_printed_number, is_size, size_of, whole_of};
-use module_text::{Fault, ModuleWhy, PlainEnds, PlainNumber, PlainRange};
+use module_text::{ModuleWhy, PlainEnds, PlainNumber, PlainRange, TextFault};
 
 /// A least and a greatest number, where there is one.
 pub type Bounds = (Option<i128>, Option<i128>);
@@ -69,7 +69,7 @@ pub fn sizes_of(size: &Option<PlainEnds>) -> Option<(u32, Option<u32>)>
 }
 
 // The fault of a number.
-fn number_fault(number: &PlainNumber) -> Option<Fault>
+fn number_fault(number: &PlainNumber) -> Option<TextFault>
     ensures { result ≡ first (rule.number_faults number.now) }
 {
     unless(is_printed_number(number), number.at, ModuleWhy::Spelling)
@@ -87,7 +87,7 @@ pub(crate) fn is_below(least: Option<i128>, greatest: Option<i128>) -> bool
 
 // The first fault of bounds.
 #[tactic(auto, using(crate::proofs::Firsts::firsts))]
-fn ends_fault(ends: &PlainEnds) -> Option<Fault>
+fn ends_fault(ends: &PlainEnds) -> Option<TextFault>
     ensures { result ≡ first (rule.ends_faults ends.now) }
 {
     match ends {
@@ -109,7 +109,7 @@ fn ends_fault(ends: &PlainEnds) -> Option<Fault>
 
 /// The first fault of the bounds of an INTEGER.
 #[tactic(auto, unfolding(module_text::specs::Listed::first))]
-pub fn range_fault(range: &Option<PlainRange>) -> Option<Fault>
+pub fn range_fault(range: &Option<PlainRange>) -> Option<TextFault>
     ensures { result ≡ first (rule.range_faults range.now) }
 {
     match range {
@@ -129,7 +129,7 @@ fn is_zero(number: Option<i128>) -> bool
 }
 
 // The fault of a size.
-fn one_size_fault(number: &PlainNumber) -> Option<Fault>
+fn one_size_fault(number: &PlainNumber) -> Option<TextFault>
     ensures { result ≡ first (rule.one_size_faults number.now) }
 {
     unless(is_size(number), number.at, ModuleWhy::Spelling)
@@ -137,7 +137,7 @@ fn one_size_fault(number: &PlainNumber) -> Option<Fault>
 
 /// The first fault of a size.
 #[tactic(auto, using(crate::proofs::Firsts::firsts), unfolding(module_text::specs::Listed::first))]
-pub fn size_fault(size: &Option<PlainEnds>) -> Option<Fault>
+pub fn size_fault(size: &Option<PlainEnds>) -> Option<TextFault>
     ensures { result ≡ first (rule.size_faults size.now) }
 {
     match size {

@@ -2,12 +2,16 @@
 ghost use Rattle.std.specs.Prelude.{◌≡◌};
 ghost use Rattle.module_text.specs.Listed as listed;
 
-use module_text::{Fault, ModuleWhy};
+use module_text::{ModuleWhy, TextFault};
 
 /// A fault here, for this reason, unless it is so.
 #[tactic(auto, unfolding(module_text::specs::Listed::first))]
-pub fn unless(holds: bool, at: u64, why: ModuleWhy) -> Option<Fault>
+pub fn unless(holds: bool, at: u64, why: ModuleWhy) -> Option<TextFault>
     ensures { result ≡ listed.first (listed.unless holds at why) }
 {
-    if holds { None } else { Some(Fault { at, why }) }
+    if holds {
+        None
+    } else {
+        Some(TextFault { at, why })
+    }
 }

@@ -9,7 +9,7 @@ use crate::finding::unless;
 use crate::numbers::{is_printed_number, whole_of};
 use crate::seen::Seen;
 use base_texts::Memory;
-use module_text::{Fault, ModuleWhy, NumberedItem, PlainName, Written};
+use module_text::{ModuleWhy, NumberedItem, PlainName, TextFault, Written};
 use std::alloc::Global;
 
 // Whether the identifier is `int` and the number.
@@ -30,7 +30,7 @@ fn is_above(before: Option<i128>, number: Option<i128>) -> bool
 
 // The first fault of an item behind one with this number, but for Duplicate.
 #[tactic(auto, using(crate::proofs::Firsts::firsts))]
-fn item_fault(before: Option<i128>, item: &NumberedItem) -> Option<Fault>
+fn item_fault(before: Option<i128>, item: &NumberedItem) -> Option<TextFault>
     ensures { result ≡ first (rule.item_faults before item.now) }
 {
     if let Some(fault) = unless(
@@ -50,7 +50,7 @@ fn item_fault(before: Option<i128>, item: &NumberedItem) -> Option<Fault>
 
 /// The first fault of items with numbers.
 #[tactic(auto, using(crate::proofs::Firsts::firsts))]
-pub fn numbered_fault(alloc: Global, items: &[NumberedItem]) -> Result<Option<Fault>, Memory>
+pub fn numbered_fault(alloc: Global, items: &[NumberedItem]) -> Result<Option<TextFault>, Memory>
     ensures { IfOk result (λ found. found ≡ first (rule.numbered_faults [] None items.now)) }
 {
     let mut seen = Seen::new(alloc);
@@ -58,7 +58,7 @@ pub fn numbered_fault(alloc: Global, items: &[NumberedItem]) -> Result<Option<Fa
     'items: for item in items {
         let name = &item.identifier.name;
         if seen.has(name) {
-            return Ok(Some(Fault {
+            return Ok(Some(TextFault {
                 at: item.identifier.at,
                 why: ModuleWhy::Duplicate,
             }));
@@ -109,7 +109,7 @@ pub fn word_fault(
     order: bool,
     items: &[PlainName],
     words: &[Written],
-) -> Result<Option<Fault>, Memory>
+) -> Result<Option<TextFault>, Memory>
     ensures { IfOk result (λ found. found ≡ first (rule.word_faults order [] None items.now words.now)) }
 {
     let mut seen = Seen::new(alloc);
@@ -119,13 +119,13 @@ pub fn word_fault(
         let item = &items[i];
         let word = &words[i];
         if seen.has(&item.name) {
-            return Ok(Some(Fault {
+            return Ok(Some(TextFault {
                 at: item.at,
                 why: ModuleWhy::Duplicate,
             }));
         }
         if !may_follow(order, last, word) {
-            return Ok(Some(Fault {
+            return Ok(Some(TextFault {
                 at: item.at,
                 why: ModuleWhy::Spelling,
             }));

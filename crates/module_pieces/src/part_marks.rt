@@ -8,7 +8,7 @@ ghost use Rattle.module_text.specs.Ranks.{rank_of_part_mark};
 
 use crate::finding::unless;
 use crate::names::{is_told_so, is_xml_text};
-use module_text::{Fault, ModuleWhy, NameAs, PartMark, PartMarkKind};
+use module_text::{ModuleWhy, NameAs, PartMark, PartMarkKind, TextFault};
 
 fn is_attribute(mark: &PartMark) -> bool
     ensures { result ≡ told.is_attribute mark.now }
@@ -88,13 +88,13 @@ fn stands(simple: bool, generated: &[u8], before: Option<u8>, mark: &PartMark) -
 
 /// The first fault of the instructions of a part or an assignment of this name, whose type stands for a simple type or not.
 #[tactic(auto, using(crate::proofs::Firsts::firsts))]
-pub fn part_mark_fault(simple: bool, generated: &[u8], marks: &[PartMark]) -> Option<Fault>
+pub fn part_mark_fault(simple: bool, generated: &[u8], marks: &[PartMark]) -> Option<TextFault>
     ensures { result ≡ first (rule.part_mark_faults simple generated.now None marks.now) }
 {
     let mut before = None;
     'marks: for mark in marks {
         if !stands(simple, generated, before, mark) {
-            return Some(Fault {
+            return Some(TextFault {
                 at: mark.at,
                 why: ModuleWhy::Spelling,
             });

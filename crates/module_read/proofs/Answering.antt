@@ -6,7 +6,7 @@ use Rattle.asn_types.specs.declared.modules.Assignment.{Assignment}
 use Rattle.module_text.specs.declared.modules.PlainAssignment.{PlainAssignment}
 use Rattle.module_text.specs.Texts.{text_of}
 use Rattle.module_text.specs.Grammar.{IsTextOf}
-use Rattle.module_text.specs.declared.reasons.Fault.{Fault}
+use Rattle.module_text.specs.declared.reasons.TextFault.{TextFault}
 use Rattle.module_text.specs.declared.reasons.ModuleError.{ModuleError}
 use Rattle.module_text.specs.Listed.{first}
 use Rattle.module_text.specs.Faults.{faults}
@@ -18,7 +18,7 @@ use Rattle.module_read.proofs.OfTexts.{AreOfText, OfText, bad_text, faults_are, 
 
 -- ---- a text without a fault
 
-pub none_first : (fs : List Fault) → None ≡ first fs → fs ≡ []
+pub none_first : (fs : List TextFault) → None ≡ first fs → fs ≡ []
 unfolding first
 none_first [] e = refl
 none_first (f ∷ fs) e = absurd (cc)
@@ -38,14 +38,14 @@ module _ (printable : NoFaultIsPrintable) (P : List PlainAssignment) (few : leng
 
 -- ---- the first fault
 
-first_kind : (fs : List Fault) (f : Fault) → Some f ≡ first fs → AreOfText fs → OfText f.why
+first_kind : (fs : List TextFault) (f : TextFault) → Some f ≡ first fs → AreOfText fs → OfText f.why
 unfolding first
 first_kind [] f e are = absurd (cc)
 first_kind (g ∷ gs) f e are =
     let same : g ≡ f = cc in
-    subst (λ (h : Fault). OfText h.why) same (first_is g gs are)
+    subst (λ (h : TextFault). OfText h.why) same (first_is g gs are)
 
-pub first_bad : LeastIsFirst → (P : List PlainAssignment) → IsUtf8 (text_of P) → IsTextOf (text_of P) P → (f : Fault) → Some f ≡ first (faults P)
+pub first_bad : LeastIsFirst → (P : List PlainAssignment) → IsUtf8 (text_of P) → IsTextOf (text_of P) P → (f : TextFault) → Some f ≡ first (faults P)
     → IsBadAt (text_of P) f.at f.why
 first_bad least P utf8 is f e =
     bad_text (text_of P) f.at f.why (first_kind (faults P) f e (faults_are P)) utf8 (record { assignments = P; is = is; first = (least (text_of P) P is f).0 (sym e) })

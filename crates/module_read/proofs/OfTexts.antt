@@ -25,7 +25,7 @@ use Rattle.module_text.specs.Ranks.{rank_of_part_mark, rank_of_type_mark}
 use Rattle.module_text.specs.Texts.{parts_of}
 use Rattle.module_text.specs.declared.reasons.ModuleWhy.{ModuleWhy}
 use Rattle.module_text.specs.declared.reasons.ModuleWhy.TheVariants as why
-use Rattle.module_text.specs.declared.reasons.Fault.{Fault}
+use Rattle.module_text.specs.declared.reasons.TextFault.{TextFault}
 use Rattle.module_text.specs.declared.spots.Spot.{Spot}
 use Rattle.module_text.specs.declared.spots.Spot.TheVariants.{Elsewhere}
 use Rattle.module_text.specs.Listed.{fault, unless}
@@ -45,8 +45,8 @@ OfText why.Syntax = ⊥
 OfText why.TooDeep = ⊥
 OfText _ = Unit {0}
 
-abbrev pub AreOfText : List Fault → Type 0
-AreOfText faults = All (λ (f : Fault). OfText f.why) faults
+abbrev pub AreOfText : List TextFault → Type 0
+AreOfText faults = All (λ (f : TextFault). OfText f.why) faults
 
 -- what is due of a text with such a fault
 pub bad_text : (bytes : List ℕ) (at : ℕ) (reason : ModuleWhy) → OfText reason → IsUtf8 bytes → HasFault bytes at reason → IsBadAt bytes at reason
@@ -59,16 +59,16 @@ bad_text bytes at why.LongChain of utf8 has = (utf8, has)
 bad_text bytes at why.Spelling of utf8 has = (utf8, has)
 
 nil : AreOfText []
-nil = All-nil (λ (f : Fault). OfText f.why)
+nil = All-nil (λ (f : TextFault). OfText f.why)
 
-both : (xs ys : List Fault) → AreOfText xs → AreOfText ys → AreOfText (xs ++ ys)
-both xs ys a b = All-append (λ (f : Fault). OfText f.why) xs ys a b
+both : (xs ys : List TextFault) → AreOfText xs → AreOfText ys → AreOfText (xs ++ ys)
+both xs ys a b = All-append (λ (f : TextFault). OfText f.why) xs ys a b
 
 one : (b : Bool) (at : ℕ) (reason : ModuleWhy) → OfText reason → AreOfText (unless b at reason)
 one true at reason of = nil
-one false at reason of = All-cons (λ (f : Fault). OfText f.why) (fault at reason) [] of nil
+one false at reason of = All-cons (λ (f : TextFault). OfText f.why) (fault at reason) [] of nil
 
-either : (b : Bool) (xs ys : List Fault) → AreOfText xs → AreOfText ys → AreOfText (cond b xs ys)
+either : (b : Bool) (xs ys : List TextFault) → AreOfText xs → AreOfText ys → AreOfText (cond b xs ys)
 either true xs ys a b = a
 either false xs ys a b = b
 
@@ -235,5 +235,5 @@ module _ (P : List PlainAssignment) where
 pub faults_are : (P : List PlainAssignment) → AreOfText (rule.faults P)
 faults_are P = from_are P [] P
 
-pub first_is : (f : Fault) (fs : List Fault) → AreOfText (f ∷ fs) → OfText f.why
-first_is f fs are = All-head (λ (f : Fault). OfText f.why) f fs are
+pub first_is : (f : TextFault) (fs : List TextFault) → AreOfText (f ∷ fs) → OfText f.why
+first_is f fs are = All-head (λ (f : TextFault). OfText f.why) f fs are

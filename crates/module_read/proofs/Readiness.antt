@@ -26,7 +26,7 @@ use Rattle.module_text.specs.Texts.{parts_of, text_of, type_text}
 use Rattle.module_text.specs.Plain.{IsTypeMark, IsComponent, IsAlternative, IsItem, IsForm, IsName, IsType, AreTypes, IsAssignment, IsPlain}
 use Rattle.module_text.proofs.Ascii.{identifier_utf8, reference_utf8}
 use Rattle.module_text.specs.declared.reasons.ModuleWhy.TheVariants.{Duplicate, Unresolved, LongChain, Spelling}
-use Rattle.module_text.specs.declared.reasons.Fault.{Fault}
+use Rattle.module_text.specs.declared.reasons.TextFault.{TextFault}
 use Rattle.module_text.specs.declared.spots.Spot.{Spot}
 use Rattle.module_text.specs.declared.spots.Spot.TheVariants.{Elsewhere}
 use Rattle.module_text.specs.Listed.{unless}
@@ -177,7 +177,7 @@ module _ (P : List PlainAssignment) where
         let inner = part_spot spot l i part in
         let space = space_at P inner part.marks t in
         let f1 = unless (not (is_listed before part.identifier)) part.at Duplicate in
-        let f2 : List Fault = if is_bare part (label_of t) then reference_faults P (label_of t).form else [] in
+        let f2 : List TextFault = if is_bare part (label_of t) then reference_faults P (label_of t).form else [] in
         let f3 = unless (is_named_so nameless l.form part) part.at Spelling in
         let f4 = part_mark_faults (is_some space) part.identifier None part.marks in
         let f5 = type_faults P inner (nat_lt 0 front_parts) t in

@@ -13,7 +13,7 @@ use Rattle.module_grammar.specs.ModulesRead.{module_verdict}
 use Rattle.module_grammar.specs.TextsRead.{AllTextsRead}
 use Rattle.module_text.specs.declared.reasons.ModuleWhy.{ModuleWhy}
 use Rattle.module_text.specs.declared.reasons.ModuleWhy.TheVariants as why
-use Rattle.module_text.specs.declared.reasons.Fault.{Fault}
+use Rattle.module_text.specs.declared.reasons.TextFault.{TextFault}
 use Rattle.module_text.specs.Listed.{fault, first}
 use Rattle.module_text.specs.Faults.{faults}
 use Rattle.module_text.specs.Meaning.{module_meant}
@@ -23,12 +23,12 @@ use Rattle.module_read.specs.Tells.{Tells, OneAnswer, SomeAnswer}
 use Rattle.module_read.proofs.OfTexts.{AreOfText, bad_text, faults_are, first_is}
 
 -- the first fault
-abbrev fault_of : Verdict (List PlainAssignment) → Option Fault
+abbrev fault_of : Verdict (List PlainAssignment) → Option TextFault
 fault_of (Read P) = first (faults P)
 fault_of (Syntax n) = Some (fault n why.Syntax)
 fault_of (TooDeep n) = Some (fault n why.TooDeep)
 
-abbrev due : Bool → List ℕ → Option Fault
+abbrev due : Bool → List ℕ → Option TextFault
 due true bytes = fault_of (module_verdict limit bytes)
 due false bytes = Some (fault (utf8_valid_len bytes) why.NotUtf8)
 
@@ -41,15 +41,15 @@ not_utf8 bytes bad = elim (is_utf8 bytes) as (λ (b : Bool). is_utf8 bytes ≡ b
 by_utf8 : (bytes : List ℕ) → IsUtf8 bytes → due (is_utf8 bytes) bytes ≡ fault_of (module_verdict limit bytes)
 by_utf8 bytes utf8 = ap (λ (b : Bool). due b bytes) (is_utf8-from_IsUtf8 bytes utf8)
 
-nothing_first : (fs : List Fault) → fs ≡ [] → first fs ≡ None
+nothing_first : (fs : List TextFault) → fs ≡ [] → first fs ≡ None
 unfolding first
 nothing_first fs e = ap first e
 
-first_first : (fs : List Fault) (f : Fault) (others : List Fault) → fs ≡ f ∷ others → first fs ≡ Some f
+first_first : (fs : List TextFault) (f : TextFault) (others : List TextFault) → fs ≡ f ∷ others → first fs ≡ Some f
 unfolding first
 first_first fs f others e = ap first e
 
-some_is : (f g : Fault) → Some f ≡ Some g → f ≡ g
+some_is : (f g : TextFault) → Some f ≡ Some g → f ≡ g
 some_is f g e = cc
 
 same_text : (P Q : List PlainAssignment) (v : Verdict (List PlainAssignment)) → v ≡ Read P → v ≡ Read Q → P ≡ Q
@@ -88,7 +88,7 @@ module _ (texts : AllTextsRead) (least : LeastIsFirst) where
   one_fault : (bytes : List ℕ) (m n : ℕ) (v w : ModuleWhy) → IsBadAt bytes m v → IsBadAt bytes n w → (m ≡ n) × (v ≡ w)
   one_fault bytes m n v w bad other =
       let same = some_is (fault m v) (fault n w) (sym (bad_due bytes m v bad) ∙ bad_due bytes n w other) in
-      (ap (λ (f : Fault). f.at) same, ap (λ (f : Fault). f.why) same)
+      (ap (λ (f : TextFault). f.at) same, ap (λ (f : TextFault). f.why) same)
 
   pub one_of_all : OneAnswer
   one_of_all = record { module_is = one_module; either = not_both; fault_is = one_fault }
@@ -97,7 +97,7 @@ module _ (texts : AllTextsRead) (least : LeastIsFirst) where
     abbrev IsOf : List ℕ → Type 0
     IsOf bytes = ((M : List Assignment) × Tells bytes M) ⊎ ((at : ℕ) × (reason : ModuleWhy) × IsBadAt bytes at reason)
 
-    of_faults : (bytes : List ℕ) → length bytes ≤ 16777216 → IsUtf8 bytes → (P : List PlainAssignment) → IsTextOf bytes P → (fs : List Fault) → faults P ≡ fs → IsOf bytes
+    of_faults : (bytes : List ℕ) → length bytes ≤ 16777216 → IsUtf8 bytes → (P : List PlainAssignment) → IsTextOf bytes P → (fs : List TextFault) → faults P ≡ fs → IsOf bytes
     of_faults bytes few utf8 P is [] e =
         inl (module_meant P, record { utf8 = utf8; assignments = P; text = is; faultless = e; meant = refl; back = printable bytes P (omega (arith, few)) is e })
     of_faults bytes few utf8 P is (f ∷ fs) e =

@@ -17,7 +17,7 @@ use base_trees::Tree;
 use itoa::Buffer;
 use module_pieces::{Index, index_of, is_xml_text, unless};
 use module_text::{
-    Absence, Fault, ModuleWhy, PlainForm, PlainLabel, PlainOctets, PlainValue, PlainValueLabel,
+    Absence, ModuleWhy, PlainForm, PlainLabel, PlainOctets, PlainValue, PlainValueLabel, TextFault,
 };
 use simple_types::{Simple, SimpleError, ValueLabel, accept, spell};
 use std::alloc::Global;
@@ -482,7 +482,7 @@ pub fn fixed_fault(
     alloc: Global,
     simple: &Option<Simple>,
     fixed: &Option<PlainOctets>,
-) -> Result<Option<Fault>, Memory>
+) -> Result<Option<TextFault>, Memory>
     requires { IsMade simple.now }
     ensures { IfOk result (λ found. found ≡ first (faulty.fixed_faults (made_space simple.now) fixed.now)) }
 {
@@ -585,7 +585,7 @@ pub fn absence_fault(
     index: Option<&Tree<Index>>,
     node: &Tree<PlainLabel>,
     absence: &Absence,
-) -> Result<Option<Fault>, Memory>
+) -> Result<Option<TextFault>, Memory>
     requires simple { IsMade simple.now }
     requires index { IfSome index (λ i. Indexes i.now node.now) }
     ensures { IfOk result (λ found. found ≡ first (faulty.absence_faults (made_space simple.now) fixed.now node.now absence.now)) }

@@ -12,7 +12,7 @@ use Rattle.module_text.specs.declared.bounds.PlainEnds.TheVariants as ends
 use Rattle.module_text.specs.declared.bounds.PlainRange.{PlainRange}
 use Rattle.module_text.specs.declared.bounds.PlainRange.TheVariants as range_
 use Rattle.module_text.specs.Texts.{number_range_text}
-use Rattle.module_text.specs.declared.reasons.Fault.{Fault}
+use Rattle.module_text.specs.declared.reasons.TextFault.{TextFault}
 use Rattle.module_text.specs.declared.reasons.ModuleWhy.{ModuleWhy}
 use Rattle.module_text.specs.Listed.{unless}
 use Rattle.module_text.specs.Told as told
@@ -24,11 +24,11 @@ pub unless-none : (b : Bool) (at : ℕ) (reason : ModuleWhy) → unless b at rea
 unless-none true at reason e = refl
 unless-none false at reason e = absurd (cc)
 
-pub front-none : (xs ys : List Fault) → xs ++ ys ≡ [] → xs ≡ []
+pub front-none : (xs ys : List TextFault) → xs ++ ys ≡ [] → xs ≡ []
 front-none [] ys e = refl
 front-none (x ∷ xs) ys e = absurd (cc)
 
-pub behind-none : (xs ys : List Fault) → xs ++ ys ≡ [] → ys ≡ []
+pub behind-none : (xs ys : List TextFault) → xs ++ ys ≡ [] → ys ≡ []
 behind-none [] ys e = e
 behind-none (x ∷ xs) ys e = absurd (cc)
 

@@ -35,7 +35,7 @@ use Rattle.module_text.specs.Simple.{simple_told, is_order_item, item_spot, text
 use Rattle.module_text.specs.Defaults.{default_told, canonical_value, octets_of}
 use Rattle.module_text.specs.Orders.{is_order, is_sequence_of}
 use Rattle.module_text.specs.Marks.{part_mark_stands, type_mark_may, stands_once, next_item}
-use Rattle.module_text.specs.declared.reasons.Fault.{Fault}
+use Rattle.module_text.specs.declared.reasons.TextFault.{TextFault}
 use Rattle.module_text.specs.Listed.{unless}
 
 abbrev pub has_text : List (List ℕ) → List ℕ → Bool
@@ -43,7 +43,7 @@ has_text texts text = list_any (bytes_eq text) texts
 
 -- ---- numbers and bounds
 
-abbrev pub number_faults : PlainNumber → List Fault
+abbrev pub number_faults : PlainNumber → List TextFault
 number_faults n = unless (is_printed_number n) n.at why.Spelling
 
 abbrev pub is_below : Option ℤ → Option ℤ → Bool
@@ -51,13 +51,13 @@ is_below (Some y) (Some z) = int_lt y z
 is_below _ _ = false
 
 -- Bounds are not crossed, and of equal ones there is one.
-abbrev pub ends_faults : PlainEnds → List Fault
+abbrev pub ends_faults : PlainEnds → List TextFault
 ends_faults (ends.One number) = number_faults number
 ends_faults (ends.Both least greatest) =
     number_faults least ++ unless (is_printed_number greatest && is_below (whole_of least) (whole_of greatest)) greatest.at why.Spelling
 ends_faults (ends.From least max_at) = number_faults least
 
-abbrev pub range_faults : Option PlainRange → List Fault
+abbrev pub range_faults : Option PlainRange → List TextFault
 range_faults None = []
 range_faults (Some (range.Ends e)) = ends_faults e
 range_faults (Some (range.To greatest)) = number_faults greatest
@@ -69,11 +69,11 @@ abbrev pub is_zero : Option ℤ → Bool
 is_zero (Some (pos zero)) = true
 is_zero _ = false
 
-abbrev pub one_size_faults : PlainNumber → List Fault
+abbrev pub one_size_faults : PlainNumber → List TextFault
 one_size_faults n = unless (is_size n) n.at why.Spelling
 
 -- Sizes have 32 bits, and nothing is said where there may be any number.
-abbrev pub size_faults : Option PlainEnds → List Fault
+abbrev pub size_faults : Option PlainEnds → List TextFault
 size_faults None = []
 size_faults (Some (ends.One number)) = one_size_faults number
 size_faults (Some (ends.Both least greatest)) =
@@ -92,12 +92,12 @@ abbrev pub is_numbered_so : NumberedItem → Bool
 is_numbered_so item = bytes_eq item.identifier.name (codes "int" ++ item.number.written)
 
 -- of an item behind one with this number
-abbrev pub item_faults : Option ℤ → NumberedItem → List Fault
+abbrev pub item_faults : Option ℤ → NumberedItem → List TextFault
 item_faults last item =
     unless (is_numbered_so item) item.identifier.at why.Spelling
     ++ unless (is_printed_number item.number && is_above last (whole_of item.number)) item.number.at why.Spelling
 
-abbrev pub numbered_faults : List (List ℕ) → Option ℤ → List NumberedItem → List Fault
+abbrev pub numbered_faults : List (List ℕ) → Option ℤ → List NumberedItem → List TextFault
 numbered_faults before last [] = []
 numbered_faults before last (item ∷ items) =
     unless (not (has_text before item.identifier.name)) item.identifier.at why.Duplicate
@@ -109,7 +109,7 @@ is_word_above None word = true
 is_word_above (Some before) word = text_lt before word
 
 -- The words ascend. The identifiers of an order stand in any order.
-abbrev pub word_faults : Bool → List (List ℕ) → Option (List ℕ) → List PlainName → List (List ℕ) → List Fault
+abbrev pub word_faults : Bool → List (List ℕ) → Option (List ℕ) → List PlainName → List (List ℕ) → List TextFault
 word_faults order before last (i ∷ is) (word ∷ words) =
     unless (not (has_text before i.name)) i.at why.Duplicate
     ++ unless (order || is_word_above last word) i.at why.Spelling
@@ -118,14 +118,14 @@ word_faults order before last _ _ = []
 
 -- ---- encoding instructions
 
-abbrev pub part_mark_faults : Bool → List ℕ → Option ℕ → List PartMark → List Fault
+abbrev pub part_mark_faults : Bool → List ℕ → Option ℕ → List PartMark → List TextFault
 part_mark_faults simple generated before [] = []
 part_mark_faults simple generated before (m ∷ ms) =
     unless (part_mark_stands simple generated before m) m.at why.Spelling
     ++ part_mark_faults simple generated (Some (rank_of_part_mark m.kind)) ms
 
 module _ (P : List PlainAssignment) where
-  abbrev pub type_mark_faults : Spot → PlainLabel → Roses PlainLabel → Option ℕ → ℕ → List TypeMark → List Fault
+  abbrev pub type_mark_faults : Spot → PlainLabel → Roses PlainLabel → Option ℕ → ℕ → List TypeMark → List TextFault
   type_mark_faults spot l ts before least [] = []
   type_mark_faults spot l ts before least (m ∷ ms) =
       unless (stands_once before (rank_of_type_mark m.kind) && type_mark_may P spot l ts least m.kind) m.at why.Spelling
@@ -137,7 +137,7 @@ abbrev pub is_canonical : Option Space → Option (List ℕ) → Bool
 is_canonical (Some s) (Some text) = is_some (canonical_value s text)
 is_canonical _ _ = false
 
-abbrev pub fixed_faults : Option Space → Option PlainOctets → List Fault
+abbrev pub fixed_faults : Option Space → Option PlainOctets → List TextFault
 fixed_faults space None = []
 fixed_faults space (Some octets) = unless (is_canonical space (octets_of octets.digits)) octets.at why.Spelling
 
@@ -154,7 +154,7 @@ abbrev pub value_at : Rose PlainValueLabel → ℕ
 value_at (node l vs) = l.at
 
 -- the type, through references, is this
-abbrev pub absence_faults : Option Space → Option PlainOctets → Rose PlainLabel → Absence → List Fault
+abbrev pub absence_faults : Option Space → Option PlainOctets → Rose PlainLabel → Absence → List TextFault
 absence_faults space fixed t absence.Never = []
 absence_faults space fixed t absence.Optional = []
 absence_faults space fixed t (absence.Default v) = unless (is_default space fixed t v) (value_at v) why.Spelling
@@ -196,11 +196,11 @@ part_spot spot l i part =
 
 -- ---- types
 
-abbrev pub reference_faults : List PlainAssignment → PlainForm → List Fault
+abbrev pub reference_faults : List PlainAssignment → PlainForm → List TextFault
 reference_faults P (form.Ref reference) = unless (is_some (number_of P reference.name)) reference.at why.Unresolved
 reference_faults P _ = []
 
-abbrev pub form_faults : List PlainAssignment → Spot → List TypeMark → PlainForm → List Fault
+abbrev pub form_faults : List PlainAssignment → Spot → List TypeMark → PlainForm → List TextFault
 form_faults P spot marks form.Bool = []
 form_faults P spot marks (form.Int r) = range_faults r
 form_faults P spot marks (form.Numbers items) = numbered_faults [] None items
@@ -222,14 +222,14 @@ module _ (P : List PlainAssignment) where
 
   unfoldable mutual
     -- Of a type that stands here. Nameless: it is that of such texts or of such an order.
-    pub type_faults : Spot → Bool → Rose PlainLabel → List Fault
+    pub type_faults : Spot → Bool → Rose PlainLabel → List TextFault
     type_faults spot nameless (node l ts) =
         type_mark_faults P spot l ts None 0 l.marks
         ++ form_faults P spot l.marks l.form
         ++ part_faults spot (has_list l.marks || nameless) l 0 [] (nameless_parts l.marks) (parts_of l.form) ts
 
     -- Of the parts from the one with number i on, with these types, behind those with these identifiers.
-    pub part_faults : Spot → Bool → PlainLabel → ℕ → List (List ℕ) → ℕ → List PlainPart → Roses PlainLabel → List Fault
+    pub part_faults : Spot → Bool → PlainLabel → ℕ → List (List ℕ) → ℕ → List PlainPart → Roses PlainLabel → List TextFault
     part_faults spot nameless l i before front parts none = []
     part_faults spot nameless l i before front parts (more t ts) =
         elim parts [
@@ -247,7 +247,7 @@ module _ (P : List PlainAssignment) where
 
   -- ---- assignments
 
-  abbrev pub assignment_faults : List (List ℕ) → PlainAssignment → List Fault
+  abbrev pub assignment_faults : List (List ℕ) → PlainAssignment → List TextFault
   assignment_faults before a =
       unless (not (has_text before a.reference) && not (has_text reserved_words a.reference)) a.at why.Duplicate
       ++ unless (chains_end P a.body) a.at why.LongChain
@@ -255,9 +255,9 @@ module _ (P : List PlainAssignment) where
       ++ type_faults Elsewhere false a.body
 
   -- of those behind assignments with these references
-  abbrev pub faults_from : List (List ℕ) → List PlainAssignment → List Fault
+  abbrev pub faults_from : List (List ℕ) → List PlainAssignment → List TextFault
   faults_from before [] = []
   faults_from before (a ∷ others) = assignment_faults before a ++ faults_from (before ++ a.reference ∷ []) others
 
-abbrev pub faults : List PlainAssignment → List Fault
+abbrev pub faults : List PlainAssignment → List TextFault
 faults P = faults_from P [] P

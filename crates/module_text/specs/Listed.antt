@@ -2,21 +2,21 @@
 use Rattle.std.specs.Prelude.{◌≡◌, ℕ, ◌<◌, ◌≤◌, ◌⊎◌, Bool, Option, Some, None, List, [], ◌∷◌, All, if◌then◌else◌}
 use Rattle.module_text.specs.declared.reasons.ModuleWhy.{ModuleWhy}
 use Rattle.module_text.specs.declared.reasons.ModuleWhy.TheVariants as why
-use Rattle.module_text.specs.declared.reasons.Fault.{Fault}
+use Rattle.module_text.specs.declared.reasons.TextFault.{TextFault}
 
-abbrev pub fault : ℕ → ModuleWhy → Fault
+abbrev pub fault : ℕ → ModuleWhy → TextFault
 fault at reason = record { at = at; why = reason }
 
 -- a fault here, for this reason, unless it is so
-abbrev pub unless : Bool → ℕ → ModuleWhy → List Fault
+abbrev pub unless : Bool → ℕ → ModuleWhy → List TextFault
 unless b at reason = if b then [] else fault at reason ∷ []
 
-unfoldable pub first : List Fault → Option Fault
+unfoldable pub first : List TextFault → Option TextFault
 first [] = None
 first (f ∷ fs) = Some f
 
 -- one of them is so
-abbrev pub SomeFault : (Fault → Type 0) → List Fault → Type 0
+abbrev pub SomeFault : (TextFault → Type 0) → List TextFault → Type 0
 SomeFault P [] = ⊥
 SomeFault P (f ∷ fs) = P f ⊎ SomeFault P fs
 
@@ -31,9 +31,9 @@ order why.Unresolved = 4
 order why.LongChain = 5
 order why.Spelling = 6
 
-abbrev pub Comes : Fault → Fault → Type 0
+abbrev pub Comes : TextFault → TextFault → Type 0
 Comes f g = (f.at < g.at) ⊎ ((f.at ≡ g.at) × (order f.why ≤ order g.why))
 
-pub record IsLeast (faults : List Fault) (f : Fault) : Type 0 where
+pub record IsLeast (faults : List TextFault) (f : TextFault) : Type 0 where
   pub one : SomeFault (λ g. g ≡ f) faults
   pub least : All (Comes f) faults

@@ -29,7 +29,7 @@ pub use made::{BoxedForm, PartHead, Parts, join};
 pub use marks::{NameAs, PartMark, PartMarkKind, TypeMark, TypeMarkKind};
 pub use modules::PlainAssignment;
 pub use names::{identifier_text, reference_text};
-pub use reasons::{Fault, ModuleError, ModuleWhy};
+pub use reasons::{ModuleError, ModuleWhy, TextFault};
 pub use spots::{Alone, Spot};
 pub use types::{NumberedItem, PlainForm, PlainLabel, PlainName, PlainPart};
 pub use values::{Absence, PlainOctets, PlainValue, PlainValueLabel};

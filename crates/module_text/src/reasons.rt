@@ -81,7 +81,7 @@ impl std::error::Error for ModuleWhy {}
 
 /// What is wrong with a text, and where.
 #[derive(Clone, Copy)]
-pub struct Fault {
+pub struct TextFault {
     /// The first byte of what is wrong.
     pub at: u64,
     pub why: ModuleWhy,

@@ -15,7 +15,7 @@ use Rattle.module_print.specs.Instructions.{number_identifier}
 use Rattle.module_text.specs.declared.bounds.PlainEnds.TheVariants as ends
 use Rattle.module_text.specs.declared.reasons.ModuleWhy.{ModuleWhy}
 use Rattle.module_text.specs.declared.reasons.ModuleWhy.TheVariants as why
-use Rattle.module_text.specs.declared.reasons.Fault.{Fault}
+use Rattle.module_text.specs.declared.reasons.TextFault.{TextFault}
 use Rattle.module_text.specs.Listed.{unless}
 use Rattle.module_text.specs.Told.{whole_of, size_of, is_printed, is_printed_number}
 use Rattle.module_text.specs.Faults as rule
@@ -28,8 +28,8 @@ use Rattle.module_unique.proofs.Digits.{small_bits, number_back, size_back, numb
 pub stands-so : (b : Bool) (at : ℕ) (reason : ModuleWhy) → b ≡ true → unless b at reason ≡ []
 stands-so b at reason e = ap (λ t. unless t at reason) e
 
-pub no-more : (xs ys : List Fault) → xs ≡ [] → ys ≡ [] → xs ++ ys ≡ []
-no-more xs ys e f = ap₂ (λ (us : List Fault) vs. us ++ vs) e f
+pub no-more : (xs ys : List TextFault) → xs ≡ [] → ys ≡ [] → xs ++ ys ≡ []
+no-more xs ys e f = ap₂ (λ (us : List TextFault) vs. us ++ vs) e f
 
 pub both-so : (a b : Bool) → a ≡ true → b ≡ true → (a && b) ≡ true
 both-so a b e f = ap₂ (λ s t. s && t) e f

@@ -20,7 +20,7 @@ use Rattle.module_text.specs.Texts as laid
 use Rattle.module_text.specs.declared.spots.Spot.{Spot}
 use Rattle.module_text.specs.declared.spots.Spot.TheVariants.{Elsewhere}
 use Rattle.module_text.specs.declared.reasons.ModuleWhy.TheVariants as why
-use Rattle.module_text.specs.declared.reasons.Fault.{Fault}
+use Rattle.module_text.specs.declared.reasons.TextFault.{TextFault}
 use Rattle.module_text.specs.Listed.{unless}
 use Rattle.module_text.specs.Told as told
 use Rattle.module_text.specs.Resolving as resolving
@@ -98,7 +98,7 @@ module _ (M : List Assignment) (distinct : IsDistinct bytes_eq (map (λ (a : Ass
       let low = are.low in record { spot = part_spot spot l i part; good = are.good.0; low = omega (arith, low); utf8 = are.texts.0 }
 
   -- the faults of one part, where its type stands here
-  abbrev own_faults : Spot → Bool → PlainLabel → List (List ℕ) → ℕ → Component → Rose TypeLabel → List Fault
+  abbrev own_faults : Spot → Bool → PlainLabel → List (List ℕ) → ℕ → Component → Rose TypeLabel → List TextFault
   own_faults spot nameless l before front part t =
       let p = component_told M part t in
       let u = type_told M t in
@@ -124,7 +124,7 @@ module _ (M : List Assignment) (distinct : IsDistinct bytes_eq (map (λ (a : Ass
       let own = are.own zero part (omega arith) in
       let space = rule.space_at P here p.marks u in
       let f1 = unless (not (rule.is_listed before p.identifier)) p.at why.Duplicate in
-      let f2 : List Fault = if rule.is_bare p (label_of u) then rule.reference_faults P (label_of u).form else [] in
+      let f2 : List TextFault = if rule.is_bare p (label_of u) then rule.reference_faults P (label_of u).form else [] in
       let f3 = unless (rule.is_named_so nameless (form_told M l.form kids) p) p.at why.Spelling in
       let f4 = rule.part_mark_faults (is_some space) p.identifier None p.marks in
       let f5 = rule.type_faults P here (nat_lt 0 front) u in

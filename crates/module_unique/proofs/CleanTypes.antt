@@ -30,7 +30,7 @@ use Rattle.module_text.specs.Plain.{limit}
 use Rattle.module_text.specs.declared.spots.Spot.{Spot}
 use Rattle.module_text.specs.declared.spots.Spot.TheVariants.{Elsewhere, Order, OrderItem}
 use Rattle.module_text.specs.declared.reasons.ModuleWhy.TheVariants as why
-use Rattle.module_text.specs.declared.reasons.Fault.{Fault}
+use Rattle.module_text.specs.declared.reasons.TextFault.{TextFault}
 use Rattle.module_text.specs.Told as told
 use Rattle.module_text.specs.Resolving as resolving
 use Rattle.module_text.specs.Simple as simple
@@ -68,7 +68,7 @@ pub not_listed : (a b : Bool) → b ≡ false → not (a && b) ≡ true
 not_listed true b e = ap not e
 not_listed false b e = refl
 
-pub if_none : (b : Bool) (fs : List Fault) → fs ≡ [] → (if b then fs else []) ≡ []
+pub if_none : (b : Bool) (fs : List TextFault) → fs ≡ [] → (if b then fs else []) ≡ []
 if_none true fs e = e
 if_none false fs e = refl
 

@@ -31,7 +31,7 @@ use Rattle.module_text.specs.declared.spots.Spot.{Spot}
 use Rattle.module_text.specs.declared.spots.Spot.TheVariants.{Elsewhere, Order}
 use Rattle.module_text.specs.declared.reasons.ModuleWhy.{ModuleWhy}
 use Rattle.module_text.specs.declared.reasons.ModuleWhy.TheVariants.{Spelling, Duplicate, Unresolved, LongChain}
-use Rattle.module_text.specs.declared.reasons.Fault.{Fault}
+use Rattle.module_text.specs.declared.reasons.TextFault.{TextFault}
 use Rattle.module_text.specs.Listed.{unless}
 use Rattle.module_text.specs.Told as told
 use Rattle.module_text.specs.Resolving as resolving
@@ -46,15 +46,15 @@ use Rattle.module_unique.proofs.ClearRoles.{clear_label, parts_same, role_same, 
 use Rattle.module_unique.proofs.ClearOrders.{content_same, sequence_of_same, choice_same, texts_same, order_same, kids_same}
 use Rattle.module_unique.proofs.ClearValues.{default_same}
 
-abbrev pub unplaced : List Fault → List Fault
-unplaced fs = map (λ (f : Fault). record f { at = 0 }) fs
+abbrev pub unplaced : List TextFault → List TextFault
+unplaced fs = map (λ (f : TextFault). record f { at = 0 }) fs
 
-joined : (xs ys : List Fault) → unplaced (xs ++ ys) ≡ unplaced xs ++ unplaced ys
+joined : (xs ys : List TextFault) → unplaced (xs ++ ys) ≡ unplaced xs ++ unplaced ys
 joined [] ys = refl
 joined (x ∷ xs) ys = ap (λ fs. record x { at = 0 } ∷ fs) (joined xs ys)
 
-both : (xs ys zs ws : List Fault) → unplaced xs ≡ zs → unplaced ys ≡ ws → unplaced (xs ++ ys) ≡ zs ++ ws
-both xs ys zs ws e f = joined xs ys ∙ ap₂ (λ (us : List Fault) vs. us ++ vs) e f
+both : (xs ys zs ws : List TextFault) → unplaced xs ≡ zs → unplaced ys ≡ ws → unplaced (xs ++ ys) ≡ zs ++ ws
+both xs ys zs ws e f = joined xs ys ∙ ap₂ (λ (us : List TextFault) vs. us ++ vs) e f
 
 one : (b c : Bool) (at : ℕ) (why : ModuleWhy) → b ≡ c → unplaced (unless c at why) ≡ unless b 0 why
 one b true at why e = rw e refl
@@ -314,7 +314,7 @@ module _ (P : List PlainAssignment) where
       let spaces : rule.space_at Q outer (clear_part_marks part.marks) (clear_type t) ≡ space =
       ap (λ s. rule.space_at Q s (clear_part_marks part.marks) (clear_type t)) spots ∙ space_same inner part.marks t in
       let f1 = unless (not (rule.is_listed before part.identifier)) part.at Duplicate in
-      let f2 : List Fault = if rule.is_bare part (label_of t) then rule.reference_faults P (label_of t).form else [] in
+      let f2 : List TextFault = if rule.is_bare part (label_of t) then rule.reference_faults P (label_of t).form else [] in
       let f3 = unless (rule.is_named_so nameless l.form part) part.at Spelling in
       let f4 = rule.part_mark_faults (is_some space) part.identifier None part.marks in
       let f5 = rule.type_faults P inner (nat_lt 0 front) t in
@@ -365,7 +365,7 @@ module _ (P : List PlainAssignment) where
   from_clear (a ∷ others) before =
       both (rule.assignment_faults P before a) _ _ _ (assignment_clear before a) (from_clear others (before ++ a.reference ∷ []))
 
-nothing_placed : (fs : List Fault) → unplaced fs ≡ [] → fs ≡ []
+nothing_placed : (fs : List TextFault) → unplaced fs ≡ [] → fs ≡ []
 nothing_placed [] e = refl
 nothing_placed (f ∷ fs) e = absurd (cc)
 

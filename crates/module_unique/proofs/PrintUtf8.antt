@@ -39,7 +39,7 @@ use Rattle.module_text.specs.Plain.{IsTypeMark, IsValue, AreValues, IsFixed, IsA
 use Rattle.module_text.specs.Texts.{as_text, part_mark_text, type_mark_text, part_marks_text, type_marks_text, value_text, value_texts, all_of, fixed_text, absence_text, parts_of, level_of_parts, form_text, part_text, type_text, part_texts, assignment_text, text_of}
 use Rattle.module_text.proofs.Ascii.{identifier_utf8, reference_utf8}
 use Rattle.module_text.specs.declared.reasons.ModuleWhy.TheVariants.{Duplicate, LongChain, Spelling}
-use Rattle.module_text.specs.declared.reasons.Fault.{Fault}
+use Rattle.module_text.specs.declared.reasons.TextFault.{TextFault}
 use Rattle.module_text.specs.declared.spots.Spot.{Spot}
 use Rattle.module_text.specs.declared.spots.Spot.TheVariants.{Elsewhere}
 use Rattle.module_text.specs.Listed.{unless}
@@ -285,7 +285,7 @@ module _ (P : List PlainAssignment) where
         let inner = part_spot spot l i part in
         let space = space_at P inner part.marks t in
         let f1 = unless (not (is_listed before part.identifier)) part.at Duplicate in
-        let f2 : List Fault = if is_bare part (label_of t) then reference_faults P (label_of t).form else [] in
+        let f2 : List TextFault = if is_bare part (label_of t) then reference_faults P (label_of t).form else [] in
         let f3 = unless (is_named_so nameless l.form part) part.at Spelling in
         let f4 = part_mark_faults (is_some space) part.identifier None part.marks in
         let f5 = type_faults P inner (nat_lt 0 front_parts) t in

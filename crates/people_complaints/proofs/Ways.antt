@@ -7,11 +7,11 @@ use Rattle.std.proofs.lemmas.List.Sums.{sum_by-append}
 use Rattle.base_trees.specs.Rose.{Rose, roses_of, label_of, kids_of, node_count, count_all}
 use Rattle.base_trees.proofs.Roses.{node_count-kids, count_all-append}
 use Rattle.xml_items.specs.declared.label.ItemLabel.{ItemLabel}
-use Rattle.people_complaints.specs.Paths.{BeginsBy, Way, Ends, root_step, IsPath}
+use Rattle.people_complaints.specs.Paths.{BeginsBy, PathTo, Ends, root_step, IsPath}
 
 -- where each way on from an element is one from the root, and the way ends there, the steps so far are the path
 pub path_to : (at : ℕ) (items tree : Rose ItemLabel) (path steps : List ℕ) → path ≡ root_step (label_of items) ++ steps → Ends at tree
-    → ((elements : List (Rose ItemLabel)) (later : List ℕ) → Way at tree elements later → (all : List (Rose ItemLabel)) × Way at items all (steps ++ later))
+    → ((elements : List (Rose ItemLabel)) (later : List ℕ) → PathTo at tree elements later → (all : List (Rose ItemLabel)) × PathTo at items all (steps ++ later))
     → IsPath at items path
 path_to at items tree path steps e ends on =
     let here = on [] [] (ends, refl) in

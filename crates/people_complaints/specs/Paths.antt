@@ -68,9 +68,9 @@ Ends at tree =
     ⊎ ((before behind : List (Rose ItemLabel)) × (kid : Rose ItemLabel) × IsLastBy at (kids_of tree) before kid behind × IsText (label_of kid))
 
 -- the steps from an element, down by these, to the innermost that stands round the byte
-abbrev pub Way : ℕ → Rose ItemLabel → List (Rose ItemLabel) → List ℕ → Type 0
-Way at tree [] steps = Ends at tree × (steps ≡ [])
-Way at tree (kid ∷ kids) steps = (text later : List ℕ) × IsStep at tree kid text × Way at kid kids later × (steps ≡ text ++ later)
+abbrev pub PathTo : ℕ → Rose ItemLabel → List (Rose ItemLabel) → List ℕ → Type 0
+PathTo at tree [] steps = Ends at tree × (steps ≡ [])
+PathTo at tree (kid ∷ kids) steps = (text later : List ℕ) × IsStep at tree kid text × PathTo at kid kids later × (steps ≡ text ++ later)
 
 -- the step to the root, which is the only one
 abbrev pub root_step : ItemLabel → List ℕ
@@ -81,5 +81,5 @@ root_step (Text text at) = []
 pub record IsPath (at : ℕ) (items : Rose ItemLabel) (path : List ℕ) : Type 0 where
   pub elements : List (Rose ItemLabel)
   pub steps : List ℕ
-  pub way : Way at items elements steps
+  pub way : PathTo at items elements steps
   pub text : path ≡ root_step (label_of items) ++ steps

@@ -7,5 +7,5 @@ mod answering;
 mod results;
 mod stamps;
 
-pub use results::{Fault, behind_stamp, due_of, module_of, stamp_of_files, stamped};
+pub use results::{NoResult, behind_stamp, due_of, module_of, stamp_of_files, stamped};
 pub use stamps::{LENGTH, stamp_line, stamp_of};

@@ -14,15 +14,15 @@ use transcode_words::Outcome;
 
 /// Why there is nothing to be written.
 #[derive(Clone, Copy)]
-pub enum Fault {
+pub enum NoResult {
     Outcome(Outcome),
     /// The octets begin with another stamp than that of the schemas.
     Stamp,
 }
 
-impl From<Outcome> for Fault {
-    fn from(outcome: Outcome) -> Fault {
-        Fault::Outcome(outcome)
+impl From<Outcome> for NoResult {
+    fn from(outcome: Outcome) -> NoResult {
+        NoResult::Outcome(outcome)
     }
 }
 
@@ -124,19 +124,19 @@ pub fn stamped<F: Library, S: Source>(
 }
 
 // Takes the next octet, which has to be this one.
-fn take_octet<S: Source>(input: &mut S, due: u8) -> Result<(), Fault>
+fn take_octet<S: Source>(input: &mut S, due: u8) -> Result<(), NoResult>
     ensures { OnOk result (Consumes (S.left input.old) (S.left input.new) (due ∷ [])) }
 {
     let mut octet = [0u8; 1];
     match input.read(&mut octet) {
         Ok(count) if count == 1 && octet[0] == due => Ok(()),
-        Ok(_) => Err(Fault::Stamp),
-        Err(Failed) => Err(Fault::Outcome(Outcome::ReadFault)),
+        Ok(_) => Err(NoResult::Stamp),
+        Err(Failed) => Err(NoResult::Outcome(Outcome::ReadFault)),
     }
 }
 
 // Takes the stamp before the octets.
-fn take_stamp<S: Source>(input: &mut S, stamp: [u8; LENGTH]) -> Result<(), Fault>
+fn take_stamp<S: Source>(input: &mut S, stamp: [u8; LENGTH]) -> Result<(), NoResult>
     ensures { OnOk result (Consumes (S.left input.old) (S.left input.new) stamp) }
 {
     for octet in stamp {
@@ -153,7 +153,7 @@ pub fn behind_stamp<F: Library, S: Source>(
     files: &[Text],
     library: &mut F,
     input: &mut S,
-) -> Result<Vec<u8>, Fault>
+) -> Result<Vec<u8>, NoResult>
     ensures { IfOk result (λ bytes. IsBehindStamp (rule.fixed_words command.now root.now files.now) files.now (F.entries library.old) (S.left input.old) bytes.items) }
 {
     let stamp = stamp_of_files(alloc, files, library)?;

@@ -21,8 +21,8 @@ use Rattle.per_fields.specs.Nodes.{text_at, content_at, is_no_text, entered_at, 
 use Rattle.per_fields.specs.Owning.{owns}
 use Rattle.per_fields.proofs.Owns.{owns_own, own_owns}
 use Rattle.per_fields.proofs.Unfolding.{node_recursion}
-use Rattle.per_decode.specs.declared.faults.Fault.{Fault}
-use Rattle.per_decode.specs.declared.faults.Fault.TheVariants as fault
+use Rattle.per_decode.specs.declared.faults.PerEnd.{PerEnd}
+use Rattle.per_decode.specs.declared.faults.PerEnd.TheVariants as fault
 use Rattle.per_decode.specs.Private.Giving.{Halt, stopped, halt_of, spot, end_of, FailsAt, Shows, Gives, input}
 use Rattle.per_decode.specs.Private.Bodies.{IsKnown, kid_at, fields_at, body_at, octets_kept, kept_by}
 use Rattle.per_decode.proofs.Ends.{SteadyReader, fails_first}
@@ -60,7 +60,7 @@ module _ (M : List Assignment) (known : IsKnown M) (t : Rose TypeLabel) (of : Is
         by false e = omega (arith, ap end_of e)
 
     -- what they say, where octets were taken up to its end
-    pub owned_shows : {A : Type 0} (limit : ℕ) (whole : List ℕ) (stop : Stop) (taken : ℕ) (w : Rose ValueLabel) (answer : Result A Fault)
+    pub owned_shows : {A : Type 0} (limit : ℕ) (whole : List ℕ) (stop : Stop) (taken : ℕ) (w : Rose ValueLabel) (answer : Result A PerEnd)
         → 8 * taken ≤ r.at + 7 → IfOk answer (λ _. w ≡ v) → IfOk answer (λ _. Own M t v)
         → IfErr answer (λ e. (e ≡ fault.Memory) ⊎ ((e ≡ fault.Stopped) × (stop ≡ stop_at begin why.NotAValue r.at) × (Own M t v → ⊥)))
         → Shows limit whole (λ _. w) answer r stop taken (owned_at M begin (resolve M t) (v, r))
@@ -121,7 +121,7 @@ module _ (aligned : Bool) (M : List Assignment) (known : IsKnown M) (depth : ℕ
         by (Err e) = refl
 
   -- what the rules say of a value that was read, where octets were taken up to its end
-  pub body_gives : {A : Type 0} (begin : ℕ) (s : Spot) (v : Rose ValueLabel) (r : Spot) (limit : ℕ) (whole : List ℕ) (stop : Stop) (taken : ℕ) (w : Rose ValueLabel) (answer : Result A Fault)
+  pub body_gives : {A : Type 0} (begin : ℕ) (s : Spot) (v : Rose ValueLabel) (r : Spot) (limit : ℕ) (whole : List ℕ) (stop : Stop) (taken : ℕ) (w : Rose ValueLabel) (answer : Result A PerEnd)
       → fields_at aligned M depth (resolve M t) (input limit whole) s ≡ Ok (v, r) → is_no_text (label_of v) ≡ false → 8 * taken ≤ r.at + 7
       → IfOk answer (λ _. w ≡ v) → IfOk answer (λ _. Own M t v)
       → IfErr answer (λ e. (e ≡ fault.Memory) ⊎ ((e ≡ fault.Stopped) × (stop ≡ stop_at begin why.NotAValue r.at) × (Own M t v → ⊥)))
@@ -131,7 +131,7 @@ module _ (aligned : Bool) (M : List Assignment) (known : IsKnown M) (depth : ℕ
       (owned_shows M known t of begin v r text limit whole stop taken w answer step is own err)
 
   -- where every value keeps the rules, the fields are all
-  pub body_plain : {A : Type 0} (begin : ℕ) (s : Spot) (r : Spot) (limit : ℕ) (whole : List ℕ) (stop : Stop) (taken : ℕ) (w : Rose ValueLabel) (answer : Result A Fault)
+  pub body_plain : {A : Type 0} (begin : ℕ) (s : Spot) (r : Spot) (limit : ℕ) (whole : List ℕ) (stop : Stop) (taken : ℕ) (w : Rose ValueLabel) (answer : Result A PerEnd)
       → s.at ≤ length (input limit whole) → ((v : Rose ValueLabel) → Own M t v) → IfOk answer (λ _. is_no_text (label_of w) ≡ false)
       → Gives limit whole (λ _. w) answer r stop taken (fields_at aligned M depth (resolve M t)) s → Gives limit whole (λ _. w) answer r stop taken (body_at aligned M depth begin (resolve M t)) s
   body_plain begin s r limit whole stop taken w (Ok x) inside own text read = ap (λ x. x >>= λ v. owned_at M begin (resolve M t) v) read ∙ owned-own M known t of begin w r text (own w)

@@ -15,7 +15,7 @@ use Rattle.asn_types.specs.Refs.{resolve}
 use Rattle.asn_values.specs.Values.{ComponentPlace, place_of, present_from, place_at, alone, repeated, none_if, places_in, places, below, FitsAt, FitEach, Own, Kept}
 use Rattle.asn_values.specs.Private.Placing.{FitPlaces, FitKids}
 use Rattle.asn_values.proofs.Counting.{fit_none, fits-from_kids}
-use Rattle.per_decode.specs.declared.faults.Fault.{Fault}
+use Rattle.per_decode.specs.declared.faults.PerEnd.{PerEnd}
 use Rattle.per_decode.specs.Private.Bodies.{text_leaf, FitAll, FitSome}
 use Rattle.asn_values.proofs.Standards.{free-kept}
 
@@ -109,16 +109,16 @@ module _ (M : List Assignment) (depth : ℕ) where
         (all-each p free vs h)
 
   -- A VALUE THAT KEEPS THE RULES OF ITS NODE, with the kids that it had
-  pub own_fits : {A : Type 0} (t : Rose TypeLabel) (v w : Rose ValueLabel) (answer : Result A Fault) → depth ≤ 64 → FitKids M depth (resolve M t) v → IfOk answer (λ _. w ≡ v) → IfOk answer (λ _. Own M t v) → IfOk answer (λ _. FitsAt M depth t w)
+  pub own_fits : {A : Type 0} (t : Rose TypeLabel) (v w : Rose ValueLabel) (answer : Result A PerEnd) → depth ≤ 64 → FitKids M depth (resolve M t) v → IfOk answer (λ _. w ≡ v) → IfOk answer (λ _. Own M t v) → IfOk answer (λ _. FitsAt M depth t w)
   own_fits t v w (Ok x) deep kids is own = subst (FitsAt M depth t) (sym is) (fits-from_kids M depth t v deep kids own)
   own_fits t v w (Err e) deep kids is own = tt
 
   -- a text
-  pub text_fits : {A : Type 0} (t : Rose TypeLabel) (w : Rose ValueLabel) (answer : Result A Fault) → depth ≤ 64 → (least : ℕ) (most : Option ℕ) (class : _) → (label_of (resolve M t)).form ≡ form.Utf8 least most class
+  pub text_fits : {A : Type 0} (t : Rose TypeLabel) (w : Rose ValueLabel) (answer : Result A PerEnd) → depth ≤ 64 → (least : ℕ) (most : Option ℕ) (class : _) → (label_of (resolve M t)).form ≡ form.Utf8 least most class
       → IfOk answer (λ _. (text : List ℕ) × (w ≡ text_leaf text)) → IfOk answer (λ _. Own M t w) → IfOk answer (λ _. FitsAt M depth t w)
   text_fits t w (Ok x) deep least most class is leaf own = fits-from_kids M depth t w deep (subst (FitKids M depth (resolve M t)) (sym leaf.1) (fit-text (resolve M t) least most class leaf.0 is)) own
   text_fits t w (Err e) deep least most class is leaf own = tt
 
-pub own_counts : {A : Type 0} (a b : ℕ) (v w : Rose ValueLabel) (answer : Result A Fault) → a + 1 ≡ b + node_count v → IfOk answer (λ _. w ≡ v) → IfOk answer (λ _. a + 1 ≡ b + node_count w)
+pub own_counts : {A : Type 0} (a b : ℕ) (v w : Rose ValueLabel) (answer : Result A PerEnd) → a + 1 ≡ b + node_count v → IfOk answer (λ _. w ≡ v) → IfOk answer (λ _. a + 1 ≡ b + node_count w)
 own_counts a b v w (Ok x) e is = subst (λ u. a + 1 ≡ b + node_count u) (sym is) e
 own_counts a b v w (Err f) e is = tt

@@ -15,7 +15,7 @@ use Rattle.per_fields.specs.Reading.{◌>>=◌, Reader, each_at}
 use Rattle.per_fields.specs.Fields.{number_at, list_at}
 use Rattle.simple_types.specs.declared.standards.Standard.TheVariants.{Free}
 use Rattle.per_fields.specs.Nodes.{node_read, flag_at, bool_at, int_at, enum_at, sequence_at, choice_at, items_at, content_at, kids_at}
-use Rattle.per_decode.specs.declared.faults.Fault.{Fault}
+use Rattle.per_decode.specs.declared.faults.PerEnd.{PerEnd}
 use Rattle.per_decode.specs.Private.Giving.{Halt, memory, FailsAt, Shows}
 use Rattle.per_decode.specs.Private.Bodies.{kid_at, fields_at, kids_read, many_at, item_place}
 use Rattle.per_decode.proofs.Ends.{Sits, SteadyReader, sits-each, fails_first, sits-number}
@@ -23,7 +23,7 @@ use Rattle.per_decode.proofs.EndNodes.{sits-kid, sits-kids, sits-flags}
 use Rattle.per_decode.proofs.Free.{free-read}
 
 -- what a reading shows, another does that is equal to it
-pub shows_as : {A B : Type 0} (limit : ℕ) (whole : List ℕ) (view : A → B) (r : Result A Fault) (new : Spot) (stop : Stop) (taken : ℕ) (found other : Result (B × Spot) Stop) → other ≡ found → Shows limit whole view r new stop taken found → Shows limit whole view r new stop taken other
+pub shows_as : {A B : Type 0} (limit : ℕ) (whole : List ℕ) (view : A → B) (r : Result A PerEnd) (new : Spot) (stop : Stop) (taken : ℕ) (found other : Result (B × Spot) Stop) → other ≡ found → Shows limit whole view r new stop taken found → Shows limit whole view r new stop taken other
 shows_as limit whole view r new stop taken found other e h = subst (Shows limit whole view r new stop taken) (sym e) h
 
 module _ (aligned : Bool) (M : List Assignment) (depth : ℕ) (t : Rose TypeLabel) (X : List Bool) (s : Spot) where

@@ -7,11 +7,11 @@ use Rattle.base_codecs.specs.declared.spots.Spot.{Spot}
 use Rattle.per_fields.specs.declared.stops.Stop.{Stop}
 use Rattle.per_fields.specs.declared.stops.Why.TheVariants as why
 use Rattle.per_fields.specs.Reading.{stop_at}
-use Rattle.per_decode.specs.declared.faults.Fault.{Fault}
-use Rattle.per_decode.specs.declared.faults.Fault.TheVariants as fault
+use Rattle.per_decode.specs.declared.faults.PerEnd.{PerEnd}
+use Rattle.per_decode.specs.declared.faults.PerEnd.TheVariants as fault
 use Rattle.per_decode.specs.Private.Giving.{short, too_long, halt_of, end_of, IsRead, FailsAt}
 
-pub fails_inside : {B : Type 0} (limit : ℕ) (whole : List ℕ) (taken : ℕ) (read : Result (B × Spot) Stop) (f : Fault) (stop : Stop) (begin : ℕ) (e : CursorError)
+pub fails_inside : {B : Type 0} (limit : ℕ) (whole : List ℕ) (taken : ℕ) (read : Result (B × Spot) Stop) (f : PerEnd) (stop : Stop) (begin : ℕ) (e : CursorError)
     → (((f ≡ fault.Failed) × (e ≡ cursor.Failed)) ⊎ (((f ≡ fault.Short) × (stop.bit ≡ begin) × (e ≡ cursor.Short)) ⊎ ((f ≡ fault.TooLong) × (stop.bit ≡ begin) × (e ≡ cursor.TooLong))))
     → (e ≡ cursor.Failed → (8 * taken ≤ end_of read + 7) × (IsRead read → 8 * taken < end_of read))
     → (e ≡ cursor.Short → (read ≡ Err (stop_at begin why.Short (8 * taken))) × (length whole < limit))

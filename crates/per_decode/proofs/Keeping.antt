@@ -15,8 +15,8 @@ use Rattle.per_fields.specs.Nodes.{unkept_why, kept_at, node_read}
 use Rattle.per_fields.specs.Owning.{keeps, is_standard}
 use Rattle.per_fields.proofs.Owns.{keeps_kept}
 use Rattle.per_fields.specs.Stops.{is_short}
-use Rattle.per_decode.specs.declared.faults.Fault.{Fault}
-use Rattle.per_decode.specs.declared.faults.Fault.TheVariants as fault
+use Rattle.per_decode.specs.declared.faults.PerEnd.{PerEnd}
+use Rattle.per_decode.specs.declared.faults.PerEnd.TheVariants as fault
 use Rattle.per_decode.specs.Private.Giving.{Halt, stopped, halt_of, end_of, FailsAt, Shows, Gives, input}
 use Rattle.per_decode.specs.Private.Bodies.{part_read}
 use Rattle.per_decode.proofs.EndNodes.{sits-node, sits-kept}
@@ -48,7 +48,7 @@ module _ (M : List Assignment) (part : Component) (t : Rose TypeLabel) (begin : 
       by false = refl
 
   -- what is said of a value that was read, where octets were taken up to its end
-  kept_shows : {A : Type 0} (limit : ℕ) (whole : List ℕ) (stop : Stop) (taken : ℕ) (w : Rose ValueLabel) (answer : Result A Fault)
+  kept_shows : {A : Type 0} (limit : ℕ) (whole : List ℕ) (stop : Stop) (taken : ℕ) (w : Rose ValueLabel) (answer : Result A PerEnd)
       → 8 * taken ≤ r.at + 7 → IfOk answer (λ _. w ≡ v) → IfOk answer (λ _. Kept M part t v)
       → IfErr answer (λ e. (e ≡ fault.Memory) ⊎ ((e ≡ fault.Stopped) × (stop ≡ stop_at begin (unkept_why M part t v) r.at) × (Kept M part t v → ⊥)))
       → Shows limit whole (λ _. w) answer r stop taken (kept_at M part t begin (v, r))
@@ -62,16 +62,16 @@ module _ (M : List Assignment) (part : Component) (t : Rose TypeLabel) (begin : 
           (subst (λ u. FailsAt limit whole (stopped u) taken (kept_at M part t begin (v, r))) (sym n.1) (kept-not n.2, step, never_short))
 
 -- what is put down of a value is what was told of it
-pub told_of : {A : Type 0} (P : Rose ValueLabel → Type 0) (v w : Rose ValueLabel) (answer : Result A Fault) → P v → IfOk answer (λ _. w ≡ v) → IfOk answer (λ _. P w)
+pub told_of : {A : Type 0} (P : Rose ValueLabel → Type 0) (v w : Rose ValueLabel) (answer : Result A PerEnd) → P v → IfOk answer (λ _. w ≡ v) → IfOk answer (λ _. P w)
 told_of P v w (Ok x) h is = subst P (sym is) h
 told_of P v w (Err e) h is = tt
 
-pub kept_of : {A : Type 0} (M : List Assignment) (part : Component) (t : Rose TypeLabel) (v w : Rose ValueLabel) (answer : Result A Fault) → IfOk answer (λ _. w ≡ v) → IfOk answer (λ _. Kept M part t v) → IfOk answer (λ _. Kept M part t w)
+pub kept_of : {A : Type 0} (M : List Assignment) (part : Component) (t : Rose TypeLabel) (v w : Rose ValueLabel) (answer : Result A PerEnd) → IfOk answer (λ _. w ≡ v) → IfOk answer (λ _. Kept M part t v) → IfOk answer (λ _. Kept M part t w)
 kept_of M part t v w (Ok x) is kept = subst (Kept M part t) (sym is) kept
 kept_of M part t v w (Err e) is kept = tt
 
 module _ (aligned : Bool) (M : List Assignment) (depth : ℕ) (part : Component) (t : Rose TypeLabel) where
-  pub part_gives : {A : Type 0} (s : Spot) (v : Rose ValueLabel) (r : Spot) (limit : ℕ) (whole : List ℕ) (stop : Stop) (taken : ℕ) (w : Rose ValueLabel) (answer : Result A Fault)
+  pub part_gives : {A : Type 0} (s : Spot) (v : Rose ValueLabel) (r : Spot) (limit : ℕ) (whole : List ℕ) (stop : Stop) (taken : ℕ) (w : Rose ValueLabel) (answer : Result A PerEnd)
       → node_read aligned M depth t (input limit whole) s ≡ Ok (v, r) → 8 * taken ≤ r.at + 7
       → IfOk answer (λ _. w ≡ v) → IfOk answer (λ _. Kept M part t v)
       → IfErr answer (λ e. (e ≡ fault.Memory) ⊎ ((e ≡ fault.Stopped) × (stop ≡ stop_at s.at (unkept_why M part t v) r.at) × (Kept M part t v → ⊥)))

@@ -17,8 +17,8 @@ use Rattle.per_fields.specs.Reading.{◌>>=◌, Reader, stop_at, stop_if, octets
 use Rattle.per_fields.specs.Fields.{Piece, Last, Units, unit, count_at, fragments_at, counted_at}
 use Rattle.per_fields.specs.Nodes.{owned_at}
 use Rattle.per_fields.specs.Owning.{owns}
-use Rattle.per_decode.specs.declared.faults.Fault.{Fault}
-use Rattle.per_decode.specs.declared.faults.Fault.TheVariants.{Memory, Stopped}
+use Rattle.per_decode.specs.declared.faults.PerEnd.{PerEnd}
+use Rattle.per_decode.specs.declared.faults.PerEnd.TheVariants.{Memory, Stopped}
 use Rattle.per_decode.specs.Private.Giving.{Halt, stopped, memory, halt_of, end_of, FailsAt, Shows}
 use Rattle.per_decode.specs.Private.Bodies.{IsKnown, text_leaf, octets_kept, kept_by}
 use Rattle.per_decode.specs.Private.Kept.{octets_more, octets_behind}
@@ -112,7 +112,7 @@ module _ (M : List Assignment) (known : IsKnown M) (begin : ℕ) (t : Rose TypeL
   is_text : IsUtf8 octets → not (is_utf8 octets) ≡ false
   is_text utf8 = ap not (is_utf8-from_IsUtf8 octets utf8)
 
-  pub text_shows : {A : Type 0} (limit : ℕ) (whole : List ℕ) (stop : Stop) (taken : ℕ) (w : Rose ValueLabel) (answer : Result A Fault)
+  pub text_shows : {A : Type 0} (limit : ℕ) (whole : List ℕ) (stop : Stop) (taken : ℕ) (w : Rose ValueLabel) (answer : Result A PerEnd)
       → 8 * taken ≤ r.at + 7 → IfOk answer (λ _. w ≡ text_leaf octets) → IfOk answer (λ _. IsUtf8 octets × Own M t (text_leaf octets))
       → IfErr answer (λ e. (e ≡ Memory) ⊎ ((e ≡ Stopped) × (stop ≡ stop_at begin NotUtf8 r.at) × (IsUtf8 octets → ⊥)) ⊎ ((e ≡ Stopped) × (stop ≡ stop_at begin NotAValue r.at) × IsUtf8 octets × (Own M t (text_leaf octets) → ⊥)))
       → Shows limit whole (λ _. w) answer r stop taken (octets_kept M begin (resolve M t) (octets, r))

@@ -5,8 +5,8 @@ use Rattle.per_fields.specs.declared.stops.Stop.{Stop}
 use Rattle.per_fields.specs.Reading.{◌>>=◌, Reader, bits_at}
 use Rattle.per_fields.specs.Fields.{skip_at, Piece, Last, Units, unit, length_from, length_here, count_here, count_at, fragments_at}
 use Rattle.base_codecs.proofs.Codecs.{bind_ok, stop_ok, ok_is}
-use Rattle.per_decode.specs.declared.faults.Fault.{Fault}
-use Rattle.per_decode.specs.declared.faults.Fault.TheVariants as fault
+use Rattle.per_decode.specs.declared.faults.PerEnd.{PerEnd}
+use Rattle.per_decode.specs.declared.faults.PerEnd.TheVariants as fault
 use Rattle.std.specs.Prelude.{IfOk, IfErr}
 use Rattle.per_decode.specs.Private.Giving.{Halt, halt_of, memory, end_of, FailsAt, Shows}
 use Rattle.per_decode.proofs.Ends.{Sits, SteadyReader, Steady, sits_then, sits-bits, sits-skip, sits-length_from, sits-count, sits-fragments, fails_first}
@@ -177,7 +177,7 @@ module _ (aligned : Bool) {A : Type 0} (least : ℕ) (most : Option ℕ) (items 
       omega (arith, k.later, step)
 
 -- octets or items put behind others, where memory may be missing
-pub joined_shows : {A B : Type 0} (limit : ℕ) (whole : List ℕ) (view : A → List B) (r : Result A Fault) (front got : List B) (new : Spot) (stop : Stop) (taken : ℕ) (found : Result (List B × Spot) Stop)
+pub joined_shows : {A B : Type 0} (limit : ℕ) (whole : List ℕ) (view : A → List B) (r : Result A PerEnd) (front got : List B) (new : Spot) (stop : Stop) (taken : ℕ) (found : Result (List B × Spot) Stop)
     → found ≡ Ok (front ++ got, new) → 8 * taken ≤ new.at + 7 → IfOk r (λ all. view all ≡ front ++ got) → IfErr r (λ e. e ≡ fault.Memory) → Shows limit whole view r new stop taken found
 joined_shows limit whole view (Ok all) front got new stop taken found is step ok err = is ∙ ap (λ bs. Ok (bs, new)) (sym ok)
 joined_shows {B = B} limit whole view (Err e) front got new stop taken found is step ok err = subst (λ f. FailsAt limit whole (halt_of f stop) taken found) (sym err) (omega (arith, step, ap (end_of {B = List B}) is))

@@ -13,7 +13,7 @@ ghost use Rattle.per_decode.specs.Private.Bodies.{IsKnown, complete_at};
 
 use crate::decoded::Decoded;
 use crate::errors::DecodeError;
-use crate::faults::Fault;
+use crate::faults::PerEnd;
 use crate::nodes::node;
 use crate::run::{Origin, Run};
 use asn_types::{Module, TypeLabel, resolve};
@@ -28,7 +28,7 @@ use std::marker::{Brand, PhantomData};
 
 // What pads the last octet, or stands for no bits.
 #[tactic(auto, unfolding(per_fields::specs::Nodes::last_at))]
-fn last<S: Source, K: Origin, V: Variant>(run: &mut Run<S, K, V>) -> Result<(), Fault>
+fn last<S: Source, K: Origin, V: Variant>(run: &mut Run<S, K, V>) -> Result<(), PerEnd>
     requires in_step { IsInStep run.old.bits.position run.old.bits.taken }
     ensures same_reference { run.new.bits.source.ghost_name ≡ run.old.bits.source.ghost_name }
     ensures on { OnOk result (GoesOn run.old.bits.position run.new.bits.position run.new.bits.taken) }
@@ -36,7 +36,7 @@ fn last<S: Source, K: Origin, V: Variant>(run: &mut Run<S, K, V>) -> Result<(), 
     ensures whole { OnOk result (run.new.bits.position % 8 ≡ 0) }
     ensures gives { IsTrue K.told → Gives K.limit K.whole (λ x. 0) result (spot run.new.bits.position run.new.nodes) run.new.stop run.new.bits.taken
         (last_at) (spot run.old.bits.position run.old.nodes) }
-    ensures failed { IsErrOf result Fault.Failed → HasRisen K.faults (S.faults run.new.bits.source.now) }
+    ensures failed { IsErrOf result PerEnd.Failed → HasRisen K.faults (S.faults run.new.bits.source.now) }
 {
     if run.position() == 0 {
         let octet = run.take_bits(0, 8)?;
@@ -54,7 +54,7 @@ fn complete<S: Source, K: Origin, V: Variant>(
     module: &Module,
     run: &mut Run<S, K, V>,
     body: &Tree<TypeLabel>,
-) -> Result<(Flat<ValueLabel>, u64), Fault>
+) -> Result<(Flat<ValueLabel>, u64), PerEnd>
     requires known { IsKnown module.now }
     requires of { IsOf module.now body.now }
     requires in_step { IsInStep run.old.bits.position run.old.bits.taken }
@@ -65,7 +65,7 @@ fn complete<S: Source, K: Origin, V: Variant>(
     ensures octets { IfOk result (λ found. (run.new.bits.position ≡ 8 * run.new.bits.taken) × (found.1 ≡ run.new.bits.taken)) }
     ensures gives { IsTrue K.told → Gives K.limit K.whole (λ found. found.0) result (spot run.new.bits.position run.new.nodes) run.new.stop run.new.bits.taken
         (complete_at V.ALIGNED module.now body.now) (spot run.old.bits.position run.old.nodes) }
-    ensures failed { IsErrOf result Fault.Failed → HasRisen K.faults (S.faults run.new.bits.source.now) }
+    ensures failed { IsErrOf result PerEnd.Failed → HasRisen K.faults (S.faults run.new.bits.source.now) }
 {
     let mut values = Builder::new(alloc);
     let found = resolve(module, body);
@@ -75,21 +75,21 @@ fn complete<S: Source, K: Origin, V: Variant>(
 }
 
 // What a fault is to the caller.
-fn told(fault: Fault, stop: Stop) -> DecodeError
+fn told(fault: PerEnd, stop: Stop) -> DecodeError
     ensures { result ≡ error_of (halt_of fault stop) }
 {
     match fault {
-        Fault::Stopped => DecodeError::Bad {
+        PerEnd::Stopped => DecodeError::Bad {
             bit: stop.bit,
             why: stop.why,
         },
-        Fault::Short => DecodeError::Bad {
+        PerEnd::Short => DecodeError::Bad {
             bit: stop.bit,
             why: Why::Short,
         },
-        Fault::TooLong => DecodeError::TooLong,
-        Fault::Failed => DecodeError::Failed,
-        Fault::Memory => DecodeError::Memory,
+        PerEnd::TooLong => DecodeError::TooLong,
+        PerEnd::Failed => DecodeError::Failed,
+        PerEnd::Memory => DecodeError::Memory,
     }
 }
 

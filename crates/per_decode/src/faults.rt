@@ -1,5 +1,5 @@
 //! Why reading ends before the value.
-ghost use Rattle.per_decode.specs.declared.faults.Fault.TheVariants as faults;
+ghost use Rattle.per_decode.specs.declared.faults.PerEnd.TheVariants as faults;
 ghost use Rattle.std.specs.Prelude.{◌≡◌, ◌⊎◌};
 
 use base_codecs::CursorError;
@@ -10,7 +10,7 @@ use std::alloc::AllocError;
 /// Why reading ends before the value. It is one octet, since every step of reading answers so: what else there is to tell
 /// stands where reading is (`Run::stop`).
 #[derive(Clone, Copy)]
-pub(crate) enum Fault {
+pub(crate) enum PerEnd {
     /// A fault of a field that is whole, or of a node: the stop.
     Stopped,
     /// The octets end inside the field that begins at the bit of the stop.
@@ -21,52 +21,52 @@ pub(crate) enum Fault {
     Memory,
 }
 
-impl From<AllocError> for Fault {
+impl From<AllocError> for PerEnd {
     ghost from_gives = { λ _ fault. fault ≡ faults.Memory };
 
-    fn from(_: AllocError) -> Fault {
-        Fault::Memory
+    fn from(_: AllocError) -> PerEnd {
+        PerEnd::Memory
     }
 }
 
-impl From<Memory> for Fault {
+impl From<Memory> for PerEnd {
     ghost from_gives = { λ _ fault. fault ≡ faults.Memory };
 
-    fn from(_: Memory) -> Fault {
-        Fault::Memory
+    fn from(_: Memory) -> PerEnd {
+        PerEnd::Memory
     }
 }
 
 /// The fault of a field or a node from `bit` to `end`, which becomes the stop.
 #[inline(always)]
-pub(crate) fn stopped(stop: &mut Stop, bit: u64, why: Why, end: u64) -> Fault
-    ensures fault { result ≡ Fault.Stopped }
+pub(crate) fn stopped(stop: &mut Stop, bit: u64, why: Why, end: u64) -> PerEnd
+    ensures fault { result ≡ PerEnd.Stopped }
     ensures stop { stop.new ≡ record { bit = bit; why = why; end = end } }
 {
     *stop = Stop { bit, why, end };
-    Fault::Stopped
+    PerEnd::Stopped
 }
 
 /// The fault of a field whose bits couldn't all be taken. Where they end inside it, the bit at which it begins becomes the
 /// bit of the stop.
 #[inline(always)]
-pub(crate) fn ended_inside(stop: &mut Stop, begin: u64, error: CursorError) -> Fault
+pub(crate) fn ended_inside(stop: &mut Stop, begin: u64, error: CursorError) -> PerEnd
     requires padding { error ≡ CursorError.Padding → ⊥ }
     requires memory { error ≡ CursorError.Memory → ⊥ }
-    ensures fault { ((result ≡ Fault.Failed) × (error ≡ CursorError.Failed))
-        ⊎ (((result ≡ Fault.Short) × (stop.new.bit ≡ begin) × (error ≡ CursorError.Short))
-        ⊎ ((result ≡ Fault.TooLong) × (stop.new.bit ≡ begin) × (error ≡ CursorError.TooLong))) }
-    ensures failed { result ≡ Fault.Failed → error ≡ CursorError.Failed }
+    ensures fault { ((result ≡ PerEnd.Failed) × (error ≡ CursorError.Failed))
+        ⊎ (((result ≡ PerEnd.Short) × (stop.new.bit ≡ begin) × (error ≡ CursorError.Short))
+        ⊎ ((result ≡ PerEnd.TooLong) × (stop.new.bit ≡ begin) × (error ≡ CursorError.TooLong))) }
+    ensures failed { result ≡ PerEnd.Failed → error ≡ CursorError.Failed }
 {
     match error {
-        CursorError::Failed => Fault::Failed,
+        CursorError::Failed => PerEnd::Failed,
         CursorError::Short => {
             stop.bit = begin;
-            Fault::Short
+            PerEnd::Short
         }
         CursorError::TooLong => {
             stop.bit = begin;
-            Fault::TooLong
+            PerEnd::TooLong
         }
         CursorError::Memory | CursorError::Padding => unreachable!(),
     }

@@ -14,7 +14,7 @@ ghost use Rattle.per_decode.specs.Private.Standing.{GoesOn};
 ghost use Rattle.per_decode.specs.Private.Giving.{Gives, spot};
 ghost use Rattle.per_decode.specs.Private.Newest.{newest};
 
-use crate::faults::Fault;
+use crate::faults::PerEnd;
 use crate::run::{Origin, Run};
 use asn_types::Component;
 use base_flat_trees::Builder;
@@ -25,9 +25,9 @@ use std::alloc::Global;
 
 // Puts a node without kids behind others.
 #[inline(always)]
-fn put_leaf(label: ValueLabel, values: &mut Builder<ValueLabel>) -> Result<(), Fault>
+fn put_leaf(label: ValueLabel, values: &mut Builder<ValueLabel>) -> Result<(), PerEnd>
     ensures ok { OnOk result (values.new ≡ added (node label none) values.old) }
-    ensures memory { IfErr result (λ fault. fault ≡ Fault.Memory) }
+    ensures memory { IfErr result (λ fault. fault ≡ PerEnd.Memory) }
 {
     values.leaf(label)?;
     Ok(())
@@ -38,7 +38,7 @@ fn put_leaf(label: ValueLabel, values: &mut Builder<ValueLabel>) -> Result<(), F
 pub(crate) fn boolean<S: Source, K: Origin, V: Variant>(
     run: &mut Run<S, K, V>,
     values: &mut Builder<ValueLabel>,
-) -> Result<(), Fault>
+) -> Result<(), PerEnd>
     requires in_step { IsInStep run.old.bits.position run.old.bits.taken }
     ensures same_reference { run.new.bits.source.ghost_name ≡ run.old.bits.source.ghost_name }
     ensures on { OnOk result (GoesOn run.old.bits.position run.new.bits.position run.new.bits.taken) }
@@ -47,7 +47,7 @@ pub(crate) fn boolean<S: Source, K: Origin, V: Variant>(
     ensures leaf { OnOk result ((b : Bool) × (newest values.new.kids ≡ node (value.Bool b) none)) }
     ensures gives { IsTrue K.told → Gives K.limit K.whole (λ _. newest values.new.kids) result (spot run.new.bits.position run.new.nodes) run.new.stop run.new.bits.taken
         (bool_at) (spot run.old.bits.position run.old.nodes) }
-    ensures failed { IsErrOf result Fault.Failed → HasRisen K.faults (S.faults run.new.bits.source.now) }
+    ensures failed { IsErrOf result PerEnd.Failed → HasRisen K.faults (S.faults run.new.bits.source.now) }
 {
     let begin = run.position();
     let bit = run.take_bits(begin, 1)?;
@@ -62,7 +62,7 @@ pub(crate) fn integer<S: Source, K: Origin, V: Variant>(
     lo: Option<i128>,
     hi: Option<i128>,
     values: &mut Builder<ValueLabel>,
-) -> Result<(), Fault>
+) -> Result<(), PerEnd>
     requires bounds { AreBounds lo hi }
     requires in_step { IsInStep run.old.bits.position run.old.bits.taken }
     ensures same_reference { run.new.bits.source.ghost_name ≡ run.old.bits.source.ghost_name }
@@ -72,7 +72,7 @@ pub(crate) fn integer<S: Source, K: Origin, V: Variant>(
     ensures leaf { OnOk result ((z : ℤ) × (newest values.new.kids ≡ node (value.Int z) none) × (is_128_bits z ≡ true) × (is_from lo z ≡ true) × (is_to hi z ≡ true)) }
     ensures gives { IsTrue K.told → Gives K.limit K.whole (λ _. newest values.new.kids) result (spot run.new.bits.position run.new.nodes) run.new.stop run.new.bits.taken
         (int_at V.ALIGNED lo hi) (spot run.old.bits.position run.old.nodes) }
-    ensures failed { IsErrOf result Fault.Failed → HasRisen K.faults (S.faults run.new.bits.source.now) }
+    ensures failed { IsErrOf result PerEnd.Failed → HasRisen K.faults (S.faults run.new.bits.source.now) }
 {
     let z = run.whole(lo, hi)?;
     put_leaf(ValueLabel::Int(Integer::of(z)), values)
@@ -84,7 +84,7 @@ pub(crate) fn enumerated<S: Source, K: Origin, V: Variant>(
     run: &mut Run<S, K, V>,
     items: usize,
     values: &mut Builder<ValueLabel>,
-) -> Result<(), Fault>
+) -> Result<(), PerEnd>
     requires some { 1 ≤ items }
     requires few { items < 2 ^ 32 }
     requires in_step { IsInStep run.old.bits.position run.old.bits.taken }
@@ -95,7 +95,7 @@ pub(crate) fn enumerated<S: Source, K: Origin, V: Variant>(
     ensures leaf { OnOk result ((i : ℕ) × (newest values.new.kids ≡ node (value.Enum i) none) × (i < items)) }
     ensures gives { IsTrue K.told → Gives K.limit K.whole (λ _. newest values.new.kids) result (spot run.new.bits.position run.new.nodes) run.new.stop run.new.bits.taken
         (enum_at V.ALIGNED items) (spot run.old.bits.position run.old.nodes) }
-    ensures failed { IsErrOf result Fault.Failed → HasRisen K.faults (S.faults run.new.bits.source.now) }
+    ensures failed { IsErrOf result PerEnd.Failed → HasRisen K.faults (S.faults run.new.bits.source.now) }
 {
     let item = run.number((items - 1) as u128)?;
     put_leaf(ValueLabel::Enum(item as u32), values)
@@ -107,7 +107,7 @@ pub(crate) fn enumerated<S: Source, K: Origin, V: Variant>(
 fn presence_bit<S: Source, K: Origin, V: Variant>(
     run: &mut Run<S, K, V>,
     part: &Component,
-) -> Result<bool, Fault>
+) -> Result<bool, PerEnd>
     requires in_step { IsInStep run.old.bits.position run.old.bits.taken }
     ensures same_reference { run.new.bits.source.ghost_name ≡ run.old.bits.source.ghost_name }
     ensures on { OnOk result (GoesOn run.old.bits.position run.new.bits.position run.new.bits.taken) }
@@ -115,7 +115,7 @@ fn presence_bit<S: Source, K: Origin, V: Variant>(
     ensures there { IfOk result (λ flag. part.now.optional ≡ false → flag ≡ true) }
     ensures gives { IsTrue K.told → Gives K.limit K.whole (λ x. x) result (spot run.new.bits.position run.new.nodes) run.new.stop run.new.bits.taken
         (flag_at part.now) (spot run.old.bits.position run.old.nodes) }
-    ensures failed { IsErrOf result Fault.Failed → HasRisen K.faults (S.faults run.new.bits.source.now) }
+    ensures failed { IsErrOf result PerEnd.Failed → HasRisen K.faults (S.faults run.new.bits.source.now) }
 {
     if part.optional {
         let begin = run.position();
@@ -132,7 +132,7 @@ pub(crate) fn presence<S: Source, K: Origin, V: Variant>(
     run: &mut Run<S, K, V>,
     parts: &[Component],
     present: &mut Flags,
-) -> Result<(), Fault>
+) -> Result<(), PerEnd>
     requires none { present.old ≡ [] }
     requires in_step { IsInStep run.old.bits.position run.old.bits.taken }
     ensures same_reference { run.new.bits.source.ghost_name ≡ run.old.bits.source.ghost_name }
@@ -141,7 +141,7 @@ pub(crate) fn presence<S: Source, K: Origin, V: Variant>(
     ensures present { OnOk result (Present parts.now present.new) }
     ensures gives { IsTrue K.told → Gives K.limit K.whole (λ _. present.new) result (spot run.new.bits.position run.new.nodes) run.new.stop run.new.bits.taken
         (each_at flag_at parts.now) (spot run.old.bits.position run.old.nodes) }
-    ensures failed { IsErrOf result Fault.Failed → HasRisen K.faults (S.faults run.new.bits.source.now) }
+    ensures failed { IsErrOf result PerEnd.Failed → HasRisen K.faults (S.faults run.new.bits.source.now) }
 {
     'parts: for part in parts {
         let there = presence_bit(run, part)?;

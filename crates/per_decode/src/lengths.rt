@@ -4,7 +4,7 @@ ghost use Rattle.per_fields.specs.Fields.{is_out};
 ghost use Rattle.per_decode.specs.Private.Pieces.{piece_of, IsPiece};
 ghost use Rattle.per_decode.specs.Private.Kept.{octets_more, octets_behind};
 
-use crate::faults::Fault;
+use crate::faults::PerEnd;
 use crate::run::{Origin, Run};
 use base_texts::{ROOM, Source};
 use per_fields::{Variant, Why};
@@ -54,7 +54,7 @@ impl<'a, S: Source, K: Origin, V: Variant> Run<'a, S, K, V> {
     // A length whose first octet is `x`, of a field that begins at a bit, behind a fragment of so many units.
     #[tactic(auto, unfolding(per_fields::specs::Fields::length_from))]
     #[inline(always)]
-    fn length_from(&mut self, before: u32, begin: u64, x: u64) -> Result<Piece, Fault>
+    fn length_from(&mut self, before: u32, begin: u64, x: u64) -> Result<Piece, PerEnd>
         requires octet { x < 256 }
         requires in_step { IsInStep self.old.bits.position self.old.bits.taken }
         ensures same_reference { self.new.bits.source.ghost_name ≡ self.old.bits.source.ghost_name }
@@ -64,7 +64,7 @@ impl<'a, S: Source, K: Origin, V: Variant> Run<'a, S, K, V> {
         ensures piece { IfOk result (λ piece. IsPiece piece) }
         ensures gives { IsTrue K.told → Gives K.limit K.whole (piece_of) result (spot self.new.bits.position self.new.nodes) self.new.stop self.new.bits.taken
             (length_from before begin x) (spot self.old.bits.position self.old.nodes) }
-        ensures failed { IsErrOf result Fault.Failed → HasRisen K.faults (S.faults self.new.bits.source.now) }
+        ensures failed { IsErrOf result PerEnd.Failed → HasRisen K.faults (S.faults self.new.bits.source.now) }
     {
         if x < 128 {
             return Ok(Piece::Last(x as u32));
@@ -90,7 +90,7 @@ impl<'a, S: Source, K: Origin, V: Variant> Run<'a, S, K, V> {
     // A length, behind what is before it.
     #[tactic(auto, unfolding(per_fields::specs::Fields::length_here))]
     #[inline(always)]
-    fn length_here(&mut self, before: u32) -> Result<Piece, Fault>
+    fn length_here(&mut self, before: u32) -> Result<Piece, PerEnd>
         requires in_step { IsInStep self.old.bits.position self.old.bits.taken }
         ensures same_reference { self.new.bits.source.ghost_name ≡ self.old.bits.source.ghost_name }
         ensures on { OnOk result (GoesOn self.old.bits.position self.new.bits.position self.new.bits.taken) }
@@ -100,7 +100,7 @@ impl<'a, S: Source, K: Origin, V: Variant> Run<'a, S, K, V> {
         ensures piece { IfOk result (λ piece. IsPiece piece) }
         ensures gives { IsTrue K.told → Gives K.limit K.whole (piece_of) result (spot self.new.bits.position self.new.nodes) self.new.stop self.new.bits.taken
             (length_here before) (spot self.old.bits.position self.old.nodes) }
-        ensures failed { IsErrOf result Fault.Failed → HasRisen K.faults (S.faults self.new.bits.source.now) }
+        ensures failed { IsErrOf result PerEnd.Failed → HasRisen K.faults (S.faults self.new.bits.source.now) }
     {
         let begin = self.position();
         let x = self.take_bits(begin, 8)?;
@@ -116,7 +116,7 @@ impl<'a, S: Source, K: Origin, V: Variant> Run<'a, S, K, V> {
         most: Option<u32>,
         before: u32,
         total: usize,
-    ) -> Result<Piece, Fault>
+    ) -> Result<Piece, PerEnd>
         requires few { total < 2 ^ 63 }
         requires in_step { IsInStep self.old.bits.position self.old.bits.taken }
         ensures same_reference { self.new.bits.source.ghost_name ≡ self.old.bits.source.ghost_name }
@@ -127,7 +127,7 @@ impl<'a, S: Source, K: Origin, V: Variant> Run<'a, S, K, V> {
         ensures piece { IfOk result (λ piece. IsPiece piece × (is_out least most total (piece_of piece) ≡ false)) }
         ensures gives { IsTrue K.told → Gives K.limit K.whole (piece_of) result (spot self.new.bits.position self.new.nodes) self.new.stop self.new.bits.taken
             (count_here least most before total) (spot self.old.bits.position self.old.nodes) }
-        ensures failed { IsErrOf result Fault.Failed → HasRisen K.faults (S.faults self.new.bits.source.now) }
+        ensures failed { IsErrOf result PerEnd.Failed → HasRisen K.faults (S.faults self.new.bits.source.now) }
     {
         let begin = self.position();
         let piece = self.length_here(before)?;
@@ -146,7 +146,7 @@ impl<'a, S: Source, K: Origin, V: Variant> Run<'a, S, K, V> {
         most: Option<u32>,
         before: u32,
         total: usize,
-    ) -> Result<Piece, Fault>
+    ) -> Result<Piece, PerEnd>
         requires few { total < 2 ^ 63 }
         requires in_step { IsInStep self.old.bits.position self.old.bits.taken }
         ensures same_reference { self.new.bits.source.ghost_name ≡ self.old.bits.source.ghost_name }
@@ -157,7 +157,7 @@ impl<'a, S: Source, K: Origin, V: Variant> Run<'a, S, K, V> {
         ensures piece { IfOk result (λ piece. IsPiece piece × (is_out least most total (piece_of piece) ≡ false)) }
         ensures gives { IsTrue K.told → Gives K.limit K.whole (piece_of) result (spot self.new.bits.position self.new.nodes) self.new.stop self.new.bits.taken
             (count_at V.ALIGNED least most before total) (spot self.old.bits.position self.old.nodes) }
-        ensures failed { IsErrOf result Fault.Failed → HasRisen K.faults (S.faults self.new.bits.source.now) }
+        ensures failed { IsErrOf result PerEnd.Failed → HasRisen K.faults (S.faults self.new.bits.source.now) }
     {
         self.skip()?;
         self.count_here(least, most, before, total)
@@ -165,7 +165,7 @@ impl<'a, S: Source, K: Origin, V: Variant> Run<'a, S, K, V> {
 
     // The octets of a number behind the first one, behind what is before their length.
     #[tactic(auto, unfolding(per_fields::specs::Fields::octet_count_here))]
-    fn octet_count_here(&mut self) -> Result<u32, Fault>
+    fn octet_count_here(&mut self) -> Result<u32, PerEnd>
         requires in_step { IsInStep self.old.bits.position self.old.bits.taken }
         ensures same_reference { self.new.bits.source.ghost_name ≡ self.old.bits.source.ghost_name }
         ensures on { OnOk result (GoesOn self.old.bits.position self.new.bits.position self.new.bits.taken) }
@@ -174,7 +174,7 @@ impl<'a, S: Source, K: Origin, V: Variant> Run<'a, S, K, V> {
         ensures few { IfOk result (λ more. more ≤ 15) }
         ensures gives { IsTrue K.told → Gives K.limit K.whole (λ x. x) result (spot self.new.bits.position self.new.nodes) self.new.stop self.new.bits.taken
             (octet_count_here) (spot self.old.bits.position self.old.nodes) }
-        ensures failed { IsErrOf result Fault.Failed → HasRisen K.faults (S.faults self.new.bits.source.now) }
+        ensures failed { IsErrOf result PerEnd.Failed → HasRisen K.faults (S.faults self.new.bits.source.now) }
     {
         let begin = self.position();
         match self.length_here(MOST_UNITS)? {
@@ -187,7 +187,7 @@ impl<'a, S: Source, K: Origin, V: Variant> Run<'a, S, K, V> {
 
     /// The length of a number, as how many octets it has behind the first one.
     #[tactic(auto, unfolding(per_fields::specs::Fields::octet_count_at))]
-    pub(crate) fn octet_count(&mut self) -> Result<u32, Fault>
+    pub(crate) fn octet_count(&mut self) -> Result<u32, PerEnd>
         requires in_step { IsInStep self.old.bits.position self.old.bits.taken }
         ensures same_reference { self.new.bits.source.ghost_name ≡ self.old.bits.source.ghost_name }
         ensures on { OnOk result (GoesOn self.old.bits.position self.new.bits.position self.new.bits.taken) }
@@ -196,7 +196,7 @@ impl<'a, S: Source, K: Origin, V: Variant> Run<'a, S, K, V> {
         ensures few { IfOk result (λ more. more ≤ 15) }
         ensures gives { IsTrue K.told → Gives K.limit K.whole (λ x. x) result (spot self.new.bits.position self.new.nodes) self.new.stop self.new.bits.taken
             (octet_count_at V.ALIGNED) (spot self.old.bits.position self.old.nodes) }
-        ensures failed { IsErrOf result Fault.Failed → HasRisen K.faults (S.faults self.new.bits.source.now) }
+        ensures failed { IsErrOf result PerEnd.Failed → HasRisen K.faults (S.faults self.new.bits.source.now) }
     {
         self.skip()?;
         self.octet_count_here()
@@ -204,7 +204,7 @@ impl<'a, S: Source, K: Origin, V: Variant> Run<'a, S, K, V> {
 
     /// Fills the first `n` bytes with the next octets.
     #[inline(always)]
-    pub(crate) fn fill_few(&mut self, bytes: &mut [u8; ROOM], n: u32) -> Result<(), Fault>
+    pub(crate) fn fill_few(&mut self, bytes: &mut [u8; ROOM], n: u32) -> Result<(), PerEnd>
         requires few { n ≤ 22 }
         requires in_step { IsInStep self.old.bits.position self.old.bits.taken }
         requires aligned { V.ALIGNED ≡ true → self.old.bits.position % 8 ≡ 0 }
@@ -213,13 +213,13 @@ impl<'a, S: Source, K: Origin, V: Variant> Run<'a, S, K, V> {
         ensures nodes { self.new.nodes ≡ self.old.nodes }
         ensures gives { IsTrue K.told → Gives K.limit K.whole (λ done. take n bytes.new) result (spot self.new.bits.position self.new.nodes) self.new.stop self.new.bits.taken
             (octets_at n) (spot self.old.bits.position self.old.nodes) }
-        ensures failed { IsErrOf result Fault.Failed → HasRisen K.faults (S.faults self.new.bits.source.now) }
+        ensures failed { IsErrOf result PerEnd.Failed → HasRisen K.faults (S.faults self.new.bits.source.now) }
     {
         self.fill_octets(&mut bytes[..n as usize])
     }
 
     /// The octets of a text behind its first length.
-    pub(crate) fn octets_behind(&mut self, alloc: Global, first: Piece) -> Result<Vec<u8>, Fault>
+    pub(crate) fn octets_behind(&mut self, alloc: Global, first: Piece) -> Result<Vec<u8>, PerEnd>
         requires piece { IsPiece first }
         requires in_step { IsInStep self.old.bits.position self.old.bits.taken }
         requires aligned { V.ALIGNED ≡ true → self.old.bits.position % 8 ≡ 0 }
@@ -228,7 +228,7 @@ impl<'a, S: Source, K: Origin, V: Variant> Run<'a, S, K, V> {
         ensures nodes { self.new.nodes ≡ self.old.nodes }
         ensures gives { IsTrue K.told → Gives K.limit K.whole (λ octets. octets.items) result (spot self.new.bits.position self.new.nodes) self.new.stop self.new.bits.taken
             (octets_behind V.ALIGNED (piece_of first)) (spot self.old.bits.position self.old.nodes) }
-        ensures failed { IsErrOf result Fault.Failed → HasRisen K.faults (S.faults self.new.bits.source.now) }
+        ensures failed { IsErrOf result PerEnd.Failed → HasRisen K.faults (S.faults self.new.bits.source.now) }
     {
         match first {
             Piece::Last(n) => self.take_octets(alloc, n),
@@ -240,14 +240,14 @@ impl<'a, S: Source, K: Origin, V: Variant> Run<'a, S, K, V> {
     }
 
     // The octets of a text, of which these were read, behind a fragment of so many units.
-    fn more_octets(&mut self, alloc: Global, first: Vec<u8>, units: u32) -> Result<Vec<u8>, Fault>
+    fn more_octets(&mut self, alloc: Global, first: Vec<u8>, units: u32) -> Result<Vec<u8>, PerEnd>
         requires in_step { IsInStep self.old.bits.position self.old.bits.taken }
         ensures same_reference { self.new.bits.source.ghost_name ≡ self.old.bits.source.ghost_name }
         ensures on { OnOk result (GoesOn self.old.bits.position self.new.bits.position self.new.bits.taken) }
         ensures nodes { self.new.nodes ≡ self.old.nodes }
         ensures gives { IsTrue K.told → Gives K.limit K.whole (λ octets. octets.items) result (spot self.new.bits.position self.new.nodes) self.new.stop self.new.bits.taken
             (octets_more V.ALIGNED first.items units (length first.items)) (spot self.old.bits.position self.old.nodes) }
-        ensures failed { IsErrOf result Fault.Failed → HasRisen K.faults (S.faults self.new.bits.source.now) }
+        ensures failed { IsErrOf result PerEnd.Failed → HasRisen K.faults (S.faults self.new.bits.source.now) }
     {
         let mut text = first;
         let mut before = units;
@@ -270,9 +270,9 @@ impl<'a, S: Source, K: Origin, V: Variant> Run<'a, S, K, V> {
 }
 
 // The octets behind those of a text.
-fn joined(mut text: Vec<u8>, octets: Vec<u8>) -> Result<Vec<u8>, Fault>
+fn joined(mut text: Vec<u8>, octets: Vec<u8>) -> Result<Vec<u8>, PerEnd>
     ensures ok { IfOk result (λ all. all.items ≡ text.items ++ octets.items) }
-    ensures memory { IfErr result (λ fault. fault ≡ Fault.Memory) }
+    ensures memory { IfErr result (λ fault. fault ≡ PerEnd.Memory) }
 {
     text.extend_from_slice(&octets)?;
     Ok(text)

@@ -23,7 +23,7 @@ ghost use Rattle.per_decode.specs.Private.Giving.{Gives, spot};
 ghost use Rattle.per_decode.specs.Private.Bodies as bodies;
 ghost use Rattle.per_decode.specs.Private.Newest.{newest};
 
-use crate::faults::{Fault, stopped};
+use crate::faults::{PerEnd, stopped};
 use crate::leaves::{boolean, enumerated, integer, presence};
 use crate::lengths::{MOST_UNITS, Piece, UNIT};
 use crate::run::{Origin, Run};
@@ -89,12 +89,12 @@ fn owned(
     end: u64,
     stop: &mut Stop,
     values: &mut Builder<ValueLabel>,
-) -> Result<(), Fault>
+) -> Result<(), PerEnd>
     requires known { bodies.IsKnown module.now }
     requires of { IsOf module.now node.now }
     ensures pushed { OnOk result (values.new ≡ added value values.old) }
     ensures ok { OnOk result (Own module.now node.now value) }
-    ensures err { IfErr result (λ fault. (fault ≡ Fault.Memory) ⊎ ((fault ≡ Fault.Stopped) × (stop.new ≡ record { bit = begin; why = Why.NotAValue; end = end }) × (Own module.now node.now value → ⊥))) }
+    ensures err { IfErr result (λ fault. (fault ≡ PerEnd.Memory) ⊎ ((fault ≡ PerEnd.Stopped) × (stop.new ≡ record { bit = begin; why = Why.NotAValue; end = end }) × (Own module.now node.now value → ⊥))) }
 {
     if own(alloc, module, node, &value.root())? {
         values.append(value.into_trees())?;
@@ -137,12 +137,12 @@ fn unless_standard(
     end: u64,
     stop: &mut Stop,
     values: &mut Builder<ValueLabel>,
-) -> Result<(), Fault>
+) -> Result<(), PerEnd>
     requires known { bodies.IsKnown module.now }
     requires of { IsOf module.now kid.now }
     ensures pushed { OnOk result (values.new ≡ added value values.old) }
     ensures ok { OnOk result (Kept module.now part.now kid.now value) }
-    ensures err { IfErr result (λ fault. (fault ≡ Fault.Memory) ⊎ ((fault ≡ Fault.Stopped) × (stop.new ≡ record { bit = begin; why = nodes.unkept_why module.now part.now kid.now value; end = end }) × (Kept module.now part.now kid.now value → ⊥))) }
+    ensures err { IfErr result (λ fault. (fault ≡ PerEnd.Memory) ⊎ ((fault ≡ PerEnd.Stopped) × (stop.new ≡ record { bit = begin; why = nodes.unkept_why module.now part.now kid.now value; end = end }) × (Kept module.now part.now kid.now value → ⊥))) }
 {
     if kept(alloc, module, part, kid, &value.root())? {
         values.append(value.into_trees())?;
@@ -164,7 +164,7 @@ pub(crate) fn node<S: Source, K: Origin, V: Variant>(
     node: &Tree<TypeLabel>,
     found: &Tree<TypeLabel>,
     values: &mut Builder<ValueLabel>,
-) -> Result<(), Fault>
+) -> Result<(), PerEnd>
     requires depth { depth ≤ 65 }
     requires known { bodies.IsKnown module.now }
     requires of { IsOf module.now node.now }
@@ -177,7 +177,7 @@ pub(crate) fn node<S: Source, K: Origin, V: Variant>(
     ensures fits { OnOk result (FitsAt module.now depth node.now (newest values.new.kids)) }
     ensures gives { IsTrue K.told → Gives K.limit K.whole (λ _. newest values.new.kids) result (spot run.new.bits.position run.new.nodes) run.new.stop run.new.bits.taken
         (node_read V.ALIGNED module.now depth node.now) (spot run.old.bits.position run.old.nodes) }
-    ensures failed { IsErrOf result Fault.Failed → HasRisen K.faults (S.faults run.new.bits.source.now) }
+    ensures failed { IsErrOf result PerEnd.Failed → HasRisen K.faults (S.faults run.new.bits.source.now) }
 {
     let begin = run.position();
     if depth > MOST_DEEP {
@@ -202,7 +202,7 @@ fn body<S: Source, K: Origin, V: Variant>(
     found: &Tree<TypeLabel>,
     begin: u64,
     values: &mut Builder<ValueLabel>,
-) -> Result<(), Fault>
+) -> Result<(), PerEnd>
     requires depth { depth ≤ 64 }
     requires known { bodies.IsKnown module.now }
     requires of { IsOf module.now node.now }
@@ -215,7 +215,7 @@ fn body<S: Source, K: Origin, V: Variant>(
     ensures fits { OnOk result (FitsAt module.now depth node.now (newest values.new.kids)) }
     ensures gives { IsTrue K.told → Gives K.limit K.whole (λ _. newest values.new.kids) result (spot run.new.bits.position run.new.nodes) run.new.stop run.new.bits.taken
         (bodies.body_at V.ALIGNED module.now depth begin (resolve module.now node.now)) (spot run.old.bits.position run.old.nodes) }
-    ensures failed { IsErrOf result Fault.Failed → HasRisen K.faults (S.faults run.new.bits.source.now) }
+    ensures failed { IsErrOf result PerEnd.Failed → HasRisen K.faults (S.faults run.new.bits.source.now) }
 {
     if let Form::Utf8 { .. } = &found.label().form {
         return text(alloc, module, run, node, found, begin, values);
@@ -238,7 +238,7 @@ fn ruled<S: Source, K: Origin, V: Variant>(
     found: &Tree<TypeLabel>,
     begin: u64,
     values: &mut Builder<ValueLabel>,
-) -> Result<(), Fault>
+) -> Result<(), PerEnd>
     requires depth { depth ≤ 64 }
     requires known { bodies.IsKnown module.now }
     requires of { IsOf module.now node.now }
@@ -252,7 +252,7 @@ fn ruled<S: Source, K: Origin, V: Variant>(
     ensures fits { OnOk result (FitsAt module.now depth node.now (newest values.new.kids)) }
     ensures gives { IsTrue K.told → Gives K.limit K.whole (λ _. newest values.new.kids) result (spot run.new.bits.position run.new.nodes) run.new.stop run.new.bits.taken
         (bodies.body_at V.ALIGNED module.now depth begin (resolve module.now node.now)) (spot run.old.bits.position run.old.nodes) }
-    ensures failed { IsErrOf result Fault.Failed → HasRisen K.faults (S.faults run.new.bits.source.now) }
+    ensures failed { IsErrOf result PerEnd.Failed → HasRisen K.faults (S.faults run.new.bits.source.now) }
 {
     let mut read = Builder::new(alloc);
     fields(alloc, module, run, depth, found, &mut read)?;
@@ -279,7 +279,7 @@ fn fields<S: Source, K: Origin, V: Variant>(
     depth: u32,
     found: &Tree<TypeLabel>,
     values: &mut Builder<ValueLabel>,
-) -> Result<(), Fault>
+) -> Result<(), PerEnd>
     requires depth { depth ≤ 64 }
     requires known { bodies.IsKnown module.now }
     requires of { IsOf module.now found.now }
@@ -293,7 +293,7 @@ fn fields<S: Source, K: Origin, V: Variant>(
     ensures text { OnOk result (is_no_text (label_of (newest values.new.kids)) ≡ false) }
     ensures gives { IsTrue K.told → Gives K.limit K.whole (λ _. newest values.new.kids) result (spot run.new.bits.position run.new.nodes) run.new.stop run.new.bits.taken
         (bodies.fields_at V.ALIGNED module.now depth found.now) (spot run.old.bits.position run.old.nodes) }
-    ensures failed { IsErrOf result Fault.Failed → HasRisen K.faults (S.faults run.new.bits.source.now) }
+    ensures failed { IsErrOf result PerEnd.Failed → HasRisen K.faults (S.faults run.new.bits.source.now) }
 {
     match &found.label().form {
         Form::Bool => boolean(run, values),
@@ -330,7 +330,7 @@ fn sequence<S: Source, K: Origin, V: Variant>(
     found: &Tree<TypeLabel>,
     parts: &[Component],
     values: &mut Builder<ValueLabel>,
-) -> Result<(), Fault>
+) -> Result<(), PerEnd>
     requires depth { depth ≤ 64 }
     requires known { bodies.IsKnown module.now }
     requires of { IsOf module.now found.now }
@@ -344,7 +344,7 @@ fn sequence<S: Source, K: Origin, V: Variant>(
     ensures text { OnOk result (is_no_text (label_of (newest values.new.kids)) ≡ false) }
     ensures gives { IsTrue K.told → Gives K.limit K.whole (λ _. newest values.new.kids) result (spot run.new.bits.position run.new.nodes) run.new.stop run.new.bits.taken
         (sequence_at (bodies.kid_at V.ALIGNED module.now depth) (label_of found.now) (kids_of found.now) parts.now) (spot run.old.bits.position run.old.nodes) }
-    ensures failed { IsErrOf result Fault.Failed → HasRisen K.faults (S.faults run.new.bits.source.now) }
+    ensures failed { IsErrOf result PerEnd.Failed → HasRisen K.faults (S.faults run.new.bits.source.now) }
 {
     let mut present = Flags::none();
     presence(alloc, run, parts, &mut present)?;
@@ -379,7 +379,7 @@ fn components<S: Source, K: Origin, V: Variant>(
     parts: &[Component],
     present: &[bool],
     values: &mut Builder<ValueLabel>,
-) -> Result<(), Fault>
+) -> Result<(), PerEnd>
     requires depth { depth ≤ 64 }
     requires known { bodies.IsKnown module.now }
     requires of { IsOf module.now found.now }
@@ -394,7 +394,7 @@ fn components<S: Source, K: Origin, V: Variant>(
     ensures fits { OnOk result (bodies.FitSome module.now depth (present_from (label_of found.now) 0 parts.now (kids_of found.now) present.now) (roses_of values.new.kids)) }
     ensures gives { IsTrue K.told → Gives K.limit K.whole (λ _. values.new.kids) result (spot run.new.bits.position run.new.nodes) run.new.stop run.new.bits.taken
         (bodies.kids_read V.ALIGNED module.now depth (present_from (label_of found.now) 0 parts.now (kids_of found.now) present.now)) (spot run.old.bits.position run.old.nodes) }
-    ensures failed { IsErrOf result Fault.Failed → HasRisen K.faults (S.faults run.new.bits.source.now) }
+    ensures failed { IsErrOf result PerEnd.Failed → HasRisen K.faults (S.faults run.new.bits.source.now) }
 {
     'parts: for i in 0..parts.len() {
         if !present[i] {
@@ -421,7 +421,7 @@ fn component<S: Source, K: Origin, V: Variant>(
     kid: &Tree<TypeLabel>,
     found: &Tree<TypeLabel>,
     values: &mut Builder<ValueLabel>,
-) -> Result<(), Fault>
+) -> Result<(), PerEnd>
     requires depth { depth ≤ 65 }
     requires known { bodies.IsKnown module.now }
     requires of { IsOf module.now kid.now }
@@ -435,7 +435,7 @@ fn component<S: Source, K: Origin, V: Variant>(
     ensures kept { OnOk result (Kept module.now part.now kid.now (newest values.new.kids)) }
     ensures gives { IsTrue K.told → Gives K.limit K.whole (λ _. newest values.new.kids) result (spot run.new.bits.position run.new.nodes) run.new.stop run.new.bits.taken
         (bodies.part_read V.ALIGNED module.now depth part.now kid.now) (spot run.old.bits.position run.old.nodes) }
-    ensures failed { IsErrOf result Fault.Failed → HasRisen K.faults (S.faults run.new.bits.source.now) }
+    ensures failed { IsErrOf result PerEnd.Failed → HasRisen K.faults (S.faults run.new.bits.source.now) }
 {
     match &part.standard {
         Standard::Free => node(alloc, module, run, depth, kid, found, values),
@@ -457,7 +457,7 @@ fn standard<S: Source, K: Origin, V: Variant>(
     kid: &Tree<TypeLabel>,
     found: &Tree<TypeLabel>,
     values: &mut Builder<ValueLabel>,
-) -> Result<(), Fault>
+) -> Result<(), PerEnd>
     requires depth { depth ≤ 65 }
     requires known { bodies.IsKnown module.now }
     requires of { IsOf module.now kid.now }
@@ -471,7 +471,7 @@ fn standard<S: Source, K: Origin, V: Variant>(
     ensures kept { OnOk result (Kept module.now part.now kid.now (newest values.new.kids)) }
     ensures gives { IsTrue K.told → Gives K.limit K.whole (λ _. newest values.new.kids) result (spot run.new.bits.position run.new.nodes) run.new.stop run.new.bits.taken
         (bodies.part_read V.ALIGNED module.now depth part.now kid.now) (spot run.old.bits.position run.old.nodes) }
-    ensures failed { IsErrOf result Fault.Failed → HasRisen K.faults (S.faults run.new.bits.source.now) }
+    ensures failed { IsErrOf result PerEnd.Failed → HasRisen K.faults (S.faults run.new.bits.source.now) }
 {
     let begin = run.position();
     let mut read = Builder::new(alloc);
@@ -501,7 +501,7 @@ fn choice<S: Source, K: Origin, V: Variant>(
     found: &Tree<TypeLabel>,
     parts: &[Component],
     values: &mut Builder<ValueLabel>,
-) -> Result<(), Fault>
+) -> Result<(), PerEnd>
     requires depth { depth ≤ 64 }
     requires known { bodies.IsKnown module.now }
     requires of { IsOf module.now found.now }
@@ -515,7 +515,7 @@ fn choice<S: Source, K: Origin, V: Variant>(
     ensures text { OnOk result (is_no_text (label_of (newest values.new.kids)) ≡ false) }
     ensures gives { IsTrue K.told → Gives K.limit K.whole (λ _. newest values.new.kids) result (spot run.new.bits.position run.new.nodes) run.new.stop run.new.bits.taken
         (choice_at V.ALIGNED (bodies.kid_at V.ALIGNED module.now depth) (label_of found.now) (kids_of found.now) parts.now) (spot run.old.bits.position run.old.nodes) }
-    ensures failed { IsErrOf result Fault.Failed → HasRisen K.faults (S.faults run.new.bits.source.now) }
+    ensures failed { IsErrOf result PerEnd.Failed → HasRisen K.faults (S.faults run.new.bits.source.now) }
 {
     let index = run.number((parts.len() - 1) as u128)? as u32;
     let kid = found.kid(index as usize);
@@ -540,7 +540,7 @@ fn sequence_of<S: Source, K: Origin, V: Variant>(
     min: u32,
     max: Option<u32>,
     values: &mut Builder<ValueLabel>,
-) -> Result<(), Fault>
+) -> Result<(), PerEnd>
     requires depth { depth ≤ 64 }
     requires known { bodies.IsKnown module.now }
     requires of { IsOf module.now found.now }
@@ -554,7 +554,7 @@ fn sequence_of<S: Source, K: Origin, V: Variant>(
     ensures text { OnOk result (is_no_text (label_of (newest values.new.kids)) ≡ false) }
     ensures gives { IsTrue K.told → Gives K.limit K.whole (λ _. newest values.new.kids) result (spot run.new.bits.position run.new.nodes) run.new.stop run.new.bits.taken
         (items_at V.ALIGNED (bodies.kid_at V.ALIGNED module.now depth) min max (bodies.item_place found.now part.now)) (spot run.old.bits.position run.old.nodes) }
-    ensures failed { IsErrOf result Fault.Failed → HasRisen K.faults (S.faults run.new.bits.source.now) }
+    ensures failed { IsErrOf result PerEnd.Failed → HasRisen K.faults (S.faults run.new.bits.source.now) }
 {
     let item = found.kid(0);
     let inner = below(role(found.label(), 0), depth);
@@ -575,7 +575,7 @@ fn list<S: Source, K: Origin, V: Variant>(
     min: u32,
     max: Option<u32>,
     values: &mut Builder<ValueLabel>,
-) -> Result<(), Fault>
+) -> Result<(), PerEnd>
     requires depth { depth ≤ 65 }
     requires known { bodies.IsKnown module.now }
     requires of { IsOf module.now item.now }
@@ -590,7 +590,7 @@ fn list<S: Source, K: Origin, V: Variant>(
     ensures size { OnOk result ((min ≤ length values.new.kids) × (is_at_most (length values.new.kids) max ≡ true)) }
     ensures gives { IsTrue K.told → Gives K.limit K.whole (λ _. values.new.kids) result (spot run.new.bits.position run.new.nodes) run.new.stop run.new.bits.taken
         (list_at V.ALIGNED min max (λ n. bodies.many_at V.ALIGNED module.now depth n item.now)) (spot run.old.bits.position run.old.nodes) }
-    ensures failed { IsErrOf result Fault.Failed → HasRisen K.faults (S.faults run.new.bits.source.now) }
+    ensures failed { IsErrOf result PerEnd.Failed → HasRisen K.faults (S.faults run.new.bits.source.now) }
 {
     match max {
         Some(most) => {
@@ -616,7 +616,7 @@ fn fragments<S: Source, K: Origin, V: Variant>(
     min: u32,
     max: Option<u32>,
     values: &mut Builder<ValueLabel>,
-) -> Result<(), Fault>
+) -> Result<(), PerEnd>
     requires depth { depth ≤ 65 }
     requires known { bodies.IsKnown module.now }
     requires of { IsOf module.now item.now }
@@ -630,7 +630,7 @@ fn fragments<S: Source, K: Origin, V: Variant>(
     ensures size { OnOk result ((min ≤ length values.new.kids) × (is_at_most (length values.new.kids) max ≡ true)) }
     ensures gives { IsTrue K.told → Gives K.limit K.whole (λ _. values.new.kids) result (spot run.new.bits.position run.new.nodes) run.new.stop run.new.bits.taken
         (counted_at V.ALIGNED min max (λ n. bodies.many_at V.ALIGNED module.now depth n item.now)) (spot run.old.bits.position run.old.nodes) }
-    ensures failed { IsErrOf result Fault.Failed → HasRisen K.faults (S.faults run.new.bits.source.now) }
+    ensures failed { IsErrOf result PerEnd.Failed → HasRisen K.faults (S.faults run.new.bits.source.now) }
 {
     let mut total: usize = 0;
     let mut before = MOST_UNITS;
@@ -658,7 +658,7 @@ fn items<S: Source, K: Origin, V: Variant>(
     item: &Tree<TypeLabel>,
     n: u32,
     values: &mut Builder<ValueLabel>,
-) -> Result<(), Fault>
+) -> Result<(), PerEnd>
     requires depth { depth ≤ 65 }
     requires known { bodies.IsKnown module.now }
     requires of { IsOf module.now item.now }
@@ -672,7 +672,7 @@ fn items<S: Source, K: Origin, V: Variant>(
     ensures size { OnOk result (length values.new.kids ≡ length values.old.kids + n) }
     ensures gives { IsTrue K.told → Gives K.limit K.whole (λ _. values.new.kids) result (spot run.new.bits.position run.new.nodes) run.new.stop run.new.bits.taken
         (bodies.more_at V.ALIGNED module.now depth n item.now values.old.kids) (spot run.old.bits.position run.old.nodes) }
-    ensures failed { IsErrOf result Fault.Failed → HasRisen K.faults (S.faults run.new.bits.source.now) }
+    ensures failed { IsErrOf result PerEnd.Failed → HasRisen K.faults (S.faults run.new.bits.source.now) }
 {
     let found = resolve(module, item);
     'items: for _ in 0..n {

@@ -3,7 +3,7 @@ ghost use Rattle.std.specs.Prelude.{◌≡◌, ◌<◌, ◌≤◌, ◌+◌, ◌-
 ghost use Rattle.base_codecs.specs.Bits.{bits};
 ghost use Rattle.per_fields.specs.Widths.{width_of, more_of};
 
-use crate::faults::Fault;
+use crate::faults::PerEnd;
 use crate::run::{Origin, Run};
 use base_texts::Source;
 use per_fields::{Variant, Why};
@@ -35,7 +35,7 @@ impl<'a, S: Source, K: Origin, V: Variant> Run<'a, S, K, V> {
 
     /// The next `n` bits, of a field that begins at a bit, as one number.
     #[inline(always)]
-    pub(crate) fn take_wide(&mut self, begin: u64, n: u32) -> Result<u128, Fault>
+    pub(crate) fn take_wide(&mut self, begin: u64, n: u32) -> Result<u128, PerEnd>
         requires few { n ≤ 128 }
         requires in_step { IsInStep self.old.bits.position self.old.bits.taken }
         ensures same_reference { self.new.bits.source.ghost_name ≡ self.old.bits.source.ghost_name }
@@ -44,7 +44,7 @@ impl<'a, S: Source, K: Origin, V: Variant> Run<'a, S, K, V> {
         ensures below { IfOk result (λ x. x < 2 ^ n) }
         ensures gives { IsTrue K.told → Gives K.limit K.whole (λ x. x) result (spot self.new.bits.position self.new.nodes) self.new.stop self.new.bits.taken
             (bits_at begin n) (spot self.old.bits.position self.old.nodes) }
-        ensures failed { IsErrOf result Fault.Failed → HasRisen K.faults (S.faults self.new.bits.source.now) }
+        ensures failed { IsErrOf result PerEnd.Failed → HasRisen K.faults (S.faults self.new.bits.source.now) }
     {
         if n <= 64 {
             return Ok(self.take_bits(begin, n)? as u128);
@@ -54,7 +54,7 @@ impl<'a, S: Source, K: Origin, V: Variant> Run<'a, S, K, V> {
 
     // Takes a number of more than 64 bits in two steps.
     #[inline(never)]
-    fn take_both(&mut self, begin: u64, n: u32) -> Result<u128, Fault>
+    fn take_both(&mut self, begin: u64, n: u32) -> Result<u128, PerEnd>
         requires many { 64 < n }
         requires few { n ≤ 128 }
         requires in_step { IsInStep self.old.bits.position self.old.bits.taken }
@@ -64,7 +64,7 @@ impl<'a, S: Source, K: Origin, V: Variant> Run<'a, S, K, V> {
         ensures below { IfOk result (λ x. x < 2 ^ n) }
         ensures gives { IsTrue K.told → Gives K.limit K.whole (λ x. x) result (spot self.new.bits.position self.new.nodes) self.new.stop self.new.bits.taken
             (bits_at begin n) (spot self.old.bits.position self.old.nodes) }
-        ensures failed { IsErrOf result Fault.Failed → HasRisen K.faults (S.faults self.new.bits.source.now) }
+        ensures failed { IsErrOf result PerEnd.Failed → HasRisen K.faults (S.faults self.new.bits.source.now) }
     {
         let high = self.take_bits(begin, n - 64)?;
         let low = self.take_bits(begin, 64)?;
@@ -74,7 +74,7 @@ impl<'a, S: Source, K: Origin, V: Variant> Run<'a, S, K, V> {
     /// A number of `0..=top` in `n` bits.
     #[tactic(auto, unfolding(per_fields::specs::Fields::within_at))]
     #[inline(always)]
-    pub(crate) fn within(&mut self, top: u64, n: u32) -> Result<u64, Fault>
+    pub(crate) fn within(&mut self, top: u64, n: u32) -> Result<u64, PerEnd>
         requires few { n ≤ 64 }
         requires in_step { IsInStep self.old.bits.position self.old.bits.taken }
         ensures same_reference { self.new.bits.source.ghost_name ≡ self.old.bits.source.ghost_name }
@@ -83,7 +83,7 @@ impl<'a, S: Source, K: Origin, V: Variant> Run<'a, S, K, V> {
         ensures top { IfOk result (λ x. x ≤ top) }
         ensures gives { IsTrue K.told → Gives K.limit K.whole (λ x. x) result (spot self.new.bits.position self.new.nodes) self.new.stop self.new.bits.taken
             (within_at top n) (spot self.old.bits.position self.old.nodes) }
-        ensures failed { IsErrOf result Fault.Failed → HasRisen K.faults (S.faults self.new.bits.source.now) }
+        ensures failed { IsErrOf result PerEnd.Failed → HasRisen K.faults (S.faults self.new.bits.source.now) }
     {
         let begin = self.position();
         let x = self.take_bits(begin, n)?;
@@ -95,7 +95,7 @@ impl<'a, S: Source, K: Origin, V: Variant> Run<'a, S, K, V> {
 
     // A number of `0..=top` in the least bits that hold the greatest.
     #[tactic(auto, unfolding(per_fields::specs::Fields::within_at))]
-    fn within_wide(&mut self, top: u128) -> Result<u128, Fault>
+    fn within_wide(&mut self, top: u128) -> Result<u128, PerEnd>
         requires in_step { IsInStep self.old.bits.position self.old.bits.taken }
         ensures same_reference { self.new.bits.source.ghost_name ≡ self.old.bits.source.ghost_name }
         ensures on { OnOk result (GoesOn self.old.bits.position self.new.bits.position self.new.bits.taken) }
@@ -103,7 +103,7 @@ impl<'a, S: Source, K: Origin, V: Variant> Run<'a, S, K, V> {
         ensures top { IfOk result (λ x. x ≤ top) }
         ensures gives { IsTrue K.told → Gives K.limit K.whole (λ x. x) result (spot self.new.bits.position self.new.nodes) self.new.stop self.new.bits.taken
             (within_at top (width_of top)) (spot self.old.bits.position self.old.nodes) }
-        ensures failed { IsErrOf result Fault.Failed → HasRisen K.faults (S.faults self.new.bits.source.now) }
+        ensures failed { IsErrOf result PerEnd.Failed → HasRisen K.faults (S.faults self.new.bits.source.now) }
     {
         let begin = self.position();
         let x = self.take_wide(begin, width_of(top))?;
@@ -115,7 +115,7 @@ impl<'a, S: Source, K: Origin, V: Variant> Run<'a, S, K, V> {
 
     // Reads a number after padding to the next octet.
     #[tactic(auto, unfolding(per_fields::specs::Fields::aligned_at))]
-    fn aligned(&mut self, top: u64, n: u32) -> Result<u64, Fault>
+    fn aligned(&mut self, top: u64, n: u32) -> Result<u64, PerEnd>
         requires few { n ≤ 64 }
         requires in_step { IsInStep self.old.bits.position self.old.bits.taken }
         ensures same_reference { self.new.bits.source.ghost_name ≡ self.old.bits.source.ghost_name }
@@ -124,7 +124,7 @@ impl<'a, S: Source, K: Origin, V: Variant> Run<'a, S, K, V> {
         ensures top { IfOk result (λ x. x ≤ top) }
         ensures gives { IsTrue K.told → Gives K.limit K.whole (λ x. x) result (spot self.new.bits.position self.new.nodes) self.new.stop self.new.bits.taken
             (aligned_at top n) (spot self.old.bits.position self.old.nodes) }
-        ensures failed { IsErrOf result Fault.Failed → HasRisen K.faults (S.faults self.new.bits.source.now) }
+        ensures failed { IsErrOf result PerEnd.Failed → HasRisen K.faults (S.faults self.new.bits.source.now) }
     {
         self.align()?;
         self.within(top, n)
@@ -132,7 +132,7 @@ impl<'a, S: Source, K: Origin, V: Variant> Run<'a, S, K, V> {
 
     // The octets of a number of `0..=top`, one and so many more.
     #[tactic(auto, unfolding(per_fields::specs::Fields::large_octets_at))]
-    fn large_octets(&mut self, top: u128, more: u32) -> Result<u128, Fault>
+    fn large_octets(&mut self, top: u128, more: u32) -> Result<u128, PerEnd>
         requires few { more ≤ 15 }
         requires in_step { IsInStep self.old.bits.position self.old.bits.taken }
         ensures same_reference { self.new.bits.source.ghost_name ≡ self.old.bits.source.ghost_name }
@@ -141,7 +141,7 @@ impl<'a, S: Source, K: Origin, V: Variant> Run<'a, S, K, V> {
         ensures top { IfOk result (λ x. x ≤ top) }
         ensures gives { IsTrue K.told → Gives K.limit K.whole (λ x. x) result (spot self.new.bits.position self.new.nodes) self.new.stop self.new.bits.taken
             (large_octets_at top more) (spot self.old.bits.position self.old.nodes) }
-        ensures failed { IsErrOf result Fault.Failed → HasRisen K.faults (S.faults self.new.bits.source.now) }
+        ensures failed { IsErrOf result PerEnd.Failed → HasRisen K.faults (S.faults self.new.bits.source.now) }
     {
         let begin = self.position();
         let x = self.take_wide(begin, 8 * (more + 1))?;
@@ -156,7 +156,7 @@ impl<'a, S: Source, K: Origin, V: Variant> Run<'a, S, K, V> {
 
     // The octet count and the octets of a number of `0..=top`.
     #[tactic(auto, unfolding(per_fields::specs::Fields::large_at))]
-    fn large(&mut self, top: u128) -> Result<u128, Fault>
+    fn large(&mut self, top: u128) -> Result<u128, PerEnd>
         requires in_step { IsInStep self.old.bits.position self.old.bits.taken }
         ensures same_reference { self.new.bits.source.ghost_name ≡ self.old.bits.source.ghost_name }
         ensures on { OnOk result (GoesOn self.old.bits.position self.new.bits.position self.new.bits.taken) }
@@ -164,7 +164,7 @@ impl<'a, S: Source, K: Origin, V: Variant> Run<'a, S, K, V> {
         ensures top { IfOk result (λ x. x ≤ top) }
         ensures gives { IsTrue K.told → Gives K.limit K.whole (λ x. x) result (spot self.new.bits.position self.new.nodes) self.new.stop self.new.bits.taken
             (large_at top) (spot self.old.bits.position self.old.nodes) }
-        ensures failed { IsErrOf result Fault.Failed → HasRisen K.faults (S.faults self.new.bits.source.now) }
+        ensures failed { IsErrOf result PerEnd.Failed → HasRisen K.faults (S.faults self.new.bits.source.now) }
     {
         let most = more_of(top);
         let more = self.within(most as u64, width_of(most as u128))? as u32;
@@ -175,7 +175,7 @@ impl<'a, S: Source, K: Origin, V: Variant> Run<'a, S, K, V> {
     // A number of `0..=top` in bits or, behind padding, in one or two octets, as the aligned variant has them.
     #[tactic(auto, unfolding(per_fields::specs::Fields::number_at))]
     #[inline(always)]
-    fn small(&mut self, top: u64) -> Result<u64, Fault>
+    fn small(&mut self, top: u64) -> Result<u64, PerEnd>
         requires aligned { V.ALIGNED ≡ true }
         requires some { (top ≡ 0) → ⊥ }
         requires few { top < 65536 }
@@ -186,7 +186,7 @@ impl<'a, S: Source, K: Origin, V: Variant> Run<'a, S, K, V> {
         ensures top { IfOk result (λ x. x ≤ top) }
         ensures gives { IsTrue K.told → Gives K.limit K.whole (λ x. x) result (spot self.new.bits.position self.new.nodes) self.new.stop self.new.bits.taken
             (number_at V.ALIGNED top) (spot self.old.bits.position self.old.nodes) }
-        ensures failed { IsErrOf result Fault.Failed → HasRisen K.faults (S.faults self.new.bits.source.now) }
+        ensures failed { IsErrOf result PerEnd.Failed → HasRisen K.faults (S.faults self.new.bits.source.now) }
     {
         if top < 255 {
             return self.within(top, width_of(top as u128));
@@ -200,7 +200,7 @@ impl<'a, S: Source, K: Origin, V: Variant> Run<'a, S, K, V> {
     /// A number of `0..=top`.
     #[tactic(auto, unfolding(per_fields::specs::Fields::number_at))]
     #[inline(always)]
-    pub(crate) fn number(&mut self, top: u128) -> Result<u128, Fault>
+    pub(crate) fn number(&mut self, top: u128) -> Result<u128, PerEnd>
         requires in_step { IsInStep self.old.bits.position self.old.bits.taken }
         ensures same_reference { self.new.bits.source.ghost_name ≡ self.old.bits.source.ghost_name }
         ensures on { OnOk result (GoesOn self.old.bits.position self.new.bits.position self.new.bits.taken) }
@@ -208,7 +208,7 @@ impl<'a, S: Source, K: Origin, V: Variant> Run<'a, S, K, V> {
         ensures top { IfOk result (λ x. x ≤ top) }
         ensures gives { IsTrue K.told → Gives K.limit K.whole (λ x. x) result (spot self.new.bits.position self.new.nodes) self.new.stop self.new.bits.taken
             (number_at V.ALIGNED top) (spot self.old.bits.position self.old.nodes) }
-        ensures failed { IsErrOf result Fault.Failed → HasRisen K.faults (S.faults self.new.bits.source.now) }
+        ensures failed { IsErrOf result PerEnd.Failed → HasRisen K.faults (S.faults self.new.bits.source.now) }
     {
         if top == 0 {
             return Ok(0);

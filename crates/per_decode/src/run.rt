@@ -2,7 +2,7 @@
 ghost use Rattle.std.specs.Prelude.{◌≡◌, ℕ, ◌<◌, ◌≤◌, ◌+◌, ◌-◌, ◌*◌, ◌^◌, List, [], Bool, false, IsTrue, slice_index};
 ghost use Rattle.per_decode.specs.Private.Standing.{IsAt};
 
-use crate::faults::{Fault, ended_inside, stopped};
+use crate::faults::{PerEnd, ended_inside, stopped};
 use base_codecs::BitSource;
 use base_texts::Source;
 use per_fields::{Stop, Variant, Why};
@@ -70,8 +70,8 @@ impl<'a, S: Source, K: Origin, V: Variant> Run<'a, S, K, V> {
 
     /// A fault of what begins at a bit and ends here.
     #[inline(always)]
-    pub(crate) fn stopped(&mut self, begin: u64, why: Why) -> Fault
-        ensures fault { result ≡ Fault.Stopped }
+    pub(crate) fn stopped(&mut self, begin: u64, why: Why) -> PerEnd
+        ensures fault { result ≡ PerEnd.Stopped }
         ensures stop { self.new.stop ≡ record { bit = begin; why = why; end = self.old.bits.position } }
         ensures bits { self.new.bits ≡ self.old.bits }
         ensures nodes { self.new.nodes ≡ self.old.nodes }
@@ -82,7 +82,7 @@ impl<'a, S: Source, K: Origin, V: Variant> Run<'a, S, K, V> {
 
     /// The next `n` bits, of a field that begins at a bit.
     #[inline(always)]
-    pub(crate) fn take_bits(&mut self, begin: u64, n: u32) -> Result<u64, Fault>
+    pub(crate) fn take_bits(&mut self, begin: u64, n: u32) -> Result<u64, PerEnd>
         requires few { n ≤ 64 }
         requires in_step { IsInStep self.old.bits.position self.old.bits.taken }
         ensures same_reference { self.new.bits.source.ghost_name ≡ self.old.bits.source.ghost_name }
@@ -92,7 +92,7 @@ impl<'a, S: Source, K: Origin, V: Variant> Run<'a, S, K, V> {
         ensures below { IfOk result (λ x. x < 2 ^ n) }
         ensures gives { IsTrue K.told → Gives K.limit K.whole (λ x. x) result (spot self.new.bits.position self.new.nodes) self.new.stop self.new.bits.taken
             (bits_at begin n) (spot self.old.bits.position self.old.nodes) }
-        ensures failed { IsErrOf result Fault.Failed → HasRisen K.faults (S.faults self.new.bits.source.now) }
+        ensures failed { IsErrOf result PerEnd.Failed → HasRisen K.faults (S.faults self.new.bits.source.now) }
     {
         match self.bits.take_bits(n) {
             Ok(x) => Ok(x),
@@ -102,7 +102,7 @@ impl<'a, S: Source, K: Origin, V: Variant> Run<'a, S, K, V> {
 
     /// The padding up to the next octet.
     #[inline(always)]
-    pub(crate) fn align(&mut self) -> Result<(), Fault>
+    pub(crate) fn align(&mut self) -> Result<(), PerEnd>
         requires in_step { IsInStep self.old.bits.position self.old.bits.taken }
         ensures same_reference { self.new.bits.source.ghost_name ≡ self.old.bits.source.ghost_name }
         ensures on { OnOk result (GoesOn self.old.bits.position self.new.bits.position self.new.bits.taken) }
@@ -110,7 +110,7 @@ impl<'a, S: Source, K: Origin, V: Variant> Run<'a, S, K, V> {
         ensures aligned { OnOk result (self.new.bits.position % 8 ≡ 0) }
         ensures gives { IsTrue K.told → Gives K.limit K.whole (λ x. 0) result (spot self.new.bits.position self.new.nodes) self.new.stop self.new.bits.taken
             (align_at) (spot self.old.bits.position self.old.nodes) }
-        ensures failed { IsErrOf result Fault.Failed → HasRisen K.faults (S.faults self.new.bits.source.now) }
+        ensures failed { IsErrOf result PerEnd.Failed → HasRisen K.faults (S.faults self.new.bits.source.now) }
     {
         let begin = self.position();
         match self.bits.align() {
@@ -124,7 +124,7 @@ impl<'a, S: Source, K: Origin, V: Variant> Run<'a, S, K, V> {
 
     /// What is before a field that begins at an octet in the aligned variant.
     #[inline(always)]
-    pub(crate) fn skip(&mut self) -> Result<(), Fault>
+    pub(crate) fn skip(&mut self) -> Result<(), PerEnd>
         requires in_step { IsInStep self.old.bits.position self.old.bits.taken }
         ensures same_reference { self.new.bits.source.ghost_name ≡ self.old.bits.source.ghost_name }
         ensures on { OnOk result (GoesOn self.old.bits.position self.new.bits.position self.new.bits.taken) }
@@ -132,7 +132,7 @@ impl<'a, S: Source, K: Origin, V: Variant> Run<'a, S, K, V> {
         ensures aligned { OnOk result (V.ALIGNED ≡ true → self.new.bits.position % 8 ≡ 0) }
         ensures gives { IsTrue K.told → Gives K.limit K.whole (λ x. 0) result (spot self.new.bits.position self.new.nodes) self.new.stop self.new.bits.taken
             (skip_at V.ALIGNED) (spot self.old.bits.position self.old.nodes) }
-        ensures failed { IsErrOf result Fault.Failed → HasRisen K.faults (S.faults self.new.bits.source.now) }
+        ensures failed { IsErrOf result PerEnd.Failed → HasRisen K.faults (S.faults self.new.bits.source.now) }
     {
         if V::ALIGNED {
             return self.align();
@@ -142,7 +142,7 @@ impl<'a, S: Source, K: Origin, V: Variant> Run<'a, S, K, V> {
 
     // Fills the buffer with the next octets, where reading is at an octet.
     #[inline(always)]
-    fn fill_aligned(&mut self, octets: &mut [u8]) -> Result<(), Fault>
+    fn fill_aligned(&mut self, octets: &mut [u8]) -> Result<(), PerEnd>
         requires few { length octets.old ≤ 65536 }
         requires in_step { IsInStep self.old.bits.position self.old.bits.taken }
         requires aligned { self.old.bits.position % 8 ≡ 0 }
@@ -152,7 +152,7 @@ impl<'a, S: Source, K: Origin, V: Variant> Run<'a, S, K, V> {
         ensures moved { OnOk result (self.new.bits.position ≡ self.old.bits.position + 8 * length octets.old) }
         ensures gives { IsTrue K.told → Gives K.limit K.whole (λ done. octets.new) result (spot self.new.bits.position self.new.nodes) self.new.stop self.new.bits.taken
             (octets_at (length octets.old)) (spot self.old.bits.position self.old.nodes) }
-        ensures failed { IsErrOf result Fault.Failed → HasRisen K.faults (S.faults self.new.bits.source.now) }
+        ensures failed { IsErrOf result PerEnd.Failed → HasRisen K.faults (S.faults self.new.bits.source.now) }
     {
         let begin = self.position();
         match self.bits.fill_octets(octets) {
@@ -165,7 +165,7 @@ impl<'a, S: Source, K: Origin, V: Variant> Run<'a, S, K, V> {
     }
 
     // Fills the octets with the bits from here on, which may begin inside an octet.
-    fn fill_across(&mut self, octets: &mut [u8]) -> Result<(), Fault>
+    fn fill_across(&mut self, octets: &mut [u8]) -> Result<(), PerEnd>
         requires few { length octets.old ≤ 65536 }
         requires in_step { IsInStep self.old.bits.position self.old.bits.taken }
         ensures same_reference { self.new.bits.source.ghost_name ≡ self.old.bits.source.ghost_name }
@@ -174,7 +174,7 @@ impl<'a, S: Source, K: Origin, V: Variant> Run<'a, S, K, V> {
         ensures moved { OnOk result (self.new.bits.position ≡ self.old.bits.position + 8 * length octets.old) }
         ensures gives { IsTrue K.told → Gives K.limit K.whole (λ done. octets.new) result (spot self.new.bits.position self.new.nodes) self.new.stop self.new.bits.taken
             (octets_at (length octets.old)) (spot self.old.bits.position self.old.nodes) }
-        ensures failed { IsErrOf result Fault.Failed → HasRisen K.faults (S.faults self.new.bits.source.now) }
+        ensures failed { IsErrOf result PerEnd.Failed → HasRisen K.faults (S.faults self.new.bits.source.now) }
     {
         let begin = self.position();
         match self.bits.fill_across(octets) {
@@ -188,7 +188,7 @@ impl<'a, S: Source, K: Origin, V: Variant> Run<'a, S, K, V> {
 
     /// Fills the buffer with the next octets.
     #[inline(always)]
-    pub(crate) fn fill_octets(&mut self, octets: &mut [u8]) -> Result<(), Fault>
+    pub(crate) fn fill_octets(&mut self, octets: &mut [u8]) -> Result<(), PerEnd>
         requires few { length octets.old ≤ 65536 }
         requires in_step { IsInStep self.old.bits.position self.old.bits.taken }
         requires aligned { V.ALIGNED ≡ true → self.old.bits.position % 8 ≡ 0 }
@@ -198,7 +198,7 @@ impl<'a, S: Source, K: Origin, V: Variant> Run<'a, S, K, V> {
         ensures moved { OnOk result (self.new.bits.position ≡ self.old.bits.position + 8 * length octets.old) }
         ensures gives { IsTrue K.told → Gives K.limit K.whole (λ done. octets.new) result (spot self.new.bits.position self.new.nodes) self.new.stop self.new.bits.taken
             (octets_at (length octets.old)) (spot self.old.bits.position self.old.nodes) }
-        ensures failed { IsErrOf result Fault.Failed → HasRisen K.faults (S.faults self.new.bits.source.now) }
+        ensures failed { IsErrOf result PerEnd.Failed → HasRisen K.faults (S.faults self.new.bits.source.now) }
     {
         if V::ALIGNED {
             return self.fill_aligned(octets);
@@ -207,7 +207,7 @@ impl<'a, S: Source, K: Origin, V: Variant> Run<'a, S, K, V> {
     }
 
     /// The next `n` octets.
-    pub(crate) fn take_octets(&mut self, alloc: Global, n: u32) -> Result<Vec<u8>, Fault>
+    pub(crate) fn take_octets(&mut self, alloc: Global, n: u32) -> Result<Vec<u8>, PerEnd>
         requires few { n ≤ 65536 }
         requires in_step { IsInStep self.old.bits.position self.old.bits.taken }
         requires aligned { V.ALIGNED ≡ true → self.old.bits.position % 8 ≡ 0 }
@@ -218,7 +218,7 @@ impl<'a, S: Source, K: Origin, V: Variant> Run<'a, S, K, V> {
         ensures count { IfOk result (λ octets. length octets.items ≡ n) }
         ensures gives { IsTrue K.told → Gives K.limit K.whole (λ octets. octets.items) result (spot self.new.bits.position self.new.nodes) self.new.stop self.new.bits.taken
             (octets_at n) (spot self.old.bits.position self.old.nodes) }
-        ensures failed { IsErrOf result Fault.Failed → HasRisen K.faults (S.faults self.new.bits.source.now) }
+        ensures failed { IsErrOf result PerEnd.Failed → HasRisen K.faults (S.faults self.new.bits.source.now) }
     {
         let mut octets = vec![in alloc; 0u8; n as usize]?;
         self.fill_octets(&mut octets)?;

@@ -16,7 +16,7 @@ ghost use Rattle.per_decode.specs.Private.Newest.{newest};
 ghost use Rattle.per_decode.specs.Private.Kept.{octets_behind};
 ghost use Rattle.per_decode.specs.Private.Pieces.{piece_of, IsPiece};
 
-use crate::faults::{Fault, stopped};
+use crate::faults::{PerEnd, stopped};
 use crate::lengths::{MOST_UNITS, Piece};
 use crate::plain::{is_plain, keeps_rules};
 use crate::run::{Origin, Run};
@@ -38,7 +38,7 @@ pub(crate) fn text<S: Source, K: Origin, V: Variant>(
     found: &Tree<TypeLabel>,
     begin: u64,
     values: &mut Builder<ValueLabel>,
-) -> Result<(), Fault>
+) -> Result<(), PerEnd>
     requires known { IsKnown module.now }
     requires of { IsOf module.now node.now }
     requires text { IsText (label_of (refs.resolve module.now node.now)).form }
@@ -52,7 +52,7 @@ pub(crate) fn text<S: Source, K: Origin, V: Variant>(
     ensures own { OnOk result (Own module.now node.now (newest values.new.kids)) }
     ensures gives { IsTrue K.told → Gives K.limit K.whole (λ _. newest values.new.kids) result (spot run.new.bits.position run.new.nodes) run.new.stop run.new.bits.taken
         (kept_by module.now begin (refs.resolve module.now node.now) (counted_at V.ALIGNED 0 None octets_at)) (spot run.old.bits.position run.old.nodes) }
-    ensures failed { IsErrOf result Fault.Failed → HasRisen K.faults (S.faults run.new.bits.source.now) }
+    ensures failed { IsErrOf result PerEnd.Failed → HasRisen K.faults (S.faults run.new.bits.source.now) }
 {
     let piece = run.count(0, None, MOST_UNITS, 0)?;
     match piece {
@@ -74,7 +74,7 @@ fn short_text<S: Source, K: Origin, V: Variant>(
     begin: u64,
     n: u32,
     values: &mut Builder<ValueLabel>,
-) -> Result<(), Fault>
+) -> Result<(), PerEnd>
     requires few { n ≤ 22 }
     requires known { IsKnown module.now }
     requires of { IsOf module.now node.now }
@@ -90,7 +90,7 @@ fn short_text<S: Source, K: Origin, V: Variant>(
     ensures own { OnOk result (Own module.now node.now (newest values.new.kids)) }
     ensures gives { IsTrue K.told → Gives K.limit K.whole (λ _. newest values.new.kids) result (spot run.new.bits.position run.new.nodes) run.new.stop run.new.bits.taken
         (kept_by module.now begin (refs.resolve module.now node.now) (octets_at n)) (spot run.old.bits.position run.old.nodes) }
-    ensures failed { IsErrOf result Fault.Failed → HasRisen K.faults (S.faults run.new.bits.source.now) }
+    ensures failed { IsErrOf result PerEnd.Failed → HasRisen K.faults (S.faults run.new.bits.source.now) }
 {
     let mut bytes = [0u8; ROOM];
     run.fill_few(&mut bytes, n)?;
@@ -119,7 +119,7 @@ fn long_text<S: Source, K: Origin, V: Variant>(
     begin: u64,
     first: Piece,
     values: &mut Builder<ValueLabel>,
-) -> Result<(), Fault>
+) -> Result<(), PerEnd>
     requires piece { IsPiece first }
     requires known { IsKnown module.now }
     requires of { IsOf module.now node.now }
@@ -134,7 +134,7 @@ fn long_text<S: Source, K: Origin, V: Variant>(
     ensures own { OnOk result (Own module.now node.now (newest values.new.kids)) }
     ensures gives { IsTrue K.told → Gives K.limit K.whole (λ _. newest values.new.kids) result (spot run.new.bits.position run.new.nodes) run.new.stop run.new.bits.taken
         (kept_by module.now begin (refs.resolve module.now node.now) (octets_behind V.ALIGNED (piece_of first))) (spot run.old.bits.position run.old.nodes) }
-    ensures failed { IsErrOf result Fault.Failed → HasRisen K.faults (S.faults run.new.bits.source.now) }
+    ensures failed { IsErrOf result PerEnd.Failed → HasRisen K.faults (S.faults run.new.bits.source.now) }
 {
     let octets = run.octets_behind(alloc, first)?;
     let end = run.position();
@@ -164,7 +164,7 @@ fn few_octets(
     end: u64,
     stop: &mut Stop,
     values: &mut Builder<ValueLabel>,
-) -> Result<(), Fault>
+) -> Result<(), PerEnd>
     requires few { count ≤ 22 }
     requires known { IsKnown module.now }
     requires of { IsOf module.now node.now }
@@ -172,9 +172,9 @@ fn few_octets(
     requires found { found.now ≡ refs.resolve module.now node.now }
     ensures pushed { OnOk result (values.new ≡ added (text_leaf (take count bytes.now)) values.old) }
     ensures ok { OnOk result (IsUtf8 (take count bytes.now) × Own module.now node.now (text_leaf (take count bytes.now))) }
-    ensures err { IfErr result (λ fault. (fault ≡ Fault.Memory)
-        ⊎ ((fault ≡ Fault.Stopped) × (stop.new ≡ record { bit = begin; why = Why.NotUtf8; end = end }) × (IsUtf8 (take count bytes.now) → ⊥))
-        ⊎ ((fault ≡ Fault.Stopped) × (stop.new ≡ record { bit = begin; why = Why.NotAValue; end = end }) × IsUtf8 (take count bytes.now) × (Own module.now node.now (text_leaf (take count bytes.now)) → ⊥))) }
+    ensures err { IfErr result (λ fault. (fault ≡ PerEnd.Memory)
+        ⊎ ((fault ≡ PerEnd.Stopped) × (stop.new ≡ record { bit = begin; why = Why.NotUtf8; end = end }) × (IsUtf8 (take count bytes.now) → ⊥))
+        ⊎ ((fault ≡ PerEnd.Stopped) × (stop.new ≡ record { bit = begin; why = Why.NotAValue; end = end }) × IsUtf8 (take count bytes.now) × (Own module.now node.now (text_leaf (take count bytes.now)) → ⊥))) }
 {
     match Text::of_ascii(*bytes, count) {
         Some(text) => {
@@ -208,20 +208,20 @@ fn copied_text(
     end: u64,
     stop: &mut Stop,
     values: &mut Builder<ValueLabel>,
-) -> Result<(), Fault>
+) -> Result<(), PerEnd>
     requires known { IsKnown module.now }
     requires of { IsOf module.now node.now }
     requires text { IsText (label_of (refs.resolve module.now node.now)).form }
     ensures pushed { OnOk result (values.new ≡ added (text_leaf octets.now) values.old) }
     ensures ok { OnOk result (IsUtf8 octets.now × Own module.now node.now (text_leaf octets.now)) }
-    ensures err { IfErr result (λ fault. (fault ≡ Fault.Memory)
-        ⊎ ((fault ≡ Fault.Stopped) × (stop.new ≡ record { bit = begin; why = Why.NotUtf8; end = end }) × (IsUtf8 octets.now → ⊥))
-        ⊎ ((fault ≡ Fault.Stopped) × (stop.new ≡ record { bit = begin; why = Why.NotAValue; end = end }) × IsUtf8 octets.now × (Own module.now node.now (text_leaf octets.now) → ⊥))) }
+    ensures err { IfErr result (λ fault. (fault ≡ PerEnd.Memory)
+        ⊎ ((fault ≡ PerEnd.Stopped) × (stop.new ≡ record { bit = begin; why = Why.NotUtf8; end = end }) × (IsUtf8 octets.now → ⊥))
+        ⊎ ((fault ≡ PerEnd.Stopped) × (stop.new ≡ record { bit = begin; why = Why.NotAValue; end = end }) × IsUtf8 octets.now × (Own module.now node.now (text_leaf octets.now) → ⊥))) }
 {
     match Text::of(alloc, octets) {
         Ok(text) => owned_text(module, node, text, begin, end, stop, values),
         Err(TextError::NotUtf8) => Err(stopped(stop, begin, Why::NotUtf8, end)),
-        Err(TextError::Memory) => Err(Fault::Memory),
+        Err(TextError::Memory) => Err(PerEnd::Memory),
     }
 }
 
@@ -234,14 +234,14 @@ fn owned_text(
     end: u64,
     stop: &mut Stop,
     values: &mut Builder<ValueLabel>,
-) -> Result<(), Fault>
+) -> Result<(), PerEnd>
     requires known { IsKnown module.now }
     requires of { IsOf module.now node.now }
     requires text { IsText (label_of (refs.resolve module.now node.now)).form }
     ensures pushed { OnOk result (values.new ≡ added (text_leaf text) values.old) }
     ensures ok { OnOk result (Own module.now node.now (text_leaf text)) }
-    ensures err { IfErr result (λ fault. (fault ≡ Fault.Memory)
-        ⊎ ((fault ≡ Fault.Stopped) × (stop.new ≡ record { bit = begin; why = Why.NotAValue; end = end }) × (Own module.now node.now (text_leaf text) → ⊥))) }
+    ensures err { IfErr result (λ fault. (fault ≡ PerEnd.Memory)
+        ⊎ ((fault ≡ PerEnd.Stopped) × (stop.new ≡ record { bit = begin; why = Why.NotAValue; end = end }) × (Own module.now node.now (text_leaf text) → ⊥))) }
 {
     if keeps_rules(module, resolve(module, node), &text) {
         values.leaf(ValueLabel::Utf8(text))?;

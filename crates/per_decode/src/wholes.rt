@@ -4,7 +4,7 @@ ghost use Rattle.simple_types.specs.Lexical.{is_128_bits, is_from};
 ghost use Rattle.simple_types.specs.Sound.{AreBounds};
 ghost use Rattle.per_fields.specs.Widths.{distance, raised, magnitude, more_signed, signed_of};
 
-use crate::faults::Fault;
+use crate::faults::PerEnd;
 use crate::numbers::width_of;
 use crate::run::{Origin, Run};
 use base_texts::Source;
@@ -58,7 +58,7 @@ impl<'a, S: Source, K: Origin, V: Variant> Run<'a, S, K, V> {
 
     // The octets of a number from a least one, one and so many more.
     #[tactic(auto, unfolding(per_fields::specs::Fields::from_octets_at))]
-    fn from_octets(&mut self, lo: i128, more: u32) -> Result<i128, Fault>
+    fn from_octets(&mut self, lo: i128, more: u32) -> Result<i128, PerEnd>
         requires few { more ≤ 15 }
         requires in_step { IsInStep self.old.bits.position self.old.bits.taken }
         ensures same_reference { self.new.bits.source.ghost_name ≡ self.old.bits.source.ghost_name }
@@ -67,7 +67,7 @@ impl<'a, S: Source, K: Origin, V: Variant> Run<'a, S, K, V> {
         ensures bounds { IfOk result (λ z. is_from (Some lo) z ≡ true) }
         ensures gives { IsTrue K.told → Gives K.limit K.whole (λ x. x) result (spot self.new.bits.position self.new.nodes) self.new.stop self.new.bits.taken
             (from_octets_at lo more) (spot self.old.bits.position self.old.nodes) }
-        ensures failed { IsErrOf result Fault.Failed → HasRisen K.faults (S.faults self.new.bits.source.now) }
+        ensures failed { IsErrOf result PerEnd.Failed → HasRisen K.faults (S.faults self.new.bits.source.now) }
     {
         let begin = self.position();
         let x = self.take_wide(begin, 8 * (more + 1))?;
@@ -82,7 +82,7 @@ impl<'a, S: Source, K: Origin, V: Variant> Run<'a, S, K, V> {
 
     // A number from a least one, without a greatest.
     #[tactic(auto, unfolding(per_fields::specs::Fields::from_at))]
-    fn from(&mut self, lo: i128) -> Result<i128, Fault>
+    fn from(&mut self, lo: i128) -> Result<i128, PerEnd>
         requires in_step { IsInStep self.old.bits.position self.old.bits.taken }
         ensures same_reference { self.new.bits.source.ghost_name ≡ self.old.bits.source.ghost_name }
         ensures on { OnOk result (GoesOn self.old.bits.position self.new.bits.position self.new.bits.taken) }
@@ -90,7 +90,7 @@ impl<'a, S: Source, K: Origin, V: Variant> Run<'a, S, K, V> {
         ensures bounds { IfOk result (λ z. is_from (Some lo) z ≡ true) }
         ensures gives { IsTrue K.told → Gives K.limit K.whole (λ x. x) result (spot self.new.bits.position self.new.nodes) self.new.stop self.new.bits.taken
             (from_at V.ALIGNED lo) (spot self.old.bits.position self.old.nodes) }
-        ensures failed { IsErrOf result Fault.Failed → HasRisen K.faults (S.faults self.new.bits.source.now) }
+        ensures failed { IsErrOf result PerEnd.Failed → HasRisen K.faults (S.faults self.new.bits.source.now) }
     {
         let more = self.octet_count()?;
         self.from_octets(lo, more)
@@ -98,7 +98,7 @@ impl<'a, S: Source, K: Origin, V: Variant> Run<'a, S, K, V> {
 
     // The octets of a number in two's complement, one and so many more.
     #[tactic(auto, unfolding(per_fields::specs::Fields::signed_octets_at))]
-    fn signed_octets(&mut self, hi: Option<i128>, more: u32) -> Result<i128, Fault>
+    fn signed_octets(&mut self, hi: Option<i128>, more: u32) -> Result<i128, PerEnd>
         requires few { more ≤ 15 }
         requires in_step { IsInStep self.old.bits.position self.old.bits.taken }
         ensures same_reference { self.new.bits.source.ghost_name ≡ self.old.bits.source.ghost_name }
@@ -107,7 +107,7 @@ impl<'a, S: Source, K: Origin, V: Variant> Run<'a, S, K, V> {
         ensures bounds { IfOk result (λ z. is_to hi z ≡ true) }
         ensures gives { IsTrue K.told → Gives K.limit K.whole (λ x. x) result (spot self.new.bits.position self.new.nodes) self.new.stop self.new.bits.taken
             (signed_octets_at hi more) (spot self.old.bits.position self.old.nodes) }
-        ensures failed { IsErrOf result Fault.Failed → HasRisen K.faults (S.faults self.new.bits.source.now) }
+        ensures failed { IsErrOf result PerEnd.Failed → HasRisen K.faults (S.faults self.new.bits.source.now) }
     {
         let begin = self.position();
         let x = self.take_wide(begin, 8 * (more + 1))?;
@@ -123,7 +123,7 @@ impl<'a, S: Source, K: Origin, V: Variant> Run<'a, S, K, V> {
 
     // A number without a least one.
     #[tactic(auto, unfolding(per_fields::specs::Fields::signed_at))]
-    fn signed(&mut self, hi: Option<i128>) -> Result<i128, Fault>
+    fn signed(&mut self, hi: Option<i128>) -> Result<i128, PerEnd>
         requires in_step { IsInStep self.old.bits.position self.old.bits.taken }
         ensures same_reference { self.new.bits.source.ghost_name ≡ self.old.bits.source.ghost_name }
         ensures on { OnOk result (GoesOn self.old.bits.position self.new.bits.position self.new.bits.taken) }
@@ -131,7 +131,7 @@ impl<'a, S: Source, K: Origin, V: Variant> Run<'a, S, K, V> {
         ensures bounds { IfOk result (λ z. is_to hi z ≡ true) }
         ensures gives { IsTrue K.told → Gives K.limit K.whole (λ x. x) result (spot self.new.bits.position self.new.nodes) self.new.stop self.new.bits.taken
             (signed_at V.ALIGNED hi) (spot self.old.bits.position self.old.nodes) }
-        ensures failed { IsErrOf result Fault.Failed → HasRisen K.faults (S.faults self.new.bits.source.now) }
+        ensures failed { IsErrOf result PerEnd.Failed → HasRisen K.faults (S.faults self.new.bits.source.now) }
     {
         let more = self.octet_count()?;
         self.signed_octets(hi, more)
@@ -140,7 +140,7 @@ impl<'a, S: Source, K: Origin, V: Variant> Run<'a, S, K, V> {
     // A number between two.
     #[tactic(auto, unfolding(per_fields::specs::Fields::ranged_at))]
     #[inline(always)]
-    fn ranged(&mut self, lo: i128, hi: i128) -> Result<i128, Fault>
+    fn ranged(&mut self, lo: i128, hi: i128) -> Result<i128, PerEnd>
         requires bounds { AreBounds (Some lo) (Some hi) }
         requires in_step { IsInStep self.old.bits.position self.old.bits.taken }
         ensures same_reference { self.new.bits.source.ghost_name ≡ self.old.bits.source.ghost_name }
@@ -149,7 +149,7 @@ impl<'a, S: Source, K: Origin, V: Variant> Run<'a, S, K, V> {
         ensures bounds { IfOk result (λ z. (is_from (Some lo) z ≡ true) × (is_to (Some hi) z ≡ true)) }
         ensures gives { IsTrue K.told → Gives K.limit K.whole (λ x. x) result (spot self.new.bits.position self.new.nodes) self.new.stop self.new.bits.taken
             (ranged_at V.ALIGNED lo hi) (spot self.old.bits.position self.old.nodes) }
-        ensures failed { IsErrOf result Fault.Failed → HasRisen K.faults (S.faults self.new.bits.source.now) }
+        ensures failed { IsErrOf result PerEnd.Failed → HasRisen K.faults (S.faults self.new.bits.source.now) }
     {
         let x = self.number(distance(lo, hi))?;
         match raised(lo, x) {
@@ -161,7 +161,7 @@ impl<'a, S: Source, K: Origin, V: Variant> Run<'a, S, K, V> {
     /// A whole number within bounds.
     #[tactic(auto, unfolding(per_fields::specs::Fields::whole_at))]
     #[inline(always)]
-    pub(crate) fn whole(&mut self, lo: Option<i128>, hi: Option<i128>) -> Result<i128, Fault>
+    pub(crate) fn whole(&mut self, lo: Option<i128>, hi: Option<i128>) -> Result<i128, PerEnd>
         requires bounds { AreBounds lo hi }
         requires in_step { IsInStep self.old.bits.position self.old.bits.taken }
         ensures same_reference { self.new.bits.source.ghost_name ≡ self.old.bits.source.ghost_name }
@@ -170,7 +170,7 @@ impl<'a, S: Source, K: Origin, V: Variant> Run<'a, S, K, V> {
         ensures bounds { IfOk result (λ z. (is_from lo z ≡ true) × (is_to hi z ≡ true)) }
         ensures gives { IsTrue K.told → Gives K.limit K.whole (λ x. x) result (spot self.new.bits.position self.new.nodes) self.new.stop self.new.bits.taken
             (whole_at V.ALIGNED lo hi) (spot self.old.bits.position self.old.nodes) }
-        ensures failed { IsErrOf result Fault.Failed → HasRisen K.faults (S.faults self.new.bits.source.now) }
+        ensures failed { IsErrOf result PerEnd.Failed → HasRisen K.faults (S.faults self.new.bits.source.now) }
     {
         match (lo, hi) {
             (Some(lo), Some(hi)) => self.ranged(lo, hi),

@@ -16,7 +16,9 @@ use people_options::{
     Action, Asked, Input, LoadedFiles, Parsed, Progress, SyntaxOption, manual_page, parse_words,
     save,
 };
-use people_results::{Fault, behind_stamp, due_of, module_of, stamp_line, stamp_of_files, stamped};
+use people_results::{
+    NoResult, behind_stamp, due_of, module_of, stamp_line, stamp_of_files, stamped,
+};
 use per_fields::Why;
 use std::alloc::Global;
 use std::env;
@@ -197,34 +199,34 @@ fn shown_plain(alloc: Global, work: &mut Work<'_>) -> Result<Vec<u8>, Outcome> {
 }
 
 // What the fixed program would write, with the stamp where it is asked for.
-fn transcoded(alloc: Global, work: &mut Work<'_>, root: &str) -> Result<Vec<u8>, Fault> {
+fn transcoded(alloc: Global, work: &mut Work<'_>, root: &str) -> Result<Vec<u8>, NoResult> {
     let asked = work.asked;
     let command = fixed_command(asked.task, asked.syntax);
     let (names, files, input) = (&work.names, &mut work.files, &mut work.input);
     match asked.task {
         Action::ToXml if asked.stamp => behind_stamp(alloc, command, root, names, files, input),
         Action::ToPer if asked.stamp => {
-            stamped(alloc, command, root, names, files, input).map_err(Fault::Outcome)
+            stamped(alloc, command, root, names, files, input).map_err(NoResult::Outcome)
         }
-        _ => due_of(alloc, command, root, names, files, input).map_err(Fault::Outcome),
+        _ => due_of(alloc, command, root, names, files, input).map_err(NoResult::Outcome),
     }
 }
 
 // What is to be written.
-fn result_of(alloc: Global, work: &mut Work<'_>) -> Result<Vec<u8>, Fault> {
+fn result_of(alloc: Global, work: &mut Work<'_>) -> Result<Vec<u8>, NoResult> {
     let asked = work.asked;
     match asked.task {
-        Action::Show if asked.stamp => shown_stamp(alloc, work).map_err(Fault::Outcome),
-        Action::Show if asked.plain => shown_plain(alloc, work).map_err(Fault::Outcome),
+        Action::Show if asked.stamp => shown_stamp(alloc, work).map_err(NoResult::Outcome),
+        Action::Show if asked.plain => shown_plain(alloc, work).map_err(NoResult::Outcome),
         _ => {
-            let root = root_of(alloc, work).map_err(Fault::Outcome)?;
+            let root = root_of(alloc, work).map_err(NoResult::Outcome)?;
             transcoded(alloc, work, root.as_str())
         }
     }
 }
 
 // Writes the result where it is wanted.
-fn write_result(rt: &HostRuntime, asked: &Asked<'_>, bytes: &[u8]) -> Result<(), Fault> {
+fn write_result(rt: &HostRuntime, asked: &Asked<'_>, bytes: &[u8]) -> Result<(), NoResult> {
     let written = match asked.output {
         Some(name) => save(rt.alloc(), rt, name, bytes),
         None => {
@@ -238,14 +240,14 @@ fn write_result(rt: &HostRuntime, asked: &Asked<'_>, bytes: &[u8]) -> Result<(),
             write_all(&mut Writing::new(rt.stdout()), bytes)
         }
     };
-    written.map_err(|_| Fault::Outcome(Outcome::WriteFault))
+    written.map_err(|_| NoResult::Outcome(Outcome::WriteFault))
 }
 
 // What is told of a fault.
-fn text_of(alloc: Global, work: &mut Work<'_>, fault: Fault) -> Result<String, Memory> {
+fn text_of(alloc: Global, work: &mut Work<'_>, fault: NoResult) -> Result<String, Memory> {
     match fault {
-        Fault::Stamp => tell_whole(alloc, work.asked.input.unwrap_or("input"), STAMP),
-        Fault::Outcome(outcome) => {
+        NoResult::Stamp => tell_whole(alloc, work.asked.input.unwrap_or("input"), STAMP),
+        NoResult::Outcome(outcome) => {
             if !matches!(outcome, Outcome::UnknownRoot) {
                 return complaint_of(alloc, work, outcome);
             }
@@ -302,7 +304,7 @@ fn worked(
     rt: &HostRuntime,
     work: &mut Work<'_>,
     progress: &Progress<'_, HostRuntime>,
-) -> Result<(), Fault> {
+) -> Result<(), NoResult> {
     let result = result_of(rt.alloc(), work);
     // The line of what was read gives way to the result or the complaint.
     progress.end();
@@ -310,10 +312,10 @@ fn worked(
 }
 
 // The outcome by which the fixed program would end.
-fn outcome_of(fault: Fault) -> Outcome {
+fn outcome_of(fault: NoResult) -> Outcome {
     match fault {
-        Fault::Outcome(outcome) => outcome,
-        Fault::Stamp => Outcome::PerFault {
+        NoResult::Outcome(outcome) => outcome,
+        NoResult::Stamp => Outcome::PerFault {
             bit: 0,
             why: Why::NotAValue,
         },

@@ -21,8 +21,8 @@ use Rattle.validity_check.specs.declared.error.CheckError.TheVariants.{Invalid, 
 
 -- the fault is one of these; or memory is missing
 abbrev pub Tells : (ℕ → InvalidWhy → Type 0) → CheckError → Type 0
-Tells Fault (Invalid at why) = Fault at why
-Tells Fault Memory = Unit {0}
+Tells Invalidity (Invalid at why) = Invalidity at why
+Tells Invalidity Memory = Unit {0}
 
 -- ---- start tags
 

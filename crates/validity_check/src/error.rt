@@ -8,7 +8,7 @@ use validity_rules::InvalidWhy;
 /// The first fault: its place in bytes from 0, and its reason.
 #[derive(Clone, Copy, Debug, PartialEq, Eq, Error)]
 #[error("byte {at}: {why}")]
-pub struct Fault {
+pub struct Invalidity {
     pub at: u64,
     pub why: InvalidWhy,
 }
@@ -33,12 +33,12 @@ impl From<Memory> for CheckError {
     }
 }
 
-impl From<Fault> for CheckError {
+impl From<Invalidity> for CheckError {
     ghost use Rattle.validity_check.specs.declared.error.CheckError.{CheckError};
 
     ghost from_gives = { λ fault error. error ≡ CheckError.Invalid fault.at fault.why };
 
-    fn from(fault: Fault) -> CheckError {
+    fn from(fault: Invalidity) -> CheckError {
         CheckError::Invalid {
             at: fault.at,
             why: fault.why,

@@ -6,7 +6,7 @@ ghost use Rattle.xml_items.specs.Seen.{item_seen};
 ghost use Rattle.validity_rules.specs.Valid as rule;
 ghost use Rattle.validity_rules.specs.Faults.{why_kid, FirstKid, FirstElement};
 
-use crate::error::Fault;
+use crate::error::Invalidity;
 use std::iter::Iterator;
 use validity_rules::InvalidWhy;
 use xml_items::{Characters, ItemKids, ItemRef};
@@ -21,14 +21,14 @@ fn why_kid(label: &ItemRef<'_>) -> InvalidWhy
 }
 
 /// An element that is nil has no kids.
-pub fn check_empty(mut kids: ItemKids<'_>) -> Result<(), Fault>
+pub fn check_empty(mut kids: ItemKids<'_>) -> Result<(), Invalidity>
     ensures { MatchResult result
         (λ _. roses_of kids.entry ≡ none)
         (λ fault. FirstKid (roses_of kids.entry) (λ _. InvalidWhy.NilWithContent) fault.at fault.why) }
 {
     match kids.next() {
         None => Ok(()),
-        Some(first) => Err(Fault {
+        Some(first) => Err(Invalidity {
             at: first.label().place(),
             why: InvalidWhy::NilWithContent,
         }),
@@ -36,7 +36,7 @@ pub fn check_empty(mut kids: ItemKids<'_>) -> Result<(), Fault>
 }
 
 /// An element in which nothing may stand has no kids.
-pub fn check_no_content(mut kids: ItemKids<'_>) -> Result<(), Fault>
+pub fn check_no_content(mut kids: ItemKids<'_>) -> Result<(), Invalidity>
     ensures { MatchResult result
         (λ _. roses_of kids.entry ≡ none)
         (λ fault. FirstKid (roses_of kids.entry) why_kid fault.at fault.why) }
@@ -45,7 +45,7 @@ pub fn check_no_content(mut kids: ItemKids<'_>) -> Result<(), Fault>
         None => Ok(()),
         Some(first) => {
             let label = first.label();
-            Err(Fault {
+            Err(Invalidity {
                 at: label.place(),
                 why: why_kid(&label),
             })
@@ -54,7 +54,7 @@ pub fn check_no_content(mut kids: ItemKids<'_>) -> Result<(), Fault>
 }
 
 /// The characters of an element that has no child elements, none where it has no kids.
-pub fn only_text<'a>(mut kids: ItemKids<'a>) -> Result<Characters<'a>, Fault>
+pub fn only_text<'a>(mut kids: ItemKids<'a>) -> Result<Characters<'a>, Invalidity>
     requires { are_sound (roses_of kids) ≡ true }
     ensures { MatchResult result
         (λ text. rule.only_text (roses_of kids.entry) ≡ Some text)
@@ -64,14 +64,14 @@ pub fn only_text<'a>(mut kids: ItemKids<'a>) -> Result<Characters<'a>, Fault>
         return Ok(Characters::none());
     };
     match first.label() {
-        ItemRef::Element { at, .. } => Err(Fault {
+        ItemRef::Element { at, .. } => Err(Invalidity {
             at,
             why: InvalidWhy::ElementNotAllowed,
         }),
         ItemRef::Text { text, .. } => match kids.next() {
             None => Ok(text),
             // No two texts are neighbours.
-            Some(second) => Err(Fault {
+            Some(second) => Err(Invalidity {
                 at: second.label().place(),
                 why: InvalidWhy::ElementNotAllowed,
             }),

@@ -21,7 +21,7 @@ mod uses;
 
 pub use attributes::{is_special, text_fault, text_of};
 pub use declarations::{Declared, Inside, declared_of};
-pub use error::{CheckError, Fault};
+pub use error::{CheckError, Invalidity};
 pub use judging::Judged;
 pub use kids::{check_empty, check_no_content, only_text};
 pub use plans::Plans;

@@ -33,9 +33,9 @@ IsOnlyValue M t v = (w : Rose ValueLabel) → Fits M t w → Xer M t w ≡ Xer M
 
 -- the fault is one of these; or the value has so many nodes that it is too large; or memory is missing
 abbrev pub ReadTells : (ℕ → InvalidWhy → Type 0) → (ℕ → Type 0) → ReadError → Type 0
-ReadTells Fault large (Invalid at why) = Fault at why
-ReadTells Fault large (TooManyNodes count) = large count
-ReadTells Fault large Memory = Unit {0}
+ReadTells Invalidity large (Invalid at why) = Invalidity at why
+ReadTells Invalidity large (TooManyNodes count) = large count
+ReadTells Invalidity large Memory = Unit {0}
 
 -- what may be answered of a document
 abbrev pub IsAnswer : Set → ℕ → Rose ItemLabel → List Assignment → ℕ → Result (Rose ValueLabel) ReadError → Type 0

@@ -34,7 +34,7 @@ use crate::gathering::Gathered;
 use crate::orders::{AnyOrder, any_order, last_number, take_name};
 use crate::plain::{PlainModel, plain_model, plain_text};
 use crate::texts::{put_text, put_words};
-use crate::ways::{Way, finish, open_way};
+use crate::ways::{ModelPath, finish, open_way};
 use base_texts::{Name, Steps, Text, is_blank};
 use content_match::{Matcher, Plan};
 use content_models::Particle;
@@ -73,7 +73,7 @@ fn walk_kid<L: Ledger>(
     plans: &mut Plans,
     model: &Particle,
     matcher: &mut Matcher,
-    way: &mut Way,
+    way: &mut ModelPath,
     mixed: bool,
     kid: &ItemNode<'_>,
     values: &mut ValueBuilder,
@@ -155,7 +155,7 @@ fn walk_kids<L: Ledger>(
     let mut lists = plans.lists();
     plan.make_ready(&mut lists)?;
     let mut matcher = Matcher::begin(plan, lists);
-    let mut way = Way::start(plans, values);
+    let mut way = ModelPath::start(plans, values);
     for kid in kids.again() {
         walk_kid(
             set,

@@ -28,28 +28,28 @@ use value_contents::{Path, put_step};
 /// The way to the last leaf, which is kept while a matcher goes on to the next. Before the first leaf its lists are those of
 /// another way.
 #[derive(Drop)]
-pub(crate) struct Way {
+pub(crate) struct ModelPath {
     begun: bool,
     turns: Vec<Turn>,
     kids: Vec<u32>,
 }
 
-impl Way {
+impl ModelPath {
     /// Before the first leaf. Where no value is kept the way isn't followed, and has no lists.
-    pub(crate) fn start(plans: &mut Plans, values: &ValueBuilder) -> Way
+    pub(crate) fn start(plans: &mut Plans, values: &ValueBuilder) -> ModelPath
         ensures plans { plans.new ≡ plans.old }
         ensures begun { result.begun ≡ false }
     {
         if values.keeps_nothing() {
             let lists = Lists::new(plans.alloc());
-            return Way {
+            return ModelPath {
                 begun: false,
                 turns: lists.turns,
                 kids: lists.kids,
             };
         }
         let lists = plans.lists();
-        Way {
+        ModelPath {
             begun: false,
             turns: lists.turns,
             kids: lists.kids,
@@ -144,7 +144,7 @@ impl Way {
 pub(crate) fn open_way<L: Ledger>(
     model: &Particle,
     matcher: &mut Matcher,
-    way: &mut Way,
+    way: &mut ModelPath,
     name: &Name,
     at: u64,
     values: &mut ValueBuilder,

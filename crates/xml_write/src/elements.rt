@@ -182,7 +182,7 @@ fn write_few(
 
 // Whether a text has few bytes, at least one, and each stands in an element as itself.
 #[inline(always)]
-fn is_plain(text: &[u8]) -> bool
+fn needs_no_escape(text: &[u8]) -> bool
     ensures some { OnTrue result (0 < length text.now) }
     ensures few { OnTrue result (length text.now ≤ 32) }
     ensures plain { OnTrue result (flat_map text_escape text.now ≡ text.now) }
@@ -229,7 +229,7 @@ pub(crate) fn write_text_element(
     ensures { OnOk result (out.new.items ≡ out.old.items ++ written_words (qualifier_text qualifier ++ local.now) text.now) }
 {
     if let Some(digit) = qualifier.digit() {
-        if local.len() <= FEW && is_plain(text) {
+        if local.len() <= FEW && needs_no_escape(text) {
             return write_few(alloc, out, DigitName { digit, local }, text);
         }
     }

@@ -15,8 +15,8 @@ use Rattle.der_fields.specs.declared.stops.Stop.{Stop}
 use Rattle.der_fields.specs.FieldsReading.{Octets}
 use Rattle.der_fields.specs.Encoding.{TaggedPlace}
 use Rattle.der_fields.specs.Reading.{leaf_of, contents_at, owned_at}
-use Rattle.der_decode.specs.declared.faults.Fault.{Fault}
-use Rattle.der_decode.specs.declared.faults.Fault.TheVariants as fault
+use Rattle.der_decode.specs.declared.faults.DerEnd.{DerEnd}
+use Rattle.der_decode.specs.declared.faults.DerEnd.TheVariants as fault
 
 -- a form without kids that is no reference, as it is in a module
 abbrev pub IsLeaf : Form → Type 0
@@ -51,7 +51,7 @@ module _ (f : Form) (X : List ℕ) where
   IsLeafAt s label = ReadsLeaf s (Ok label)
 
   -- they stop, or the rule of the node does, which begins at an octet
-  abbrev pub StopsLeaf : ℕ → Spot → Fault → Type 0
+  abbrev pub StopsLeaf : ℕ → Spot → DerEnd → Type 0
   StopsLeaf begin s fault.Memory = Unit {0}
   StopsLeaf begin s (fault.Stopped stop) =
       (M : List Assignment) (kid : TaggedPlace → Octets (Rose ValueLabel)) (l : TypeLabel) (ts : List (Rose TypeLabel)) (t : Rose TypeLabel) → (contents_at M kid begin l ts f X s >>= owned_at M begin t) ≡ Err stop

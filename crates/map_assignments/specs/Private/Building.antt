@@ -61,10 +61,10 @@ abbrev pub term_of : Rose ParticleLabel → Term
 term_of (node l ts) = term_seen l.kind (all_seen ts)
 
 -- a sequence that stands once, or an all
-abbrev pub is_plain : ParticleKind → ℕ → Option ℕ → Bool
-is_plain Sequence least most = is_once least most
-is_plain AllKind least most = true
-is_plain _ least most = false
+abbrev pub stands_as_parts : ParticleKind → ℕ → Option ℕ → Bool
+stands_as_parts Sequence least most = is_once least most
+stands_as_parts AllKind least most = true
+stands_as_parts _ least most = false
 
 -- each element particle names a declaration of the set
 abbrev pub IsKnown : Set → Rose ParticleLabel → Type 0

@@ -6,8 +6,8 @@ use Rattle.per_fields.specs.declared.stops.Stop.{Stop}
 use Rattle.per_fields.specs.declared.stops.Why.TheVariants as reasons
 use Rattle.per_fields.specs.Reading.{Reader, stop_at}
 use Rattle.per_fields.specs.Stops.{is_short}
-use Rattle.per_decode.specs.declared.faults.Fault.{Fault}
-use Rattle.per_decode.specs.declared.faults.Fault.TheVariants as fault
+use Rattle.per_decode.specs.declared.faults.PerEnd.{PerEnd}
+use Rattle.per_decode.specs.declared.faults.PerEnd.TheVariants as fault
 use Rattle.per_decode.specs.declared.errors.DecodeError.{DecodeError}
 use Rattle.per_decode.specs.declared.errors.DecodeError.TheVariants as error
 
@@ -35,7 +35,7 @@ pub data Halt : Type 0 where
   failed : Halt
   memory : Halt
 
-abbrev pub halt_of : Fault → Stop → Halt
+abbrev pub halt_of : PerEnd → Stop → Halt
 halt_of fault.Stopped stop = stopped stop
 halt_of fault.Short stop = short stop.bit
 halt_of fault.TooLong stop = too_long stop.bit
@@ -61,12 +61,12 @@ module _ (limit : ℕ) (whole : List ℕ) where
   FailsAt (stopped stop) taken read = (read ≡ Err stop) × (8 * taken ≤ stop.end + 7) × (is_short stop.why ≡ false)
 
   -- the value that is read, and the spot behind it, or a fault
-  abbrev pub Shows : {A B : Type 0} → (A → B) → Result A Fault → Spot → Stop → ℕ → Result (B × Spot) Stop → Type 0
+  abbrev pub Shows : {A B : Type 0} → (A → B) → Result A PerEnd → Spot → Stop → ℕ → Result (B × Spot) Stop → Type 0
   Shows view (Ok x) new stop taken found = found ≡ Ok (view x, new)
   Shows view (Err fault) new stop taken found = FailsAt (halt_of fault stop) taken found
 
   -- a reader shows this from a spot on
-  abbrev pub Gives : {A B : Type 0} → (A → B) → Result A Fault → Spot → Stop → ℕ → Reader B → Spot → Type 0
+  abbrev pub Gives : {A B : Type 0} → (A → B) → Result A PerEnd → Spot → Stop → ℕ → Reader B → Spot → Type 0
   Gives view result new stop taken read old = Shows view result new stop taken (read (input limit whole) old)
 
   -- the value and the spot after it, or the error that the caller gets for a fault

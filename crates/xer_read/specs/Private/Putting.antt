@@ -11,7 +11,7 @@ use Rattle.content_match.specs.declared.places.Turn.{Turn}
 use Rattle.value_builder.specs.Built.{Built, Stands, Puts, with_parts}
 use Rattle.value_contents.specs.Made.{Child}
 use Rattle.value_contents.specs.Reached.{TopReached, Put}
-use Rattle.xer_read.specs.declared.ways.Way.{Way}
+use Rattle.xer_read.specs.declared.ways.ModelPath.{ModelPath}
 
 -- a value of which P holds, behind what stood before
 pub record ValuePut (P : Rose ValueLabel → Type 0) (before : Zip ValueLabel) (now : Built) : Type 0 where
@@ -29,18 +29,18 @@ pub record PartsPut (P : List Bool → List (Rose ValueLabel) → Type 0) (old n
 -- ---- ways
 
 -- before the first leaf there is none, whatever the lists hold
-abbrev pub way_turns : Way → List Turn
+abbrev pub way_turns : ModelPath → List Turn
 way_turns way = cond way.begun way.turns.items []
 
-abbrev pub way_kids : Way → List ℕ
+abbrev pub way_kids : ModelPath → List ℕ
 way_kids way = cond way.begun way.kids.items []
 
 -- the way leads to where the matcher stands
-abbrev pub LeadsTo : Way → Matched → Type 0
+abbrev pub LeadsTo : ModelPath → Matched → Type 0
 LeadsTo way k = spot_now (way_turns way) (way_kids way) ≡ spot_of k
 
 -- it does where so many nodes may be kept, unless that is none
-abbrev pub IsWay : Way → Matched → ℕ → Type 0
+abbrev pub IsWay : ModelPath → Matched → ℕ → Type 0
 IsWay way k most = 1 ≤ most → LeadsTo way k
 
 -- the way to a leaf of the declaration is open, behind these child elements

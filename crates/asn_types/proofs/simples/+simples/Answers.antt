@@ -35,7 +35,7 @@ list_at-returns t c =
     let form = subst (IsForm c.args.module.now) c.requires.list (form-well_formed c.args.module.now node c.requires.sound) in
     let marks = ap (λ l. counting l.marks) (sym c.label.ensures) ∙ c.tell_list.ensures.0 c.if-not-tell_list.false in
     let first = ap (λ ks. slice_get ks 0) (sym c.kids.ensures) ∙ sym c.in-Some.ensures.value in
-    let maps = list-maps node c.args.part.now c.args.min c.args.max item kid c.requires.list marks (c.is_plain.ensures.0 c.if-not-is_plain.false) first found.1 in
+    let maps = list-maps node c.args.part.now c.args.min c.args.max item kid c.requires.list marks (c.is_always_there.ensures.0 c.if-not-is_always_there.false) first found.1 in
     let is = list_space c.in_ok-item-2.item c.args.min c.args.max ∙ ap (λ s. ListOf (space_of s) c.args.min c.args.max) c.in_ok-item-2.ensures.ok in
     subst (λ s. Sound s × MapsTo s node) (sym is) ((found.0, sym c.has_list.ensures ∙ c.if-has_list.false, form), maps)
 
@@ -97,7 +97,7 @@ union_at-returns-in-Some t c =
     let counted = count-maps (spaces_in members) kids found.1 in
     let some : 0 < length kids = grind (arith, nat_tests, c.is_empty.ensures, c.if-is_empty.false) in
     let marks = ap (λ l. counting l.marks) (sym c.label.ensures) ∙ c.tell_use_union.ensures.0 c.if-not-tell_use_union.false in
-    let plain = c.are_plain.ensures.0 c.if-not-are_plain.false in
+    let plain = c.are_always_there.ensures.0 c.if-not-are_always_there.false in
     let maps = union-maps node c.args.parts.now (spaces_in members) c.requires.choice marks plain (subst (λ ks. MapToEach (spaces_in members) (roses_of ks)) c.kids-kids.ensures found.1) in
     let is = union_space c.of.result ∙ ap UnionOf c.of.ensures in
     subst (λ s. Sound s × MapsTo s node) (sym is) (((omega (arith, counted, some), omega (arith, counted, c.if-kids.false)), found.0), maps)

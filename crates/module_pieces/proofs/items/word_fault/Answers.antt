@@ -3,7 +3,7 @@ use Rattle.std.specs.Prelude.{nat_le}
 use Rattle.std.specs.Option.{option_map}
 use Rattle.std.proofs.lemmas.List.{at_drop_more}
 use Rattle.module_text.specs.declared.types.PlainName.{PlainName}
-use Rattle.module_text.specs.declared.reasons.Fault.{Fault}
+use Rattle.module_text.specs.declared.reasons.TextFault.{TextFault}
 use Rattle.module_text.specs.Listed.{first}
 use Rattle.module_text.specs.Faults.{word_faults}
 use Rattle.module_pieces.proofs.Listing.{word-again, word-below, words-ended}
@@ -17,7 +17,7 @@ returns-then-has c =
     let item = c.index-items-i.result in
     let word = c.index-words-i.result in
     let last = option_map (λ w. w.now) c.items.last in
-    let F : List PlainName → List (List ℕ) → Option Fault = λ is ws. first (word_faults c.args.order c.items.seen last is ws) in
+    let F : List PlainName → List (List ℕ) → Option TextFault = λ is ws. first (word_faults c.args.order c.items.seen last is ws) in
     let in_items : i < length items = omega (arith, c.items-test.true, c.min-count.ensures) in
     let in_words : i < length words = omega (arith, c.items-test.true, c.min-count.ensures) in
     word-again c.args.order c.items.seen last item (drop (i + 1) items) word (drop (i + 1) words) (sym c.has.ensures ∙ c.if-has.true)
@@ -35,7 +35,7 @@ returns-then-not-may_follow c =
     let item = c.index-items-i.result in
     let word = c.index-words-i.result in
     let last = option_map (λ w. w.now) c.items.last in
-    let F : List PlainName → List (List ℕ) → Option Fault = λ is ws. first (word_faults c.args.order c.items.seen last is ws) in
+    let F : List PlainName → List (List ℕ) → Option TextFault = λ is ws. first (word_faults c.args.order c.items.seen last is ws) in
     let in_items : i < length items = omega (arith, c.items-test.true, c.min-count.ensures) in
     let in_words : i < length words = omega (arith, c.items-test.true, c.min-count.ensures) in
     word-below c.args.order c.items.seen last item (drop (i + 1) items) word (drop (i + 1) words)

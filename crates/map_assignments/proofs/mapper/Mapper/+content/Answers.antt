@@ -97,19 +97,19 @@ push_top-push_particles-requires t c =
     let now = c.decreases in
     let fewer = ap (λ ts. count_all (roses_of ts)) below in
     let all = node_count-kids particle in
-    let known : AreKnown c.args.self.set.now c.kids.result.now = elim (plain-sequence l.kind l.min l.max (sym c.is_plain.ensures ∙ c.if-is_plain.true)) [
+    let known : AreKnown c.args.self.set.now c.kids.result.now = elim (plain-sequence l.kind l.min l.max (sym c.stands_as_parts.ensures ∙ c.if-stands_as_parts.true)) [
       | inl kind ↦ known-kids c.args.self.set.now particle l c.kids.result.now c.requires.known c.label-label.ensures below kind
       | inr kind ↦ known-all c.args.self.set.now particle l c.kids.result.now c.requires.known c.label-label.ensures below kind
     ] in
     (omega (arith, now, fewer, all), (c.requires.linked, known))
 
-pub push_top-returns-then-is_plain : goal.push_top-returns-then-is_plain
-push_top-returns-then-is_plain t c =
+pub push_top-returns-then-stands_as_parts : goal.push_top-returns-then-stands_as_parts
+push_top-returns-then-stands_as_parts t c =
     let place = place_of c.args.self.places.now in
     let T = declared c.args.self.set.now c.args.levels in
     on_ok c.push_particles.result _ _
     (λ h whole lead. h whole (subst (λ ps. LeadsToNamed place c.args.parts.now ps whole)
-    (top-plain T c.args.particle.now c.label-label.result.now c.kids.result.now c.label-label.ensures c.kids.ensures (sym c.is_plain.ensures ∙ c.if-is_plain.true)) lead))
+    (top-plain T c.args.particle.now c.label-label.result.now c.kids.result.now c.label-label.ensures c.kids.ensures (sym c.stands_as_parts.ensures ∙ c.if-stands_as_parts.true)) lead))
     c.push_particles.ensures
 
 pub push_top-returns : goal.push_top-returns
@@ -119,7 +119,7 @@ push_top-returns t c =
     let particle = c.args.particle.now in
     on_ok c.push_particle.result _ _
     (λ h whole lead. h place (all_seen (roses_of (kids_of particle))) _ finish whole c.in_ok-kid.ensures (subst (λ ps. LeadsToNamed place c.args.parts.now ps whole)
-    (top-other T particle c.label-label.result.now (kids_of particle) c.label-label.ensures refl (sym c.is_plain.ensures ∙ c.if-is_plain.false)) lead))
+    (top-other T particle c.label-label.result.now (kids_of particle) c.label-label.ensures refl (sym c.stands_as_parts.ensures ∙ c.if-stands_as_parts.false)) lead))
     c.push_particle.ensures
 
 pub term_type-particle_type-requires : goal.term_type-particle_type-requires

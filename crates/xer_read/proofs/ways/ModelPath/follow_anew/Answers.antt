@@ -1,7 +1,7 @@
 use Rattle.std.proofs.Common.{◌≡◌, ◌++◌, sym, ◌∙◌, ap}
 use Rattle.content_match.proofs.Standing.{spot_matched}
 use Rattle.content_match.specs.Private.Standing.{spot_now}
-use Rattle.xer_read.proofs.ways.Way.follow_anew.Goals as goal
+use Rattle.xer_read.proofs.ways.ModelPath.follow_anew.Goals as goal
 
 pub returns : goal.returns
 returns c =

@@ -3,7 +3,7 @@ use Rattle.std.specs.Prelude.{slice_index_or, slice_set}
 use Rattle.content_match.proofs.Standing.{spot_matched}
 use Rattle.content_match.specs.Private.Standing.{spot_now}
 use Rattle.content_match.specs.declared.places.Turn.{Turn}
-use Rattle.xer_read.proofs.ways.Way.follow_short.Goals as goal
+use Rattle.xer_read.proofs.ways.ModelPath.follow_short.Goals as goal
 
 both-written : (us ts : List Turn) (d : Turn) → length us ≡ 2 → length ts ≡ 2 → slice_set (slice_set us 0 (slice_index_or ts 0 d)) 1 (slice_index_or ts 1 d) ≡ ts
 both-written (u ∷ v ∷ []) (t ∷ w ∷ []) d n m = refl
