@@ -5,8 +5,9 @@ ghost use Rattle.xml_items.specs.declared.label.ItemLabel.{ItemLabel};
 ghost use Rattle.schema_syntax.specs.Scopes.{bindings_in};
 ghost use Rattle.schema_faults.specs.Faults as faults;
 
+use crate::checker::Checker;
 use crate::limits::level_inside;
-use crate::reasons::{reason_against, reason_against_text};
+use crate::reasons::reason_against_text;
 use base_texts::{Memory, Name, Text};
 use base_trees::Tree;
 use schema_syntax::{
@@ -57,94 +58,98 @@ fn is_composition(role: ElementRole) -> bool
     matches!(role, ElementRole::Composition)
 }
 
-// The reason against an element that has this role, by itself.
-fn own_reason(
-    alloc: Global,
-    role: ElementRole,
-    scope: &NamespaceScope<'_, '_>,
-    level: u32,
-    attributes: &[(Name, Text)],
-    kids: &[Tree<ItemLabel>],
-) -> Result<Option<SchemaWhy>, Memory>
-    ensures { IfOk result (λ found. found ≡ faults.own_reason role (bindings_in scope.now) level attributes.now kids.now) }
-{
-    let own = own_attributes(alloc, attributes)?;
-    reason_against(alloc, role, scope, level, &own, kids)
-}
-
-// The first fault of an element of this role and of what stands in it.
-#[cycle(faults)]
-fn fault_of<'a, 'b>(
-    alloc: Global,
-    tree: &'a Tree<ItemLabel>,
-    role: ElementRole,
-    scope: &'b NamespaceScope<'a, 'b>,
-    level: u32,
-) -> Result<Option<DocumentFault>, Memory>
-    ensures { IfOk result (λ found. found ≡ faults.first_fault (faults.reasons_of role (bindings_in scope.now) level tree.now)) }
-{
-    let ItemLabel::Element {
-        attributes,
-        declares,
-        at,
-        ..
-    } = tree.label()
-    else {
-        return Ok(None);
-    };
-    let inside = NamespaceScope::inside(alloc, declares, scope)?;
-    let found = own_reason(alloc, role, &inside, level, attributes.items(), tree.kids())?;
-    if found.is_some() {
-        return Ok(fault_if(*at, found));
+impl<'a, 'b> Checker<'a, 'b> {
+    // The reason against an element that has this role, by itself.
+    fn own_reason(
+        self,
+        role: ElementRole,
+        attributes: &[(Name, Text)],
+        kids: &[Tree<ItemLabel>],
+    ) -> Result<Option<SchemaWhy>, Memory>
+        ensures { IfOk result (λ found. found ≡ faults.own_reason role (bindings_in self.entry.scope.now) self.entry.level attributes.now kids.now) }
+    {
+        let own = own_attributes(self.alloc, attributes)?;
+        self.reason_against(role, &own, kids)
     }
-    if is_composition(role) {
-        return Ok(None);
-    }
-    fault_among(alloc, tree.kids(), role, &inside, level_inside(role, level))
-}
 
-// The first fault at a node and of what stands in it.
-#[cycle(faults)]
-fn fault_at<'a, 'b>(
-    alloc: Global,
-    tree: &'a Tree<ItemLabel>,
-    parent: ElementRole,
-    before: Option<Position>,
-    scope: &'b NamespaceScope<'a, 'b>,
-    level: u32,
-) -> Result<Option<DocumentFault>, Memory>
-    ensures { IfOk result (λ found. found ≡ faults.first_fault (faults.reasons_at parent before (bindings_in scope.now) level tree.now)) }
-{
-    match tree.label() {
-        ItemLabel::Text { text, at } => Ok(fault_if(*at, reason_against_text(text))),
-        ItemLabel::Element { name, at, .. } => match placement_in(parent, before, name) {
-            Placement::Skipped => Ok(None),
-            Placement::Refused(why) => Ok(fault_if(*at, Some(why))),
-            Placement::Placed(part) => fault_of(alloc, tree, part.role, scope, level),
-        },
-    }
-}
-
-// The first fault among the children of an element of this role.
-#[cycle(faults)]
-fn fault_among<'a, 'b>(
-    alloc: Global,
-    kids: &'a [Tree<ItemLabel>],
-    parent: ElementRole,
-    scope: &'b NamespaceScope<'a, 'b>,
-    level: u32,
-) -> Result<Option<DocumentFault>, Memory>
-    ensures { IfOk result (λ found. found ≡ faults.first_fault (faults.reasons_among parent None (bindings_in scope.now) level (roses_of kids.now))) }
-{
-    let mut before = None;
-    for kid in kids {
-        let found = fault_at(alloc, kid, parent, before, scope, level)?;
+    // The first fault of an element of this role and of what stands in it.
+    #[cycle(faults)]
+    fn fault_of(
+        self,
+        tree: &'a Tree<ItemLabel>,
+        role: ElementRole,
+    ) -> Result<Option<DocumentFault>, Memory>
+        ensures { IfOk result (λ found. found ≡ faults.first_fault (faults.reasons_of role (bindings_in self.entry.scope.now) self.entry.level tree.now)) }
+    {
+        let ItemLabel::Element {
+            attributes,
+            declares,
+            at,
+            ..
+        } = tree.label()
+        else {
+            return Ok(None);
+        };
+        let inside = NamespaceScope::inside(self.alloc, declares, self.scope)?;
+        let own = Checker {
+            alloc: self.alloc,
+            scope: &inside,
+            level: self.level,
+        };
+        let found = own.own_reason(role, attributes.items(), tree.kids())?;
         if found.is_some() {
-            return Ok(found);
+            return Ok(fault_if(*at, found));
         }
-        before = position_behind(parent, before, kid.label());
+        if is_composition(role) {
+            return Ok(None);
+        }
+        let below = Checker {
+            alloc: self.alloc,
+            scope: &inside,
+            level: level_inside(role, self.level),
+        };
+        below.fault_among(tree.kids(), role)
     }
-    Ok(None)
+
+    // The first fault at a node and of what stands in it.
+    #[cycle(faults)]
+    fn fault_at(
+        self,
+        tree: &'a Tree<ItemLabel>,
+        parent: ElementRole,
+        before: Option<Position>,
+    ) -> Result<Option<DocumentFault>, Memory>
+        ensures { IfOk result (λ found. found ≡ faults.first_fault (faults.reasons_at parent before (bindings_in self.entry.scope.now) self.entry.level tree.now)) }
+    {
+        match tree.label() {
+            ItemLabel::Text { text, at } => Ok(fault_if(*at, reason_against_text(text))),
+            ItemLabel::Element { name, at, .. } => match placement_in(parent, before, name) {
+                Placement::Skipped => Ok(None),
+                Placement::Refused(why) => Ok(fault_if(*at, Some(why))),
+                Placement::Placed(part) => self.fault_of(tree, part.role),
+            },
+        }
+    }
+
+    // The first fault among the children of an element of this role.
+    #[cycle(faults)]
+    fn fault_among(
+        self,
+        kids: &'a [Tree<ItemLabel>],
+        parent: ElementRole,
+    ) -> Result<Option<DocumentFault>, Memory>
+        ensures { IfOk result (λ found. found ≡ faults.first_fault (faults.reasons_among parent None (bindings_in self.entry.scope.now) self.entry.level (roses_of kids.now))) }
+    {
+        let mut before = None;
+        for kid in kids {
+            let found = self.fault_at(kid, parent, before)?;
+            if found.is_some() {
+                return Ok(found);
+            }
+            before = position_behind(parent, before, kid.label());
+        }
+        Ok(None)
+    }
 }
 
 fn is_schema(label: &ItemLabel) -> bool
@@ -180,5 +185,10 @@ pub fn first_fault(alloc: Global, root: &Tree<ItemLabel>) -> Result<Option<Docum
         return Ok(fault_if(root.label().place(), Some(SchemaWhy::NotASchema)));
     }
     let outside = NamespaceScope::Document;
-    fault_of(alloc, root, ElementRole::Schema, &outside, 0)
+    let checker = Checker {
+        alloc,
+        scope: &outside,
+        level: 0,
+    };
+    checker.fault_of(root, ElementRole::Schema)
 }

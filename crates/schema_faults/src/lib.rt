@@ -3,6 +3,7 @@
 //! Read first: `specs/Reasons` and `specs/Faults`, then `first_fault` in `src/faults.rt`.
 #![tactic(auto)]
 
+mod checker;
 mod faults;
 mod laws;
 mod limits;

@@ -7,6 +7,7 @@ ghost use Rattle.base_texts.specs.WhiteSpace.{words_of};
 ghost use Rattle.schema_syntax.specs.Scopes.{bindings_in};
 ghost use Rattle.schema_faults.specs.Reasons as reason;
 
+use crate::checker::Checker;
 use crate::limits::is_over_limit;
 use crate::requirements::{has_both_forms, is_untyped, lacks_required};
 use base_texts::{Memory, Text, first_word, is_blank};
@@ -252,32 +253,32 @@ fn is_empty_choice(
     Ok(!found)
 }
 
-/// The first reason against an element of this role, by its attributes, its children and what stands round it: the
-/// namespaces in scope, and so many groups of the same content model.
-#[tactic(auto, unfolding(crate::specs::Reasons::reason_against))]
-pub fn reason_against(
-    alloc: Global,
-    role: ElementRole,
-    scope: &NamespaceScope<'_, '_>,
-    level: u32,
-    own: &[(Text, Text)],
-    kids: &[Tree<ItemLabel>],
-) -> Result<Option<SchemaWhy>, Memory>
-    ensures { IfOk result (λ found. found ≡ reason.reason_against role (bindings_in scope.now) level own.now kids.now) }
-{
-    let early = early_reason(role, scope, level, own, kids)
-        .or(left_out_reference(scope, own))
-        .or(untyped(role, own, kids));
-    if early.is_some() {
-        return Ok(early);
+impl Checker<'_, '_> {
+    /// Returns the first reason against an element of this role, by its attributes, its children, the bindings in scope
+    /// and the number of groups of the same content model round it.
+    #[tactic(auto, unfolding(crate::specs::Reasons::reason_against))]
+    pub(crate) fn reason_against(
+        self,
+        role: ElementRole,
+        own: &[(Text, Text)],
+        kids: &[Tree<ItemLabel>],
+    ) -> Result<Option<SchemaWhy>, Memory>
+        ensures { IfOk result (λ found. found ≡ reason.reason_against role (bindings_in self.entry.scope.now) self.entry.level own.now kids.now) }
+    {
+        let early = early_reason(role, self.scope, self.level, own, kids)
+            .or(left_out_reference(self.scope, own))
+            .or(untyped(role, own, kids));
+        if early.is_some() {
+            return Ok(early);
+        }
+        if has_both_forms(role, own, kids) {
+            return Ok(Some(SchemaWhy::BothForms));
+        }
+        if is_empty_choice(self.alloc, role, own, kids)? {
+            return Ok(Some(SchemaWhy::EmptyChoice));
+        }
+        Ok(None)
     }
-    if has_both_forms(role, own, kids) {
-        return Ok(Some(SchemaWhy::BothForms));
-    }
-    if is_empty_choice(alloc, role, own, kids)? {
-        return Ok(Some(SchemaWhy::EmptyChoice));
-    }
-    Ok(None)
 }
 
 /// The reason against a text: all of it has to be white space.
