@@ -40,6 +40,18 @@ Contains-has name names h = has_at name names h.0 h.1 h.2
 pub lacks-Contains : (name : List ℕ) (names : List (List ℕ)) → list_any (bytes_eq name) names ≡ false → ¬ Contains names name
 lacks-Contains name names e h = true≢false (sym (Contains-has name names h) ∙ e)
 
+same_truth : (a b : Bool) → (a ≡ true → b ≡ true) → (b ≡ true → a ≡ true) → a ≡ b
+same_truth true b f g = sym (f refl)
+same_truth false true f g = g refl
+same_truth false false f g = refl
+
+-- a test for reserved words is a look-up among them
+pub reserved-has : (name : List ℕ) (b : Bool) → (IsTrue b ↔ Contains reserved_words name) → b ≡ list_any (bytes_eq name) reserved_words
+reserved-has name b h =
+    same_truth b (list_any (bytes_eq name) reserved_words)
+    (λ e. Contains-has name reserved_words (h.0 e))
+    (λ e. h.1 (has-Contains name reserved_words e))
+
 -- no reserved word ends in a digit
 abbrev last : List ℕ → ℕ
 last bs = get_or bs (length bs - 1) 0

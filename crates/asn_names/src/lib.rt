@@ -9,5 +9,6 @@ mod restoration;
 mod scope;
 
 pub use conversion::{NameKind, convert};
-pub use restoration::{NameForm, restoring};
+pub use reserved::is_reserved;
+pub use restoration::{NameForm, is_capitalized, is_uncapitalized, restoring};
 pub use scope::Scope;

@@ -20,8 +20,8 @@ fn has_word(words: &[u8], name: &[u8]) -> bool
     words.split(|b| *b == b' ').any(|word| name == word)
 }
 
-/// Whether the name is a reserved word of ASN.1.
-pub(crate) fn is_reserved(name: &[u8]) -> bool
+/// Returns whether a name is a reserved word of ASN.1.
+pub fn is_reserved(name: &[u8]) -> bool
     ensures { IsTrue result ↔ Contains reserved_words name.now }
 {
     has_word(RESERVED_WORDS.as_bytes(), name)

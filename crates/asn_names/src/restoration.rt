@@ -15,8 +15,8 @@ pub enum NameForm {
     Quoted,
 }
 
-// Whether raising the first letter of the one name gives the other.
-fn is_capitalized(generated: &[u8], original: &[u8]) -> bool
+/// Returns whether raising the first letter of the one name gives the other.
+pub fn is_capitalized(generated: &[u8], original: &[u8]) -> bool
     ensures { result ≡ bytes_eq (capitalized generated.now) original.now }
 {
     match (generated, original) {
@@ -27,8 +27,8 @@ fn is_capitalized(generated: &[u8], original: &[u8]) -> bool
     }
 }
 
-// Whether lowering the first letter of the one name gives the other.
-fn is_uncapitalized(generated: &[u8], original: &[u8]) -> bool
+/// Returns whether lowering the first letter of the one name gives the other.
+pub fn is_uncapitalized(generated: &[u8], original: &[u8]) -> bool
     ensures { result ≡ bytes_eq (uncapitalized generated.now) original.now }
 {
     match (generated, original) {

@@ -29,7 +29,7 @@ pub record IsIndex (index : Index) (l : PlainLabel) : Type 0 where
   pub places : (identifier : List ℕ) → get bytes_eq index.places identifier ≡ place_in l.form identifier
   pub words : index.words.items ≡ words_in l
 
--- the same of each type in a type
+-- each type in a type has its index, which knows its identifiers and words
 abbrev mutual
   pub Indexes : Rose Index → Rose PlainLabel → Type 0
   Indexes (node index indexes) (node l ts) = IsIndex index l × IndexAll indexes ts

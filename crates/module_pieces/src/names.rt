@@ -2,9 +2,10 @@
 ghost use Rattle.std.specs.Prelude.{◌≡◌, ◌∷◌, IfOk, bytes_eq, chars};
 ghost use Rattle.std.specs.List.{list_all};
 ghost use Rattle.base_texts.specs.Characters.{is_xml_char};
-ghost use Rattle.asn_names.specs.Restoring.{capitalized, uncapitalized, form_of};
+ghost use Rattle.asn_names.specs.Restoring.{form_of};
 ghost use Rattle.module_text.specs.Told as told;
 
+use asn_names::{is_capitalized, is_uncapitalized};
 use base_texts::{Memory, is_xml_char};
 use module_text::NameAs;
 use std::alloc::Global;
@@ -22,30 +23,6 @@ pub fn is_xml_text(bytes: &[u8]) -> bool
     match simdutf8::basic::from_utf8(bytes) {
         Ok(text) => are_xml_chars(text),
         Err(_) => false,
-    }
-}
-
-// Whether raising the first letter of the one name gives the other.
-fn is_capitalized(generated: &[u8], original: &[u8]) -> bool
-    ensures { result ≡ bytes_eq (capitalized generated.now) original.now }
-{
-    match (generated, original) {
-        ([], []) => true,
-        ([a, generated @ ..], [b, original @ ..]) => a.to_ascii_uppercase() == *b
-            && generated == original,
-        _ => false,
-    }
-}
-
-// Whether lowering the first letter of the one name gives the other.
-fn is_uncapitalized(generated: &[u8], original: &[u8]) -> bool
-    ensures { result ≡ bytes_eq (uncapitalized generated.now) original.now }
-{
-    match (generated, original) {
-        ([], []) => true,
-        ([a, generated @ ..], [b, original @ ..]) => a.to_ascii_lowercase() == *b
-            && generated == original,
-        _ => false,
     }
 }
 

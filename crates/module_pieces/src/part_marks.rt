@@ -79,7 +79,7 @@ fn may_stand(simple: bool, generated: &[u8], kind: &PartMarkKind) -> bool
     }
 }
 
-// The same behind an instruction of this rank.
+// Returns whether an instruction may follow one of this rank at a part or an assignment of this name.
 fn stands(simple: bool, generated: &[u8], before: Option<u8>, mark: &PartMark) -> bool
     ensures { result ≡ may.part_mark_stands simple generated.now before mark.now }
 {

@@ -39,7 +39,7 @@ fn number_places(alloc: Global, items: &[NumberedItem]) -> Result<IndexMap<Text,
     Ok(places)
 }
 
-// The same of items without numbers.
+// Finds where the first item with each identifier is among items without numbers.
 fn word_places(alloc: Global, names: &[PlainName]) -> Result<IndexMap<Text, usize>, Memory>
     ensures { IfOk result (λ places. (identifier : List ℕ) →
         get bytes_eq places identifier ≡ position (λ (i : PlainName). bytes_eq i.name identifier) names.now) }
@@ -51,7 +51,7 @@ fn word_places(alloc: Global, names: &[PlainName]) -> Result<IndexMap<Text, usiz
     Ok(places)
 }
 
-// The same of alternatives.
+// Finds where the first alternative with each identifier is.
 fn part_places(alloc: Global, parts: &[PlainPart]) -> Result<IndexMap<Text, usize>, Memory>
     ensures { IfOk result (λ places. (identifier : List ℕ) →
         get bytes_eq places identifier ≡ position (λ (p : PlainPart). bytes_eq p.identifier identifier) parts.now) }

@@ -61,7 +61,7 @@ pub fn written_words(
     Ok(words)
 }
 
-/// The same as texts, where all are UTF-8.
+/// Returns the words of items as texts, or None where one is not UTF-8.
 pub fn words_of(
     alloc: Global,
     marks: &[TypeMark],
