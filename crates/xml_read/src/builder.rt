@@ -135,8 +135,8 @@ impl<'a> Builder<'a> {
         }
     }
 
-    // Opens an element, or reports what speaks against its start tag. A tag is entered in full only if its name has no note.
-    // An element in which plain characters are alone is taken with its end tag.
+    // Opens an element, or reports what speaks against its start tag. A tag is read in full only if its name has no note.
+    // Of an element in which characters are alone, the characters and the end follow at once.
     #[inline(always)]
     fn open_by(&mut self, opening: Opening<'_, 'a>, at: u64) -> Result<(), DocError>
         requires scoped { Scoped self.old }

@@ -163,7 +163,7 @@ Opens (opens.Read tag) at old new = Takes (Start (tag_seen tag.now)) at old new
 Opens (opens.Noted note) at old new = Takes (Start (bare note.now.written.now)) at old new
 Opens (opens.Leaf note inner len) at old new = (reason (Start (bare note.now.written.now)) (context (state old)) ≡ None) × PutsLeaf (bare note.now.written.now) at (take len inner.now) (at + length note.now.written.now + 2) old new
 
--- The error gives the reason against the piece that is first, or reports that memory ran out.
+-- the error is what speaks against the piece that is first, or want of memory
 abbrev pub StopsFirst : List ℕ → ℕ → Builder → DocError → Type 0
 StopsFirst rest at old (errors.Syntax place why) = (piece : Piece) × (behind : List ℕ) × pieces.Begins piece rest behind × Stopped (reason piece (context (state old))) at (errors.Syntax place why)
 StopsFirst rest at old errors.Memory = Unit {0}
