@@ -92,7 +92,7 @@ fn is_standalone(written: &[u8]) -> bool
     written == b"yes".as_slice() || written == b"no".as_slice()
 }
 
-// Reads white space, this name, `=` and a text in quotes. Without them it returns no text, and all the bytes.
+// The same, or nothing where it isn't there.
 #[tactic(auto, unfolding(crate::specs::Reading::maybe_assigned_at))]
 fn maybe_assigned<'a>(name: &[u8], bytes: &'a [u8]) -> (Option<&'a [u8]>, &'a [u8])
     ensures { (option_map (λ x. x.now) result.0, result.1.now) ≡ maybe_assigned_at name.now bytes.now }

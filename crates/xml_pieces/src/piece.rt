@@ -73,7 +73,7 @@ fn markup<'a>(alloc: Global, bytes: &'a [u8]) -> Result<Option<(Found<'a>, &'a [
     tag(alloc, bytes)
 }
 
-// Reads the piece at the front, after its `<`, where `!` or `?` follows: most such pieces are no tags.
+// The same of what is mostly no tag.
 #[inline(never)]
 #[tactic(auto, unfolding(crate::specs::Reading::markup_at))]
 fn marked<'a>(alloc: Global, bytes: &'a [u8]) -> Result<Option<(Found<'a>, &'a [u8])>, Memory>
