@@ -24,10 +24,8 @@ fn checked(alloc: Global, docs: &[RawDoc], simples: &[Simple]) -> Result<(), Lin
     requires sound { AreSound simples.now }
     ensures { AnswersPasses (map doc_of docs.now) (Valuing ∷ Comparing ∷ Clearing ∷ []) result }
 {
-    match check_standards(alloc, docs, simples) {
-        Ok(()) => check_content(alloc, docs),
-        Err(error) => Err(error),
-    }
+    check_standards(alloc, docs, simples)?;
+    check_content(alloc, docs)
 }
 
 // The passes from the making of simple types on.
@@ -35,23 +33,17 @@ fn made(alloc: Global, docs: &[RawDoc]) -> Result<Vec<Simple>, LinkError>
     requires { ArePassed (map doc_of docs.now) passes_of_names }
     ensures { AnswersSpaces (map doc_of docs.now) (Making ∷ Valuing ∷ Comparing ∷ Clearing ∷ []) result }
 {
-    match make_simple_types(alloc, docs) {
-        Ok(simples) => match checked(alloc, docs, &simples) {
-            Ok(()) => Ok(simples),
-            Err(error) => Err(error),
-        },
-        Err(error) => Err(error),
-    }
+    let simples = make_simple_types(alloc, docs)?;
+    checked(alloc, docs, &simples)?;
+    Ok(simples)
 }
 
 // All passes.
 fn passed(alloc: Global, docs: &[RawDoc]) -> Result<Vec<Simple>, LinkError>
     ensures { AnswersSpaces (map doc_of docs.now) passes result }
 {
-    match check_names(alloc, docs) {
-        Ok(()) => made(alloc, docs),
-        Err(error) => Err(error),
-    }
+    check_names(alloc, docs)?;
+    made(alloc, docs)
 }
 
 // The set of the documents, which hangs together since no pass has a fault.
@@ -94,11 +86,7 @@ pub fn link(alloc: Global, docs: &[RawDoc]) -> Result<SchemaSet, LinkError>
     requires numbered { AreNumbered (map doc_of docs.now) }
     ensures { Links (map doc_of docs.now) result }
 {
-    match passed(alloc, docs) {
-        Ok(spaces) => match assembled(alloc, docs, spaces) {
-            Ok(set) => Ok(set),
-            Err(_) => Err(LinkError::Memory),
-        },
-        Err(error) => Err(error),
-    }
+    let spaces = passed(alloc, docs)?;
+    let set = assembled(alloc, docs, spaces)?;
+    Ok(set)
 }

@@ -33,6 +33,11 @@ pub enum LinkError {
 }
 
 impl From<Memory> for LinkError {
+    ghost use Rattle.std.specs.Prelude.{◌≡◌, None};
+    ghost use Rattle.link_schemas.specs.Answering.{shown};
+
+    ghost from_gives = { λ memory error. shown error ≡ None };
+
     fn from(_: Memory) -> LinkError {
         LinkError::Memory
     }
@@ -113,19 +118,15 @@ fn cleared(alloc: Global, docs: &[RawDoc]) -> Result<(), LinkError>
 fn resolved_and_ordered(alloc: Global, docs: &[RawDoc]) -> Result<(), LinkError>
     ensures { AnswersPasses (map doc_of docs.now) (Resolving ∷ Ordering ∷ []) result }
 {
-    match resolved(alloc, docs) {
-        Ok(()) => ordered(alloc, docs),
-        Err(error) => Err(error),
-    }
+    resolved(alloc, docs)?;
+    ordered(alloc, docs)
 }
 
 fn named_and_on(alloc: Global, docs: &[RawDoc]) -> Result<(), LinkError>
     ensures { AnswersPasses (map doc_of docs.now) (Naming ∷ Resolving ∷ Ordering ∷ []) result }
 {
-    match named(alloc, docs) {
-        Ok(()) => resolved_and_ordered(alloc, docs),
-        Err(error) => Err(error),
-    }
+    named(alloc, docs)?;
+    resolved_and_ordered(alloc, docs)
 }
 
 /// The passes before any component is made: whether there are too many components, a name that stands twice, a
@@ -133,10 +134,8 @@ fn named_and_on(alloc: Global, docs: &[RawDoc]) -> Result<(), LinkError>
 pub fn check_names(alloc: Global, docs: &[RawDoc]) -> Result<(), LinkError>
     ensures { AnswersPasses (map doc_of docs.now) passes_of_names result }
 {
-    match counted(docs) {
-        Ok(()) => named_and_on(alloc, docs),
-        Err(error) => Err(error),
-    }
+    counted(docs)?;
+    named_and_on(alloc, docs)
 }
 
 /// The pass that makes the simple types, where those of `check_names` have no fault: each restriction, list or union whose
@@ -175,8 +174,6 @@ pub fn check_standards(alloc: Global, docs: &[RawDoc], simples: &[Simple]) -> Re
 pub fn check_content(alloc: Global, docs: &[RawDoc]) -> Result<(), LinkError>
     ensures { AnswersPasses (map doc_of docs.now) passes_of_content result }
 {
-    match compared(alloc, docs) {
-        Ok(()) => cleared(alloc, docs),
-        Err(error) => Err(error),
-    }
+    compared(alloc, docs)?;
+    cleared(alloc, docs)
 }

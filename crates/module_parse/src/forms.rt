@@ -115,10 +115,8 @@ fn boxed_form(
     ensures value { Reads (simple_form_at name word) bytes.now from result }
     ensures within { Stays (length bytes.now) from result }
 {
-    match simple_form(alloc, word, name, bytes, from) {
-        Ok((form, next)) => Ok((Boxed::new(alloc, form)?, next)),
-        Err(stop) => Err(stop),
-    }
+    let (form, next) = simple_form(alloc, word, name, bytes, from)?;
+    Ok((Boxed::new(alloc, form)?, next))
 }
 
 // What is said of a part behind its type.
@@ -152,13 +150,9 @@ fn ended_part(
     ensures value { EndsPart most sort head bytes.now from result }
     ensures within { Stays (length bytes.now) from result }
 {
-    match part_ending(alloc, most, sort, bytes, from) {
-        Ok(((fixed, absence), next)) => {
-            let part = head.ended(alloc, fixed, absence)?;
-            Ok((part, next))
-        }
-        Err(stop) => Err(stop),
-    }
+    let ((fixed, absence), next) = part_ending(alloc, most, sort, bytes, from)?;
+    let part = head.ended(alloc, fixed, absence)?;
+    Ok((part, next))
 }
 
 // A part on a line of its own, behind this word.
@@ -386,8 +380,6 @@ pub fn body(alloc: Global, most: u32, bytes: &[u8], from: Reach) -> Result<(Type
         depth: most,
         levels: 0,
     };
-    match typed(alloc, room, bytes, from) {
-        Ok((tree, next)) => Ok((tree.into_inner(), next)),
-        Err(stop) => Err(stop),
-    }
+    let (tree, next) = typed(alloc, room, bytes, from)?;
+    Ok((tree.into_inner(), next))
 }

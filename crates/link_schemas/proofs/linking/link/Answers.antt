@@ -7,8 +7,8 @@ use Rattle.link_schemas.proofs.linking.link.Goals as goal
 
 pub assembled-requires : goal.assembled-requires
 assembled-requires c =
-    let spaces = c.in-Ok.spaces.items in
-    let answered = c.in-Ok.ensures in
+    let spaces = c.in_ok-spaces.spaces.items in
+    let answered = c.in_ok-spaces.ensures in
     record {
       numbered = c.requires.numbered;
       passed = answered.0;
@@ -16,5 +16,5 @@ assembled-requires c =
       sound = answered.2;
     }
 
-pub returns-in-Ok-assembled : goal.returns-in-Ok-assembled
-returns-in-Ok-assembled c = links (map doc_of c.args.docs.now) c.in-Ok.spaces c.in-Ok-assembled.set c.in-Ok.ensures c.in-Ok-assembled.ensures
+pub returns : goal.returns
+returns c = links (map doc_of c.args.docs.now) c.in_ok-spaces.spaces c.in_ok-set.set c.in_ok-spaces.ensures c.in_ok-set.ensures
