@@ -51,12 +51,10 @@ pub(crate) fn prepare_boxed(
     let Some(root) = root_of(space, local) else {
         return Err(Outcome::Usage);
     };
-    match files.prepare(alloc, root) {
-        Ok(prepared) => match Box::new(alloc, prepared) {
-            Ok(b) => Ok(b),
-            Err(_) => Err(Outcome::OutOfMemory),
-        },
-        Err(outcome) => Err(outcome),
+    let prepared = files.prepare(alloc, root)?;
+    match Box::new(alloc, prepared) {
+        Ok(b) => Ok(b),
+        Err(_) => Err(Outcome::OutOfMemory),
     }
 }
 
@@ -72,12 +70,10 @@ pub(crate) fn encode_boxed(
     let Some(syntax) = syntax_of(syntax) else {
         return Err(Outcome::Usage);
     };
-    match encode(alloc, prepared, syntax, document) {
-        Ok(message) => match Box::new(alloc, message) {
-            Ok(b) => Ok(b),
-            Err(_) => Err(Outcome::OutOfMemory),
-        },
-        Err(outcome) => Err(outcome),
+    let message = encode(alloc, prepared, syntax, document)?;
+    match Box::new(alloc, message) {
+        Ok(b) => Ok(b),
+        Err(_) => Err(Outcome::OutOfMemory),
     }
 }
 
@@ -94,11 +90,9 @@ pub(crate) fn decode_boxed(
     let Some(syntax) = syntax_of(syntax) else {
         return Err(Outcome::Usage);
     };
-    match decode(alloc, prepared, syntax, octets) {
-        Ok(message) => match Box::new(alloc, message) {
-            Ok(b) => Ok(b),
-            Err(_) => Err(Outcome::OutOfMemory),
-        },
-        Err(outcome) => Err(outcome),
+    let message = decode(alloc, prepared, syntax, octets)?;
+    match Box::new(alloc, message) {
+        Ok(b) => Ok(b),
+        Err(_) => Err(Outcome::OutOfMemory),
     }
 }

@@ -63,10 +63,8 @@ impl Prepared {
     pub fn of(alloc: Global, opened: Opened) -> Result<Prepared, Outcome>
         ensures { Answers prepared_seen (Give (opened_seen opened)) NoMemory result }
     {
-        match map_root(alloc, &opened) {
-            Ok(typed) => Ok(Prepared { opened, typed }),
-            Err(outcome) => Err(outcome),
-        }
+        let typed = map_root(alloc, &opened)?;
+        Ok(Prepared { opened, typed })
     }
 
     /// The set that these files are, with the root in it, and its map: or the first fault.
@@ -82,10 +80,8 @@ impl Prepared {
         ensures files { (F.entries files.new ≡ F.entries files.old) × (F.is_sure files.new ≡ F.is_sure files.old) }
         ensures later { F.faults files.old ≤ F.faults files.new }
     {
-        match open_files(alloc, files, root, names) {
-            Ok(opened) => Prepared::of(alloc, opened),
-            Err(outcome) => Err(outcome),
-        }
+        let opened = open_files(alloc, files, root, names)?;
+        Prepared::of(alloc, opened)
     }
 
     // Whether the document is valid for the root: it has no bytes to write.
@@ -116,10 +112,8 @@ impl Prepared {
         ensures few { StepsUpTo (λ items. ItemsIn (Some document.now) (Ok items)) steps.old steps.new }
         ensures many { OnOk result (StepsFrom (λ items. ItemsIn (Some document.now) (Ok items)) steps.old steps.new) }
     {
-        match lent_items(alloc, document) {
-            Ok(items) => self.judge(alloc, &items, steps),
-            Err(outcome) => Err(outcome),
-        }
+        let items = lent_items(alloc, document)?;
+        self.judge(alloc, &items, steps)
     }
 
     /// Whether the document in the input is valid.
@@ -136,10 +130,8 @@ impl Prepared {
         ensures few { StepsUpTo (λ items. ItemsIn (S.left input.old) (Ok items)) steps.old steps.new }
         ensures many { OnOk result (StepsFrom (λ items. ItemsIn (S.left input.old) (Ok items)) steps.old steps.new) }
     {
-        match read_items(alloc, input) {
-            Ok(items) => self.judge(alloc, &items, steps),
-            Err(outcome) => Err(outcome),
-        }
+        let items = read_items(alloc, input)?;
+        self.judge(alloc, &items, steps)
     }
 
     /// The encoding, in a transfer syntax, of the value of the document that these bytes are.
@@ -155,10 +147,8 @@ impl Prepared {
         ensures few { StepsUpTo (λ items. ItemsIn (Some document.now) (Ok items)) steps.old steps.new }
         ensures many { OnOk result (StepsFrom (λ items. ItemsIn (Some document.now) (Ok items)) steps.old steps.new) }
     {
-        match lent_items(alloc, document) {
-            Ok(items) => encode_items(alloc, syntax, &self.opened, &self.typed, &items, steps),
-            Err(outcome) => Err(outcome),
-        }
+        let items = lent_items(alloc, document)?;
+        encode_items(alloc, syntax, &self.opened, &self.typed, &items, steps)
     }
 
     /// The encoding of the value of the document in the input.
@@ -176,10 +166,8 @@ impl Prepared {
         ensures few { StepsUpTo (λ items. ItemsIn (S.left input.old) (Ok items)) steps.old steps.new }
         ensures many { OnOk result (StepsFrom (λ items. ItemsIn (S.left input.old) (Ok items)) steps.old steps.new) }
     {
-        match read_items(alloc, input) {
-            Ok(items) => encode_items(alloc, syntax, &self.opened, &self.typed, &items, steps),
-            Err(outcome) => Err(outcome),
-        }
+        let items = read_items(alloc, input)?;
+        encode_items(alloc, syntax, &self.opened, &self.typed, &items, steps)
     }
 
     /// The document of the value of which the input is the encoding.
