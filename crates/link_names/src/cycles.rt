@@ -26,50 +26,53 @@ fn is_kept(found: Option<LinkingFault>, fault: LinkingFault) -> bool
     }
 }
 
-// Whether a cycle goes through the node. Ranks that fall along edges rule most nodes out; a search is needed for those
-// that are left.
-fn is_circular(
+/// A graph with ranks of its nodes, in which cycles are searched for.
+#[derive(Clone, Copy)]
+struct RankedGraph<'g> {
     alloc: Global,
-    graph: &[Vec<usize>],
-    ranks: &[usize],
+    graph: &'g [Vec<usize>],
+    ranks: &'g [usize],
+    /// Whether no edge leads to a greater rank.
     falling: bool,
-    n: usize,
-) -> Result<bool, Memory>
-    requires within { n < length graph.now }
-    requires falls { falling ≡ true → (a b : ℕ) → IsEdge (rows_of graph.now) a b → slice_index ranks.now b ≤ slice_index ranks.now a }
-    ensures { IfOk result (λ cycle. IsTrue cycle ↔ IsOnCycle (rows_of graph.now) n) }
-{
-    if falling {
-        if falls_from(graph, ranks, n) {
-            return Ok(false);
-        }
-    }
-    is_on_cycle(alloc, graph, n)
 }
 
-// The first of what was found and of the fault of this node, which it has if a cycle goes through it. It is not looked
-// for where it would come later.
-fn next_found(
-    alloc: Global,
-    graph: &[Vec<usize>],
-    ranks: &[usize],
-    falling: bool,
-    n: usize,
-    fault: LinkingFault,
-    found: Option<LinkingFault>,
-) -> Result<Option<LinkingFault>, Memory>
-    requires within { n < length graph.now }
-    requires falls { falling ≡ true → (a b : ℕ) → IsEdge (rows_of graph.now) a b → slice_index ranks.now b ≤ slice_index ranks.now a }
-    ensures { IfOk result (λ first. IsNext (IsOnCycle (rows_of graph.now) n) found fault first) }
-{
-    if is_kept(found, fault) {
-        return Ok(found);
+impl RankedGraph<'_> {
+    // Whether a cycle goes through the node. Ranks that fall along edges rule most nodes out; a search is needed for those
+    // that are left.
+    fn is_circular(self, n: usize) -> Result<bool, Memory>
+        requires within { n < length self.graph.now }
+        requires falls { self.falling ≡ true → (a b : ℕ) → IsEdge (rows_of self.graph.now) a b → slice_index self.ranks.now b ≤ slice_index self.ranks.now a }
+        ensures { IfOk result (λ cycle. IsTrue cycle ↔ IsOnCycle (rows_of self.entry.graph.now) n) }
+    {
+        if self.falling {
+            if falls_from(self.graph, self.ranks, n) {
+                return Ok(false);
+            }
+        }
+        is_on_cycle(self.alloc, self.graph, n)
     }
-    let cycle = is_circular(alloc, graph, ranks, falling, n)?;
-    if cycle {
-        return Ok(earlier(found, fault));
+
+    // The first of what was found and of the fault of this node, which it has if a cycle goes through it. It is not
+    // searched for where it would come later.
+    fn next_found(
+        self,
+        n: usize,
+        fault: LinkingFault,
+        found: Option<LinkingFault>,
+    ) -> Result<Option<LinkingFault>, Memory>
+        requires within { n < length self.graph.now }
+        requires falls { self.falling ≡ true → (a b : ℕ) → IsEdge (rows_of self.graph.now) a b → slice_index self.ranks.now b ≤ slice_index self.ranks.now a }
+        ensures { IfOk result (λ first. IsNext (IsOnCycle (rows_of self.entry.graph.now) n) found fault first) }
+    {
+        if is_kept(found, fault) {
+            return Ok(found);
+        }
+        let cycle = self.is_circular(n)?;
+        if cycle {
+            return Ok(earlier(found, fault));
+        }
+        Ok(found)
     }
-    Ok(found)
 }
 
 fn first_of_graph(
@@ -81,7 +84,12 @@ fn first_of_graph(
     ensures { IfOk result (λ found. IsFirstSuch (IsCircularOf (definitions_of definitions.now)) found) }
 {
     let ranks = ranks_of(alloc, graph)?;
-    let falling = is_falling(graph, &ranks);
+    let ranked = RankedGraph {
+        alloc,
+        graph,
+        ranks: &ranks,
+        falling: is_falling(graph, &ranks),
+    };
     let mut found = None;
     'numbers: for n in 0..definitions.len() {
         let definition = definitions[n];
@@ -89,7 +97,7 @@ fn first_of_graph(
             place: definition.place,
             why: LinkWhy::CircularType,
         };
-        found = next_found(alloc, graph, &ranks, falling, n, fault, found)?;
+        found = ranked.next_found(n, fault, found)?;
     }
     Ok(found)
 }

@@ -59,7 +59,7 @@ pub(crate) fn by_name<'a>(
     Ok(table)
 }
 
-/// The same by their places.
+/// The numbers of components by the places where they were written, where that of the first is `first`.
 pub(crate) fn by_place(
     alloc: Global,
     first: u32,

@@ -109,25 +109,6 @@ fn spelled(
     })
 }
 
-fn parts_with<'a>(
-    alloc: Global,
-    docs: &'a [RawDoc],
-    listed: &Listed<'a>,
-    numbers: &ComponentNumbers<'a>,
-    spaces: Vec<Simple>,
-    used: &[Builtin],
-) -> Result<SetParts, Memory>
-    requires used { used.now ≡ builtins_told.used_builtins (listed_by listed.now) }
-    requires few { AreFew (listed_by listed.now) }
-    requires sound { AreSound spaces.items }
-    ensures numbered { IfOk result (λ made. parts_made made ≡ told.set_with (map doc_of docs.now) (listed_by listed.now) (told_by numbers.now) (map space_of spaces.items)) }
-    ensures whole { IfOk result (λ made. All HasWholeModel made.complexes.items) }
-{
-    let declarations = declared(alloc, docs, listed, numbers)?;
-    let simples = simples(alloc, docs, spaces, used)?;
-    spelled(alloc, simples, declarations)
-}
-
 /// The parts of the set of the documents, of which there are few, and whose simple types have these spaces in the order of
 /// `link_names::simple_types`. The time grows as n log n with the number of components.
 pub fn set_parts(alloc: Global, docs: &[RawDoc], spaces: Vec<Simple>) -> Result<SetParts, Memory>
@@ -139,5 +120,7 @@ pub fn set_parts(alloc: Global, docs: &[RawDoc], spaces: Vec<Simple>) -> Result<
     let listed = Listed::of(alloc, docs)?;
     let used = used_builtins(alloc, &listed)?;
     let numbers = ComponentNumbers::of(alloc, &listed, &used)?;
-    parts_with(alloc, docs, &listed, &numbers, spaces, &used)
+    let declarations = declared(alloc, docs, &listed, &numbers)?;
+    let simples = simples(alloc, docs, spaces, &used)?;
+    spelled(alloc, simples, declarations)
 }

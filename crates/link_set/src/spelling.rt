@@ -41,7 +41,7 @@ fn spelled_standard(
     Ok(or_free(found))
 }
 
-/// The same global attributes.
+/// Returns the global attributes with their default and fixed values in canonical spelling.
 pub(crate) fn spelled_attributes(
     alloc: Global,
     simples: &[SimpleDef],
@@ -80,7 +80,7 @@ fn spelled_uses(alloc: Global, simples: &[SimpleDef], uses: Uses) -> Result<Uses
     Ok(Uses::of(made))
 }
 
-/// The same complex types.
+/// Returns the complex types with the default and fixed values of their attributes in canonical spelling.
 pub(crate) fn spelled_complexes(
     alloc: Global,
     simples: &[SimpleDef],

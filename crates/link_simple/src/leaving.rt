@@ -9,10 +9,10 @@ ghost use Rattle.link_simple.specs.Making.{IsRestriction, IsList, IsUnion, IsLef
 ghost use Rattle.link_simple.specs.Private.Parts.{entries_of, AreEntriesSound};
 ghost use Rattle.link_simple.specs.Private.Leaving.{LeftBy};
 
-use crate::parts::{part_of, parts_of};
+use crate::parts::MadeTypes;
 use crate::unions::union;
 use base_texts::Memory;
-use link_names::{LinkWhy, SimpleNumbers, SimpleType};
+use link_names::{LinkWhy, SimpleType};
 use schema_components::{RawBase, RawHow};
 use simple_facets::{Facet, ItemError, list_of, restrict};
 use simple_types::Simple;
@@ -53,76 +53,50 @@ fn listed(alloc: Global, item: &Simple) -> Result<Left, Memory>
     }
 }
 
-fn restriction<'a>(
-    alloc: Global,
-    numbers: &SimpleNumbers<'a>,
-    entries: &[Option<Simple>],
-    file: u32,
-    base: &'a RawBase,
-    facets: &[Facet],
-) -> Result<Left, Memory>
-    requires sound { AreEntriesSound (entries_of entries.now) }
-    requires few { has_few_enumerations facets.now ≡ true }
-    ensures { IfOk result (LeftBy (IsRestriction (part_space (told_by numbers.now) (entries_of entries.now) file (base_of base.now)) facets.now)) }
-{
-    match part_of(alloc, numbers, entries, file, base)? {
-        Some(base) => restricted(alloc, base.simple(), facets),
-        None => Ok(Left::PartMissing),
-    }
-}
-
-fn list<'a>(
-    alloc: Global,
-    numbers: &SimpleNumbers<'a>,
-    entries: &[Option<Simple>],
-    file: u32,
-    item: &'a RawBase,
-) -> Result<Left, Memory>
-    requires { AreEntriesSound (entries_of entries.now) }
-    ensures { IfOk result (LeftBy (IsList (part_space (told_by numbers.now) (entries_of entries.now) file (base_of item.now)))) }
-{
-    match part_of(alloc, numbers, entries, file, item)? {
-        Some(item) => listed(alloc, item.simple()),
-        None => Ok(Left::PartMissing),
-    }
-}
-
-fn union_of_members<'a>(
-    alloc: Global,
-    numbers: &SimpleNumbers<'a>,
-    entries: &[Option<Simple>],
-    file: u32,
-    members: &'a [RawBase],
-) -> Result<Left, Memory>
-    requires sound { AreEntriesSound (entries_of entries.now) }
-    requires some { has_member (bases_in members.now) ≡ true }
-    ensures { IfOk result (LeftBy (IsUnion (part_spaces (told_by numbers.now) (entries_of entries.now) file (bases_in members.now)))) }
-{
-    match parts_of(alloc, numbers, entries, file, members)? {
-        Some(members) => union(alloc, &members),
-        None => Ok(Left::PartMissing),
-    }
-}
-
-/// What is left of the type, beside the types made before.
-pub(crate) fn left_of<'a>(
-    alloc: Global,
-    numbers: &SimpleNumbers<'a>,
-    entries: &[Option<Simple>],
-    definition: SimpleType<'a>,
-) -> Result<Left, Memory>
-    requires sound { AreEntriesSound (entries_of entries.now) }
-    requires varied { how_varied (how_of definition.how.now) ≡ true }
-    ensures { IfOk result (LeftBy (IsLeft (told_by numbers.now) (entries_of entries.now) definition.entry.place.file (how_of definition.entry.how.now))) }
-{
-    let file = definition.place.file;
-    match definition.how {
-        RawHow::Restrict { base, facets } => {
-            restriction(alloc, numbers, entries, file, base, facets.items())
+impl<'a> MadeTypes<'_, 'a> {
+    fn restriction(self, file: u32, base: &'a RawBase, facets: &[Facet]) -> Result<Left, Memory>
+        requires sound { AreEntriesSound (entries_of self.entries.now) }
+        requires few { has_few_enumerations facets.now ≡ true }
+        ensures { IfOk result (LeftBy (IsRestriction (part_space (told_by self.entry.numbers.now) (entries_of self.entry.entries.now) file (base_of base.now)) facets.now)) }
+    {
+        match self.part_of(file, base)? {
+            Some(base) => restricted(self.alloc, base.simple(), facets),
+            None => Ok(Left::PartMissing),
         }
-        RawHow::List { item } => list(alloc, numbers, entries, file, item),
-        RawHow::Union { members } => {
-            union_of_members(alloc, numbers, entries, file, members.items())
+    }
+
+    fn list(self, file: u32, item: &'a RawBase) -> Result<Left, Memory>
+        requires { AreEntriesSound (entries_of self.entries.now) }
+        ensures { IfOk result (LeftBy (IsList (part_space (told_by self.entry.numbers.now) (entries_of self.entry.entries.now) file (base_of item.now)))) }
+    {
+        match self.part_of(file, item)? {
+            Some(item) => listed(self.alloc, item.simple()),
+            None => Ok(Left::PartMissing),
+        }
+    }
+
+    fn union_of_members(self, file: u32, members: &'a [RawBase]) -> Result<Left, Memory>
+        requires sound { AreEntriesSound (entries_of self.entries.now) }
+        requires some { has_member (bases_in members.now) ≡ true }
+        ensures { IfOk result (LeftBy (IsUnion (part_spaces (told_by self.entry.numbers.now) (entries_of self.entry.entries.now) file (bases_in members.now)))) }
+    {
+        match self.parts_of(file, members)? {
+            Some(members) => union(self.alloc, &members),
+            None => Ok(Left::PartMissing),
+        }
+    }
+
+    /// Returns what is left of the type, given the types made before.
+    pub(crate) fn left_of(self, definition: SimpleType<'a>) -> Result<Left, Memory>
+        requires sound { AreEntriesSound (entries_of self.entries.now) }
+        requires varied { how_varied (how_of definition.how.now) ≡ true }
+        ensures { IfOk result (LeftBy (IsLeft (told_by self.entry.numbers.now) (entries_of self.entry.entries.now) definition.entry.place.file (how_of definition.entry.how.now))) }
+    {
+        let file = definition.place.file;
+        match definition.how {
+            RawHow::Restrict { base, facets } => self.restriction(file, base, facets.items()),
+            RawHow::List { item } => self.list(file, item),
+            RawHow::Union { members } => self.union_of_members(file, members.items()),
         }
     }
 }

@@ -64,63 +64,62 @@ fn lent_part<'m>(entries: &'m [Option<Simple>], number: Option<usize>) -> Option
     }
 }
 
-fn named_part<'m, 'a>(
-    alloc: Global,
-    numbers: &SimpleNumbers<'a>,
-    entries: &'m [Option<Simple>],
-    reference: &'a RawRef,
-) -> Result<Option<Part<'m>>, Memory>
-    requires { AreEntriesSound (entries_of entries.now) }
-    ensures space { IfOk result (λ found. (file : ℕ) → option_map seen found ≡ part_space (told_by numbers.now) (entries_of entries.now) file (Named reference.now)) }
-    ensures sound { IfOk result (λ found. IfSome found (λ p. Sound (seen p))) }
-{
-    match reference {
-        RawRef::Builtin(which) => {
-            let simple = builtin(alloc, *which)?;
-            Ok(Some(Part::Own(simple)))
-        }
-        RawRef::Other(name) => Ok(lent_part(entries, numbers.number_of(name))),
-    }
+/// The types that were made before, by their numbers.
+#[derive(Clone, Copy)]
+pub(crate) struct MadeTypes<'m, 'a> {
+    pub alloc: Global,
+    pub numbers: &'m SimpleNumbers<'a>,
+    pub entries: &'m [Option<Simple>],
 }
 
-/// The base, the item or the member. None where it isn't made.
-pub(crate) fn part_of<'m, 'a>(
-    alloc: Global,
-    numbers: &SimpleNumbers<'a>,
-    entries: &'m [Option<Simple>],
-    file: u32,
-    base: &'a RawBase,
-) -> Result<Option<Part<'m>>, Memory>
-    requires { AreEntriesSound (entries_of entries.now) }
-    ensures space { IfOk result (λ found. option_map seen found ≡ part_space (told_by numbers.now) (entries_of entries.now) file (base_of base.now)) }
-    ensures sound { IfOk result (λ found. IfSome found (λ p. Sound (seen p))) }
-{
-    match base {
-        RawBase::Named(reference) => named_part(alloc, numbers, entries, reference),
-        RawBase::Inner(body) => Ok(lent_part(entries, numbers.number_at(file, body.at))),
-    }
-}
-
-/// All of these. None where one isn't made.
-pub(crate) fn parts_of<'m, 'a>(
-    alloc: Global,
-    numbers: &SimpleNumbers<'a>,
-    entries: &'m [Option<Simple>],
-    file: u32,
-    bases: &'a [RawBase],
-) -> Result<Option<Vec<Part<'m>>>, Memory>
-    requires { AreEntriesSound (entries_of entries.now) }
-    ensures spaces { IfOk result (λ found. option_map (λ ps. seen_all ps.items) found ≡ part_spaces (told_by numbers.now) (entries_of entries.now) file (bases_in bases.now)) }
-    ensures sound { IfOk result (λ found. IfSome found (λ ps. AreEachSound (seen_all ps.items))) }
-{
-    let mut found = Vec::new(alloc);
-    'bases: for base in bases {
-        match part_of(alloc, numbers, entries, file, base)? {
-            Some(part) => found.push(part)?,
-            None => return Ok(None),
+impl<'m, 'a> MadeTypes<'m, 'a> {
+    fn named_part(self, reference: &'a RawRef) -> Result<Option<Part<'m>>, Memory>
+        requires { AreEntriesSound (entries_of self.entries.now) }
+        ensures space { IfOk result (λ found. (file : ℕ) → option_map seen found ≡ part_space (told_by self.entry.numbers.now) (entries_of self.entry.entries.now) file (Named reference.now)) }
+        ensures sound { IfOk result (λ found. IfSome found (λ p. Sound (seen p))) }
+    {
+        match reference {
+            RawRef::Builtin(which) => {
+                let simple = builtin(self.alloc, *which)?;
+                Ok(Some(Part::Own(simple)))
+            }
+            RawRef::Other(name) => Ok(lent_part(self.entries, self.numbers.number_of(name))),
         }
     }
-    Ok(Some(found))
+
+    /// Returns the base, the item or the member, or `None` where it isn't made.
+    pub(crate) fn part_of(self, file: u32, base: &'a RawBase) -> Result<Option<Part<'m>>, Memory>
+        requires { AreEntriesSound (entries_of self.entries.now) }
+        ensures space { IfOk result (λ found. option_map seen found ≡ part_space (told_by self.entry.numbers.now) (entries_of self.entry.entries.now) file (base_of base.now)) }
+        ensures sound { IfOk result (λ found. IfSome found (λ p. Sound (seen p))) }
+    {
+        match base {
+            RawBase::Named(reference) => self.named_part(reference),
+            RawBase::Inner(body) => {
+                Ok(lent_part(self.entries, self.numbers.number_at(file, body.at)))
+            }
+        }
+    }
+
+    /// Returns all of these, or `None` where one isn't made.
+    pub(crate) fn parts_of(
+        self,
+        file: u32,
+        bases: &'a [RawBase],
+    ) -> Result<Option<Vec<Part<'m>>>, Memory>
+        requires { AreEntriesSound (entries_of self.entries.now) }
+        ensures spaces { IfOk result (λ found. option_map (λ ps. seen_all ps.items) found ≡ part_spaces (told_by self.entry.numbers.now) (entries_of self.entry.entries.now) file (bases_in bases.now)) }
+        ensures sound { IfOk result (λ found. IfSome found (λ ps. AreEachSound (seen_all ps.items))) }
+    {
+        let mut found = Vec::new(self.alloc);
+        'bases: for base in bases {
+            match self.part_of(file, base)? {
+                Some(part) => found.push(part)?,
+                None => return Ok(None),
+            }
+        }
+        Ok(Some(found))
+    }
 }
 
 fn made_at<'m>(simples: &'m [Simple], number: Option<usize>) -> Option<Part<'m>>

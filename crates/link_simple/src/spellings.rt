@@ -42,8 +42,8 @@ fn fixed_value(text: Option<Text>) -> Option<Standard>
     }
 }
 
-/// The same with the canonical spelling of the value that its text gives (XML Schema Part 1, section 3.2.6). `None` where the
-/// type doesn't accept the text. The time is that of reading and spelling the text.
+/// Returns the value constraint with the canonical spelling of the value that its text gives (XML Schema Part 1, section
+/// 3.2.6). Returns `None` where the type doesn't accept the text. The time is that of reading and spelling the text.
 pub fn in_spelling(
     alloc: Global,
     simple: &Simple,

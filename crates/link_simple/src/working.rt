@@ -13,8 +13,9 @@ ghost use Rattle.link_simple.specs.Private.Told.{AreTold};
 ghost use Rattle.link_simple.specs.Private.Varied.{AreVaried};
 ghost use Rattle.link_simple.specs.Private.Working.{space_left, fault_left, StandsIn, FinishedIn};
 
-use crate::leaving::{Left, left_of};
+use crate::leaving::Left;
 use crate::making::MakingError;
+use crate::parts::MadeTypes;
 use base_texts::Memory;
 use link_names::{LinkingFault, Place, SimpleNumbers, SimpleType, first_of};
 use simple_types::Simple;
@@ -96,7 +97,12 @@ impl Work {
             → StandsIn (definitions_of definitions.now) (set done n true) self.new) }
     {
         let definition = definitions[n];
-        let left = left_of(alloc, numbers, &self.entries, definition)?;
+        let made = MadeTypes {
+            alloc,
+            numbers,
+            entries: &self.entries,
+        };
+        let left = made.left_of(definition)?;
         self.put(n, definition.body, left);
         Ok(())
     }

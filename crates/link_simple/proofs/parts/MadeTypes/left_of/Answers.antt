@@ -9,22 +9,22 @@ use Rattle.link_names.specs.Tables.{told_by}
 use Rattle.link_simple.specs.Making.{IsLeft}
 use Rattle.link_simple.specs.Private.Parts.{entries_of}
 use Rattle.link_simple.specs.Private.Leaving.{LeftBy}
-use Rattle.link_simple.proofs.leaving.left_of.Goals as goal
+use Rattle.link_simple.proofs.parts.MadeTypes.left_of.Goals as goal
 
 pub returns-in-Restrict : goal.returns-in-Restrict
 returns-in-Restrict c =
     let told = ap how_of c.in-Restrict.is ∙ restriction c.in-Restrict.base c.in-Restrict.facets ∙ ap (Restrict (base_of c.in-Restrict.base)) (sym c.items.ensures) in
-    subst (λ h. IfOk c.restriction.result (LeftBy (IsLeft (told_by c.args.numbers.now) (entries_of c.args.entries.now) c.args.definition.place.file h))) (sym told) c.restriction.ensures
+    subst (λ h. IfOk c.restriction.result (LeftBy (IsLeft (told_by c.args.self.numbers.now) (entries_of c.args.self.entries.now) c.args.definition.place.file h))) (sym told) c.restriction.ensures
 
 pub returns-in-List : goal.returns-in-List
 returns-in-List c =
     let told = ap how_of c.in-List.is ∙ list_of_items c.in-List.item in
-    subst (λ h. IfOk c.list.result (LeftBy (IsLeft (told_by c.args.numbers.now) (entries_of c.args.entries.now) c.args.definition.place.file h))) (sym told) c.list.ensures
+    subst (λ h. IfOk c.list.result (LeftBy (IsLeft (told_by c.args.self.numbers.now) (entries_of c.args.self.entries.now) c.args.definition.place.file h))) (sym told) c.list.ensures
 
 pub returns-in-Union : goal.returns-in-Union
 returns-in-Union c =
     let told = ap how_of c.in-Union.is ∙ union c.in-Union.members ∙ ap UnionOf (sym c.items-in-Union.ensures) in
-    subst (λ h. IfOk c.union_of_members.result (LeftBy (IsLeft (told_by c.args.numbers.now) (entries_of c.args.entries.now) c.args.definition.place.file h))) (sym told)
+    subst (λ h. IfOk c.union_of_members.result (LeftBy (IsLeft (told_by c.args.self.numbers.now) (entries_of c.args.self.entries.now) c.args.definition.place.file h))) (sym told)
     c.union_of_members.ensures
 
 pub restriction-requires-clause-few : goal.restriction-requires-clause-few

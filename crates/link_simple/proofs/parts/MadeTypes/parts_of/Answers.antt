@@ -9,12 +9,12 @@ use Rattle.link_simple.specs.Making.{part_space, part_spaces, with_space}
 use Rattle.link_simple.specs.Private.Parts.{entries_of, seen, seen_all, with_front}
 use Rattle.simple_facets.proofs.Counting.{cut, past_end}
 use Rattle.link_simple.proofs.Lending.{part_behind, part_missing, all_behind, part_sound}
-use Rattle.link_simple.proofs.parts.parts_of.Goals as goal
+use Rattle.link_simple.proofs.parts.MadeTypes.parts_of.Goals as goal
 
 pub bases-preserved : goal.bases-preserved
 bases-preserved c =
-    let ns = told_by c.args.numbers.now in
-    let made = entries_of c.args.entries.now in
+    let ns = told_by c.args.self.numbers.now in
+    let made = entries_of c.args.self.entries.now in
     let file = c.args.file in
     let bs = c.args.bases.now in
     let i = c.bases.base-index in
@@ -32,8 +32,8 @@ bases-preserved c =
 
 pub returns-in-None-clause-spaces : goal.returns-in-None-clause-spaces
 returns-in-None-clause-spaces c =
-    let ns = told_by c.args.numbers.now in
-    let made = entries_of c.args.entries.now in
+    let ns = told_by c.args.self.numbers.now in
+    let made = entries_of c.args.self.entries.now in
     let file = c.args.file in
     let bs = c.args.bases.now in
     let i = c.bases.base-index in
@@ -46,8 +46,8 @@ returns-in-None-clause-spaces c =
 
 pub returns-clause-spaces : goal.returns-clause-spaces
 returns-clause-spaces c =
-    let ns = told_by c.args.numbers.now in
-    let made = entries_of c.args.entries.now in
+    let ns = told_by c.args.self.numbers.now in
+    let made = entries_of c.args.self.entries.now in
     let ps = c.bases.found.items in
     sym
     (c.bases.invariant.0
