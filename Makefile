@@ -6,12 +6,13 @@ FIXED = bin/transcode
 BUILT = crates/ruvkhiska/out/ruvkhiska
 FIXED_BUILT = crates/transcode_cmd/out/transcode_cmd
 SOURCES = crates.txt $(shell find crates -name out -prune -o \( -name '*.rt' -o -name '*.antt' \) -print)
-# How many crates are proved side by side; each takes up to some 4 GB of memory.
-JOBS = $(shell nproc)
+# How many crates are proved side by side at most; if it is empty, one for each processor, or fewer where memory is short.
+JOBS =
+PROVE = RT=$(RT) tests/prove.py $(if $(JOBS),--jobs $(JOBS)) transcode_cmd ruvkhiska
 
-# Proves and builds both programs, puts them at bin/ruvkhiska and bin/transcode, and shows the module of an example. The crates
-# below a program are proved side by side; one that `make run` or `rt check` proved isn't proved again. The gate leaves the
-# programs that it proved, and where no file has changed since, these are taken.
+# Proves and builds both programs, copies them to bin/ruvkhiska and bin/transcode, and shows the module of an example. The crates
+# below them are proved side by side. One that `make run` or `rt check` proved isn't proved again, so an interrupted run goes on.
+# The gate leaves the programs that it proved. Where no file has changed since, these are taken.
 .PHONY: run
 run: $(FIXED) $(PROGRAM)
 	$(PROGRAM) show examples/order.xsd
@@ -24,14 +25,14 @@ $(FIXED): $(FIXED_BUILT)
 	mkdir -p bin
 	cp $(FIXED_BUILT) $(FIXED)
 
-# The fixed program is below no other, so it comes first: the other then finds the crates of both proved.
+# The crates of both programs are proved for the first that is built.
 $(BUILT): $(SOURCES) | $(FIXED_BUILT)
-	cd crates/ruvkhiska && $(RT) all check --jobs $(JOBS)
+	$(PROVE)
 	cd crates/ruvkhiska && $(RT) run -- trial 1 > /dev/null
 	touch $(BUILT)
 
 $(FIXED_BUILT): $(SOURCES)
-	cd crates/transcode_cmd && $(RT) all check --jobs $(JOBS)
+	$(PROVE)
 	cd crates/transcode_cmd && $(RT) run -- trial 1 > /dev/null
 	touch $(FIXED_BUILT)
 
@@ -41,7 +42,7 @@ quick:
 	RT=$(RT) tests/quick.sh
 	bin/ruvkhiska-unproved show examples/order.xsd
 
-# The merge gate: every proof, the edits that must be refused, the tests and the programs.
+# The merge gate, .ci/run: every proof, the edits that must be refused, the tests and the programs.
 .PHONY: test
 test:
-	.ci/run
+	RT=$(RT) tests/prove.py --gate

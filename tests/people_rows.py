@@ -37,12 +37,18 @@ def as_people_say(words):
 
 class Row:
     def __init__(self, title):
-        self.title, self.words, self.files, self.input, self.due, self.written = title, [], {}, bytearray(), None, bytearray()
-        self.is_plain = True
+        self.title, self.words, self.files, self.input, self.due, self.written = title, [], {}, bytearray(), (0, ""), bytearray()
+        # The calls of each object that fail, from 1, the most bytes that the calls move, and the room of the output.
+        self.fails, self.pieces, self.room = {}, {}, 100_000
+
+    @property
+    def is_plain(self):
+        """Whether no call fails and the output has room for all."""
+        return not self.fails and self.room >= 100_000
 
 
 def rows_of(path):
-    """The rows of the table whose outside does nothing but hold its texts."""
+    """Returns the rows of the table. Raises ValueError at a line that is no line of a table."""
     texts, rows, row, into, mark = {}, [], None, None, 0
 
     def put(more):
@@ -77,7 +83,7 @@ def rows_of(path):
             row, into = Row(rest), None
             rows.append(row)
         elif first in ("words", "word"):
-            for word in rest.split(" ") if first == "words" else [rest]:
+            for word in rest.split() if first == "words" else [rest]:
                 row.words.append(word)
                 if word in texts:
                     row.files[word] = texts[word]
@@ -92,9 +98,11 @@ def rows_of(path):
             row.input, into = bytearray(), ("input",)
             if rest:
                 put(marked(rest))
-        elif first in ("pieces", "fails", "room"):
-            # Room for more than the others have ends no output early.
-            row.is_plain = row.is_plain and (first == "pieces" or first == "room" and int(rest) > 100_000)
+        elif first in ("pieces", "fails"):
+            name, *numbers = rest.split()
+            getattr(row, first)[name] = [int(it) for it in numbers]
+        elif first == "room":
+            row.room = int(rest)
         elif first == "due":
             status, _, told = rest.partition(" ")
             row.due, into = (int(status), told.replace("^", str(mark))), ("due",)
@@ -109,12 +117,17 @@ def rows_of(path):
         elif first == "copies":
             times, name = rest.split(" ", 1)
             put(texts[name] * int(times))
-        elif first == "repeat":
-            least, most, kind, text = rest.split(" ", 3)
-            for number in range(int(least), int(most) + 1):
-                put(text.replace("@", str(number)).encode() + (b"\n" if kind == "|" else b""))
+        elif first in ("repeat", "nest"):
+            start, end, line = rest.split(" ", 2)
+            start, end = int(start), int(end)
+            text = line[1:].removeprefix(" ") + ("\n" if line[0] == "|" else "")
+            numbers = range(start, end + 1)
+            if first == "nest" and end < start:
+                numbers = range(start, end - 1, -1)
+            for number in numbers:
+                put((text.replace("@", str(number)) if first == "repeat" else "    " * number + text).encode())
         else:
-            row.is_plain = False
+            raise ValueError(f"{path}: no line of a table: {line[:80]}")
     return rows
 
 
@@ -193,7 +206,7 @@ def main():
     with tempfile.TemporaryDirectory() as work:
         complaints = Complaints(work)
         for row in rows_of(f"{HERE}/crates/transcode_rows/stdin"):
-            if row.is_plain and row.due and row.words and all("/" not in it for it in row.files):
+            if row.is_plain and row.words and all("/" not in it for it in row.files):
                 complaints.row(row)
     print(f"{complaints.tried} complaints tried, {len(complaints.reasons)} reasons, {complaints.wrong} wrong")
     return 1 if complaints.wrong else 0
