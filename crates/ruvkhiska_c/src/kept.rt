@@ -12,28 +12,28 @@ use transcode_messages::Prepared;
 /// In C one pointer.
 #[repr(C)]
 #[derive(Drop)]
-pub struct Kept {
+pub struct PreparedBox {
     ptr: *mut u8,
     alloc: Global,
     pub ghost value: { Option Held } by { kept_coded },
 }
 
-impl Model for Kept {
+impl Model for PreparedBox {
     ghost also_owns = { λ k. kept_owns k.alloc k.ptr k.value };
 }
 
-impl Kept {
-    pub(crate) fn none(alloc: Global) -> Kept
+impl PreparedBox {
+    pub(crate) fn none(alloc: Global) -> PreparedBox
         ensures { result.value ≡ None }
     {
         let at = null_mut();
-        Kept::nothing(at, alloc)
+        PreparedBox::nothing(at, alloc)
     }
 
-    pub(crate) fn of(b: Box<Prepared>) -> Kept
+    pub(crate) fn of(b: Box<Prepared>) -> PreparedBox
         ensures { result.value ≡ Some b.value }
     {
-        Kept::of_parts(Parts::of(b))
+        PreparedBox::of_parts(Parts::of(b))
     }
 
     pub(crate) fn into_box(self) -> Box<Prepared>
@@ -43,17 +43,17 @@ impl Kept {
         self.into_parts().into_box()
     }
 
-    fn nothing(ptr: *mut u8, alloc: Global) -> Kept
+    fn nothing(ptr: *mut u8, alloc: Global) -> PreparedBox
         ensures { result.value ≡ None }
     {
-        Kept { ptr, alloc }
+        PreparedBox { ptr, alloc }
     }
 
-    fn of_parts(parts: Parts<Prepared, Global>) -> Kept
+    fn of_parts(parts: Parts<Prepared, Global>) -> PreparedBox
         ensures { result.value ≡ Some parts.value }
     {
         let Parts { ptr, alloc } = parts;
-        Kept {
+        PreparedBox {
             ptr: ptr.cast::<u8>(),
             alloc,
         }
@@ -63,7 +63,7 @@ impl Kept {
         requires { IsSome self.value }
         ensures { self.value ≡ Some result.value }
     {
-        let Kept { ptr, alloc } = self;
+        let PreparedBox { ptr, alloc } = self;
         Parts {
             ptr: ptr.cast::<Prepared>(),
             alloc,
