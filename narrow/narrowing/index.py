@@ -26,6 +26,7 @@ class Index:
             if namespace not in (XS, XSI):
                 for document in documents:
                     self.add_document(namespace, document)
+        self.declared = set(self.prefixes)
         self.prefixes.update({XS: "xs", XML: "xml"})
         self.prefixes.pop("", None)
         self.rank = {id(c): i for i, (_, c) in enumerate(self.order)}
@@ -86,7 +87,13 @@ class Index:
         if c.parent is not None or not c.name:
             return ""
         kind = "element" if isinstance(c, XsdElement) else "attribute" if isinstance(c, XsdAttribute) else "type"
-        return "%s %s" % (kind, self.shown(c.name))
+        return self.said(kind, c.name)
+
+    def said(self, kind: str, name: str) -> str:
+        """Returns how the report names a component: without a prefix that no file has, for the target namespace."""
+        namespace, local = split(name)
+        bare = namespace == self.target and namespace not in self.declared
+        return "%s %s" % (kind, local if bare else self.shown(name))
 
     def shown(self, name: str) -> str:
         """Returns a name with its prefix."""

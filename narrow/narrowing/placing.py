@@ -102,8 +102,8 @@ class Pruning:
                 self.follow(item.body.written() if item.kind == "element" else item.body)
         for namespace, items in self.written.items():
             self.written[namespace] = [i for i in items if (KINDS[i.kind], i.name) in reached]
-        shown = self.rewriting.index.shown
-        self.rewriting.report.keep({"%s %s" % (kind, shown(name)) for kind, name in reached})
+        said = self.rewriting.index.said
+        self.rewriting.report.keep({said(kind, name) for kind, name in reached})
 
     def follow(self, d: Any) -> None:
         """Adds what a definition refers to."""

@@ -86,7 +86,8 @@ class Scan:
         source = self.source
         self.levels += 1
         source.lines.append(self.parser.CurrentLineNumber)
-        self.grow(name)
+        namespace, _, local = name.rpartition(" ")
+        self.grow(local)
         for key, value in attributes.items():
             self.grow(key)
             self.grow(value)
@@ -94,7 +95,6 @@ class Scan:
             self.fail("has over %d elements inside each other" % MOST_LEVELS)
         if len(source.lines) > self.most_elements:
             self.fail("the set has over %d elements" % MOST_ELEMENTS)
-        namespace, _, local = name.rpartition(" ")
         if self.levels == 1:
             if (namespace, local) != (XS, "schema"):
                 self.fail("is no schema: its root is %s" % (local if not namespace else "{%s}%s" % (namespace, local)))

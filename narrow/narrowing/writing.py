@@ -56,7 +56,7 @@ class Writer:
     def comments(self, item: Item) -> None:
         """Writes the notes on a component above it."""
         kind = "type" if item.kind.endswith("Type") else item.kind
-        for note in self.notes.get("%s %s" % (kind, self.index.shown(item.name)), ()):
+        for note in self.notes.get(self.index.said(kind, item.name), ()):
             text = re.sub("-(?=-)|-$", "- ", "%s: %s" % (note.kind, note.words))
             self.lines.append("  <!-- %s -->" % text)
 

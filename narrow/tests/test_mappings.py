@@ -207,6 +207,7 @@ class Mappings(unittest.TestCase):
         """Tries the report, the schemas and the documents of each case."""
         for name, rules, files, documents in CASES:
             with self.subTest(name), tempfile.TemporaryDirectory() as folder:
+                print(name, flush=True) if os.environ.get("VERBOSE") else None
                 rewritten = Set(folder, files)
                 self.assertEqual(" ".join(rewritten.rules()), rules)
                 status = max((STATUS[RULES[r][0]] for r in rules.split()), default=0)
