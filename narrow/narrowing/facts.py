@@ -126,7 +126,8 @@ class FactFinder:
         if name in TEXTS:
             return Facts("text", name, space=TEXTS[name])
         if name in CHECKED or name in ("QName", "NOTATION"):
-            return Facts("text", "NCName", alien=name not in CHECKED, loose=name not in CHECKED)
+            alien = name not in CHECKED  # Of these no length is checked (XML Schema Part 2, section 4.3.1).
+            return Facts("text", "NCName", alien=alien, loose=alien, unit=0 if alien else 1)
         if name in LISTS:
             return Facts("list", name, item=self.maps.types["{%s}%s" % (XS, LISTS[name])], shortest=1)
         if name == "anySimpleType":
@@ -167,7 +168,7 @@ class Step:
         self.words = [v for n, v, _ in self.own if n == "enumeration"]
         said = [v for n, v, _ in self.own if n == "pattern"]
         self.patterns = list(t.patterns.patterns) if said and t.patterns is not None else []
-        self.said = "|".join(said)
+        self.said = "|".join(said) or "of its base"
 
     def tell(self, rule: str, *details: str, facet: str = "") -> None:
         """Adds a note, at the first facet of a name where one is given."""

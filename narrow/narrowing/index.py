@@ -115,9 +115,13 @@ class Index:
         while x is not None and not any(x is other for other in met):
             met.append(x)
             own = x.elem.get("type") or any(isinstance(k.tag, str) and k.tag.endswith("Type") for k in x.elem)
-            if own or x.ref is not None or not x.substitution_group:
+            head = x.elem.get("substitutionGroup")
+            if own or x.ref is not None or not head:
                 return x.type
-            x = self.maps.elements.get(x.substitution_group)
+            try:
+                x = self.maps.elements.get(x.schema.resolve_qname(head.strip()))
+            except (KeyError, ValueError):
+                break
         return met[0].type
 
     def members(self, head: Any) -> list[Any]:

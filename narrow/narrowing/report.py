@@ -84,7 +84,8 @@ class Report:
 
     def note(self, rule: str, *details: str, node: Any = None, subject: str = "") -> None:
         """Adds a line of a rule. Its place is that of `node`, or else of the block's node."""
-        file, line = self.place_of(node) or self.place_of(self.node) or self.place_of(None)
+        known = (self.place_of(n) for n in (node, self.node) if n is not None)
+        file, line = next((place for place in known if place), None) or self.place_of(None)
         words = RULES[rule][1].format(*(shortened(d) for d in details))
         self.notes[Note(file, line, self.component, rule, subject + words)] = None
 

@@ -16,7 +16,7 @@ from .simple_types import SimpleTypes
 
 MOST_ATTRIBUTES = 400
 MOST_KNOWN = 100  # A wildcard of attributes that allows more of the set than this is dropped.
-Dead = set[tuple[str, Optional[str]]]
+Dead = set[tuple[str, Any]]
 
 
 class Rewriting:
@@ -69,14 +69,12 @@ class Rewriting:
         if t.is_simple():
             node = self.simple.type_ref(t, self.report.node, "element %s: " % spec.hint)
             spec.definition = self.simple.with_constraint(t, node, constraint) if constraint else node
-        elif not t.abstract and ("type", spec.name) not in self.dead:
+        elif not t.abstract and ("type", type_key(t)) not in self.dead:
             if t.name in self.index.derived:
                 with self.within(t):
                     self.report.note("xsi-type", ", ".join(self.descendants(t.name)))
             spec.definition = "possible"  # Until it is known, in a circle.
             spec.definition = self.complex_type(t, spec.hint, constraint)
-            if spec.definition is None and spec.name:
-                self.dead.add(("type", spec.name))
 
     def descendants(self, name: str) -> list[str]:
         """Returns the names of the types that are derived from a type."""
@@ -98,6 +96,8 @@ class Rewriting:
             self.kept.append(t)
             with self.within(t):
                 self.complexes[key] = self.new_complex(t, hint, constraint)
+            if self.complexes[key] is None:
+                self.dead.add(("type", type_key(t)))
         return self.complexes[key]
 
     def new_complex(self, t: Any, hint: str, constraint: tuple[str, ...]) -> Optional[Complex]:
@@ -221,6 +221,11 @@ class Rewriting:
             out.append(Item("simpleType", c.name, self.simple.definition(c)))
         elif not c.abstract and self.complex_type(c, c.local_name) is not None:
             out.append(Item("complexType", c.name, self.complex_type(c, c.local_name)))
+
+
+def type_key(t: Any) -> Any:
+    """Returns what identifies a complex type: its name, or else the object, which stays as long as the set."""
+    return t.name or id(t)
 
 
 def rewritten(index: Index, wildcards: str) -> Rewriting:

@@ -1,6 +1,7 @@
 """What the tests share: the program, the judges that aren't ours, and short ways to write schemas."""
 from __future__ import annotations
 
+import json
 import os
 import subprocess
 import sys
@@ -78,8 +79,9 @@ def same(schema: Any, one: bytes, other: bytes) -> bool:
     a, b = without_xsi(one), without_xsi(other)
     if [e.tag for e in a.iter()] != [e.tag for e in b.iter()]:
         return False
-    values = [list(map(str, schema.iter_decode(root, process_namespaces=False, use_defaults=True))) for root in (a, b)]
-    return bool(values[0] == values[1]) or spelled(a) == spelled(b)
+    options = {"process_namespaces": False, "use_defaults": True}
+    values = [json.dumps(list(schema.iter_decode(root, **options)), sort_keys=True, default=str) for root in (a, b)]
+    return values[0] == values[1] or spelled(a) == spelled(b)
 
 
 def without_xsi(document: bytes) -> Any:

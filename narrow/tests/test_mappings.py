@@ -171,7 +171,7 @@ CASES = [
     ('numbers between 0.2 and 0.8', 'no-value point', {'s.xsd': schema(simple(restricted('decimal', fractionDigits=0, minInclusive='0.2', maxInclusive='0.8')))},
      ['wider <e>7</e>']),
     ('2^32 occurrences', 'occurrences', {'s.xsd': schema(complex_('<xs:sequence><xs:element name="a" type="xs:int" minOccurs="0" '
-        'maxOccurs="99999999999"/></xs:sequence>'))}, ['ok <e><a>1</a></e>']),
+        'maxOccurs="99999999999"/></xs:sequence>'))}, []),     # xmllint knows no such number.
     ('substitution group in an all', 'substituted-all', {'s.xsd': schema(
         '<xs:element name="h" type="xs:int" abstract="true"/><xs:element name="i" substitutionGroup="h"/><xs:element name="j" substitutionGroup="h"/>'
         + complex_('<xs:all><xs:element ref="h"/><xs:element name="k" type="xs:int"/></xs:all>'))},
@@ -185,8 +185,8 @@ CASES = [
         '<xs:complexType name="%s"><xs:sequence><xs:element name="a" type="xs:%s"/></xs:sequence></xs:complexType>' % it
         for it in (('B', 'int'), ('C', 'string'))), 'urn:b')},
      ['ok <e xmlns="urn:a"><a xmlns="urn:b">1</a><c>2</c></e>', 'refused <f xmlns="urn:a"><a xmlns="urn:b">x</a><c>2</c></f>']),
-    ('entities of a document type', '', {'s.xsd': '<!DOCTYPE xs:schema [<!ENTITY t "xs:int"><!ENTITY e "<xs:element name=\'f\' type=\'&t;\'/>">]>'
-        + schema(element('', attributes=' type="&t;"') + '&e;')}, ['ok <e>7</e>', 'ok <f>7</f>', 'bad <f>x</f>']),
+    ('entities of a document type', '', {'s.xsd': '<!DOCTYPE xs:schema [<!ENTITY x "xs:"><!ENTITY t "&x;int">]>'
+        + schema(element('', attributes=' type="&t;"'))}, ['ok <e>7</e>', 'bad <e>x</e>']),
     ('floats, durations, binary', 'text', {'s.xsd': schema(complex_(''.join('<xs:attribute name="%s" type="xs:%s"/>' % (it[0:2], it) for it in (
         'double', 'float', 'base64Binary', 'hexBinary', 'gYear', 'time')) + '<xs:attribute name="du" type="xs:duration"/>'))},
      ['ok <e do="1.5E3" fl="INF" ba=" AA== " he="0aF0" gY="2024" ti="09:00:00Z" du="P1DT2H"/>', 'wider <e do="x"/>']),

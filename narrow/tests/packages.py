@@ -1,0 +1,119 @@
+#!/usr/bin/env python3
+"""The schemas of Debian packages: how many ruvkhiska accepts as they are, and after ruvkhiska-narrow.
+
+    narrow/tests/packages.py [--download] [--only WORD]... FOLDER
+
+FOLDER has a folder for each package, with what `dpkg-deb -x` unpacks of it. --download fetches the packages below into it by
+`apt-get download`, which needs their lists (`apt-get update`) and no rights. Each schema file is tried by itself, with what it
+includes and imports. The table of docs/NARROW.md is written to standard output, and a line for each schema that isn't accepted
+afterwards to standard error. The status is 1 where under 90 % of the schemas are accepted afterwards.
+
+PROGRAM names another program in place of bin/ruvkhiska; --only PACKAGE tries this package alone.
+"""
+from __future__ import annotations
+
+import argparse
+import glob
+import os
+import subprocess
+import sys
+import tempfile
+import time
+from typing import Any
+
+from support import Job, program, rewrite, run
+from narrowing.sources import NoSchema, Sources
+from narrowing.supervising import Failed, bounded
+
+PACKAGES = """docbook5-xml gdal-data libxml-compile-perl opensaml-schemas openscap-common php-codesniffer php-symfony-dependency-injection
+php-symfony-framework-bundle php-symfony-routing php-symfony-security-bundle php-symfony-serializer php-symfony-translation
+php-symfony-twig-bundle php-symfony-validator phpunit python3-xmlschema xcb-proto xmlstarlet xmltooling-schemas xsdcxx""".split()
+# Of openscap-common, whose schemas are there in many versions, the newest: the others differ little.
+NEWEST = {"openscap-common": ("/cpe/2.3/", "/xccdf/1.2/", "/ocil/2.0/", "/sds/1.3/", "/sce/1.0/", "/cvss/2.0/", "/common/", "/arf/1.1/", "/cce/0.1/")}
+
+
+def download(folder: str) -> None:
+    """Fetches and unpacks the packages."""
+    for name in PACKAGES:
+        with tempfile.TemporaryDirectory() as work:
+            subprocess.run(["apt-get", "download", "-qq", name], cwd=work, check=True)
+            subprocess.run(["dpkg-deb", "-x", glob.glob(work + "/*.deb")[0], os.path.join(folder, name)], check=True)
+
+
+def schemas_of(folder: str) -> list[str]:
+    """Returns the schema files of a package."""
+    found = sorted(os.path.join(top, f) for top, _, files in os.walk(folder) for f in files if f.endswith(".xsd"))
+    parts = NEWEST.get(os.path.basename(folder))
+    return [f for f in found if parts is None or any(p in f for p in parts)]
+
+
+def accepted(files: list[str]) -> bool:
+    """Says whether ruvkhiska accepts a set of schema files."""
+    return len(files) <= 64 and run([program(), "show"] + files).returncode == 0
+
+
+def before(path: str) -> bool:
+    """Says whether ruvkhiska accepts a schema file with what it includes and imports."""
+    try:
+        return accepted(list(Sources([path], []).files))
+    except NoSchema:
+        return False
+
+
+def after(path: str) -> tuple[int, bool, str]:
+    """Returns the status of the rewriting, whether ruvkhiska accepts what it writes, and else why not."""
+    try:
+        outcome = bounded(lambda: rewrite(Job([path])))
+    except Failed as fault:
+        return 4, False, str(fault)
+    with tempfile.TemporaryDirectory() as work:
+        files = [os.path.join(work, name) for name in outcome.texts]
+        for file, text in zip(files, outcome.texts.values()):
+            with open(file, "w", encoding="utf-8") as out:
+                out.write(text)
+        if not files:
+            return outcome.status, False, next((it for it in outcome.lines if ": failed: " in it), "")
+        shown = run([program(), "show"] + files)
+        return outcome.status, shown.returncode == 0, shown.stderr.decode().split("\n")[0]
+
+
+def row(cells: list[Any]) -> str:
+    """Returns a row of a table."""
+    return "| %s |" % " | ".join(map(str, cells))
+
+
+def main() -> int:
+    """Tries the packages."""
+    parser = argparse.ArgumentParser(description=__doc__, formatter_class=argparse.RawDescriptionHelpFormatter)
+    parser.add_argument("--download", action="store_true")
+    parser.add_argument("--only", action="append", default=[])
+    parser.add_argument("folder")
+    args = parser.parse_args()
+    if args.download:
+        os.makedirs(args.folder, exist_ok=True)
+        download(args.folder)
+    total = [0] * 5
+    print(row(["Package", "Schemas", "Accepted before", "Afterwards", "Exact", "Nothing valid refused"]))
+    print("|---" * 6 + "|")
+    for package in sorted(os.listdir(args.folder)):
+        files = schemas_of(os.path.join(args.folder, package))
+        if not files or args.only and package not in args.only:
+            continue
+        counts = [len(files), 0, 0, 0, 0]
+        for path in files:
+            start = time.monotonic()
+            counts[1] += before(path)
+            status, good, why = after(path)
+            counts[2] += good
+            counts[3] += good and status == 0
+            counts[4] += good and status <= 1
+            if not good:
+                print("%s: status %d, %.1f s: %s" % (path, status, time.monotonic() - start, why), file=sys.stderr, flush=True)
+        print(row([package] + counts), flush=True)
+        total = [a + b for a, b in zip(total, counts)]
+    print(row(["all"] + total))
+    return 0 if total[2] >= 0.9 * total[0] else 1
+
+
+if __name__ == "__main__":
+    sys.exit(main())
