@@ -402,7 +402,7 @@ class Trial:
 
     def try_document(self, number: int, rewritten: Set, original: Any, narrowed: Any, document: bytes, features: set[str], through: bool) -> None:
         """Tries one document."""
-        due, ours = original.is_valid(ET.fromstring(document)), narrowed.is_valid(ET.fromstring(document))
+        due, ours = original.is_valid(document.decode()), narrowed.is_valid(document.decode())
         rules = set(rewritten.rules())
         self.add("documents")
         self.add("valid documents") if due else None
@@ -429,7 +429,7 @@ class Trial:
             return None
         back = rewritten.ours("to-xml", root, octets.stdout)
         self.add("round trips")
-        if back.returncode or not original.is_valid(ET.fromstring(back.stdout)) or not support.xmllint(rewritten.original, back.stdout):
+        if back.returncode or not original.is_valid(back.stdout.decode()) or not support.xmllint(rewritten.original, back.stdout):
             self.fail(number, document, "comes back as", back.stdout, back.stderr.decode(), rewritten.outcome.lines)
         elif not same(original, document, back.stdout):
             self.fail(number, document, "comes back with other values:", back.stdout)
@@ -438,7 +438,7 @@ class Trial:
 
 def error_of(judge: Any, document: bytes) -> str:
     """Returns why a document isn't valid."""
-    error = next(judge.iter_errors(ET.fromstring(document)), None)
+    error = next(judge.iter_errors(document.decode()), None)
     return "" if error is None else "%s at %s" % (error.reason, error.path)
 
 
