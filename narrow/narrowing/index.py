@@ -8,7 +8,9 @@ from typing import Any, Optional
 from xmlschema.validators import XsdAttribute, XsdComplexType, XsdElement
 
 from .names import XML, XS, XSI, clark, split
-from .sources import Sources
+from .sources import Sources, local_path
+
+RESERVED = ("xs", "xml", "xmlns")  # Prefixes that the files written have for other namespaces.
 
 
 class Index:
@@ -43,7 +45,7 @@ class Index:
     def add_document(self, namespace: str, document: Any) -> None:
         """Lists the components, prefixes and places of a document."""
         for prefix, uri in document.namespaces.items():
-            if prefix and uri not in self.prefixes and prefix not in self.prefixes.values():
+            if prefix and prefix not in RESERVED and uri not in self.prefixes and prefix not in self.prefixes.values():
                 self.prefixes[uri] = prefix
         source = self.sources.source_of(document.url)
         if source is not None:
@@ -138,8 +140,10 @@ class Index:
 
     def file_name(self, namespace: str) -> str:
         """Returns the name of the file in which the components of a namespace are written."""
+        if namespace == XML:
+            return "xml.xsd"
         documents = self.maps.namespaces.get(namespace) or [self.schema]
-        return os.path.basename(local_name(documents[0].url))
+        return os.path.basename(local_path(documents[0].url or "schema.xsd"))
 
     def made_from(self, namespace: str) -> list[str]:
         """Returns the files that declare a namespace, relative to the folder of the first FILE."""
@@ -155,11 +159,6 @@ class Index:
         """Says whether local elements have the namespace by the default of its first document."""
         documents = self.maps.namespaces.get(namespace) or [self.schema]
         return bool(documents[0].element_form_default == "qualified")
-
-
-def local_name(url: Optional[str]) -> str:
-    """Returns the last part of a URL."""
-    return url.rsplit("/", 1)[-1] if url else "schema.xsd"
 
 
 def blocked(head: Any, member: Any) -> bool:

@@ -52,22 +52,22 @@ class Rewriting:
             if x.nillable and x.fixed is not None:
                 self.report.note("nil-fixed")
             if is_builtin(t) and t.is_simple():
-                self.simple.note_builtin(t, x.elem, "element %s: " % x.local_name)
+                self.simple.note_builtin(t, x.elem, subject_of("element", x))
             if t.is_complex() and t.abstract:
                 self.report.note("abstract-type", x.local_name)
             key = (id(t),) + constraint
             if key not in self.specs:
                 self.kept.append(t)
                 self.specs[key] = Spec(x.target_namespace if is_builtin(t) else t.target_namespace, hint)
-                self.define(self.specs[key], t, constraint)
+                self.define(self.specs[key], t, constraint, subject_of("element", x))
         return self.specs[key]
 
-    def define(self, spec: Spec, t: Any, constraint: tuple[str, ...]) -> None:
+    def define(self, spec: Spec, t: Any, constraint: tuple[str, ...], subject: str) -> None:
         """Fills in the type of elements."""
         if t.name and self.maps.types.get(t.name) is t and not constraint and not is_builtin(t):
             spec.name = t.name
         if t.is_simple():
-            node = self.simple.type_ref(t, self.report.node, "element %s: " % spec.hint)
+            node = self.simple.type_ref(t, self.report.node, subject)
             spec.definition = self.simple.with_constraint(t, node, constraint) if constraint else node
         elif not t.abstract and ("type", type_key(t)) not in self.dead:
             if t.name in self.index.derived:
@@ -178,7 +178,7 @@ class Rewriting:
         """Returns what an attribute becomes. One without a value that the profile can keep has no default or fixed value."""
         if split(a.name)[0] == XML and (a.ref or a) not in self.xml_attributes:
             self.xml_attributes.append(a.ref or a)
-        node = None if ref else self.simple.type_ref(a.type, a.elem, "attribute %s: " % a.local_name)
+        node = None if ref else self.simple.type_ref(a.type, a.elem, subject_of("attribute", a))
         default, fixed = a.default, a.fixed
         f = self.simple.facts(a.type)
         is_alien = f.alien and f.kind == "text"
@@ -221,6 +221,11 @@ class Rewriting:
             out.append(Item("simpleType", c.name, self.simple.definition(c)))
         elif not c.abstract and self.complex_type(c, c.local_name) is not None:
             out.append(Item("complexType", c.name, self.complex_type(c, c.local_name)))
+
+
+def subject_of(kind: str, x: Any) -> str:
+    """Returns how a line of the report begins that is of a local element or attribute."""
+    return "" if x.parent is None else "%s %s: " % (kind, x.local_name)
 
 
 def type_key(t: Any) -> Any:

@@ -24,7 +24,8 @@ class Failed(Exception):
 
 def bounded(work: Callable[[], Any]) -> Any:
     """Returns what the work returns, or raises Failed. The work runs in a process of its own."""
-    sys.stdout.flush()
+    if sys.stdout is not None:
+        sys.stdout.flush()
     reader, writer = os.pipe()
     pid = os.fork()
     if pid == 0:

@@ -144,6 +144,8 @@ def written(rewriting: Rewriting) -> dict[str, str]:
     texts = {names[u]: w.text(rewriting.written[u], names) for u, w in all_writers.items()}
     check_names(rewriting)
     remedy = ": name the elements that are sent with --root"
+    if not texts:
+        raise Limit("nothing is left to be written: no component of the set can be said in the profile")
     number = sum(w.components for w in all_writers.values())
     if number > MOST_COMPONENTS:
         raise Limit("the set has %d components, and at most 10,000 are accepted%s" % (number, remedy))

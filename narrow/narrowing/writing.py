@@ -3,6 +3,7 @@ from __future__ import annotations
 
 import re
 from typing import Any, Callable, Optional
+from urllib.parse import quote
 from xml.sax.saxutils import escape, quoteattr
 
 from .index import Index
@@ -44,7 +45,7 @@ class Writer:
         head = ['<xs:schema xmlns:xs="%s"%s%s%s>' % (XS, prefixes, target, form), self.annotation()]
         for u in sorted(self.used - {self.namespace, XS}):
             namespace = " namespace=%s" % quoteattr(u) if u else ""
-            head.append("  <xs:import%s schemaLocation=%s/>" % (namespace, quoteattr(files.get(u, ""))))
+            head.append("  <xs:import%s schemaLocation=%s/>" % (namespace, quoteattr(quote(files.get(u, "")))))
         return HEAD + MARK + "\n".join(head + self.lines + ["</xs:schema>", ""])
 
     def annotation(self) -> str:

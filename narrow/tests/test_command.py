@@ -68,7 +68,7 @@ class Command(unittest.TestCase):
     def test_lines(self) -> None:
         """Tries the lines of the report and the statuses."""
         self.write("s.xsd", schema("\n" + DECIMAL))
-        line = "s.xsd:2: wider: element e: element e: xs:decimal becomes xs:token: any text is accepted [text]"
+        line = "s.xsd:2: wider: element e: xs:decimal becomes xs:token: any text is accepted [text]"
         self.assertEqual(self.narrow("s.xsd"), (1, line + "\n1 file not written, for want of -o DIR: 1 wider\n", ""))
         self.assertEqual(os.listdir("."), ["s.xsd"])
         self.write("q.xsd", schema("\n\n" + element("", attributes=' type="xs:QName"')))
@@ -150,6 +150,16 @@ class Command(unittest.TestCase):
         self.assertEqual(self.narrow("-o", "out", "s.xsd")[0], 0)
         self.assertEqual(run([program(), "show"] + ["out/" + n for n in os.listdir("out")]).returncode, 0)
 
+    def test_prefixes_and_names(self) -> None:
+        """Tries a prefix `xs` for another namespace, and file names that a location has to escape."""
+        self.write("b c.xsd", schema("<xs:simpleType name='B'>%s</xs:simpleType>" % restricted("int"), "urn:b"))
+        text = '<xsd:schema xmlns:xsd="http://www.w3.org/2001/XMLSchema" xmlns:xs="urn:b" xmlns:xml2="urn:a" targetNamespace="urn:a">'
+        text += '<xsd:import namespace="urn:b" schemaLocation="b%20c.xsd"/><xsd:element name="e" type="xs:B"/></xsd:schema>'
+        self.assertEqual(self.narrow("-o", "out", self.write("s.xsd", text))[0], 0)
+        self.assertEqual(sorted(os.listdir("out")), ["b c.xsd", "s.xsd"])
+        self.assertEqual(run([program(), "show", "out/s.xsd", "out/b c.xsd"]).returncode, 0)
+        self.assertEqual(run(["xmllint", "--noout", "--nonet", "--schema", "out/s.xsd", "-"], b'<e xmlns="urn:a">7</e>').returncode, 0)
+
     def test_roots(self) -> None:
         """Tries that roots keep what they need, and the lines about that."""
         body = element("", attributes=' type="T"') + element("", "f", ' type="xs:decimal"')
@@ -228,6 +238,10 @@ class Command(unittest.TestCase):
             rewritten = Set(folder, {"s.xsd": schema(body)})
             self.assertIn("not-valid", rewritten.rules())
             self.assertEqual(rewritten.accepted(), "")
+
+    def test_nothing_left(self) -> None:
+        """Tries a set without components."""
+        self.refused("nothing is left to be written", self.write("s.xsd", schema("")), status=3)
 
     # Words.
 
