@@ -16,7 +16,7 @@ from xml.parsers import expat
 
 from xmlschema import XMLSchema10
 
-from .names import XS
+from .names import XML, XS
 from .report import shortened
 
 MOST_BYTES = 16_777_216  # of one file, and of its characters after entities were expanded
@@ -168,6 +168,7 @@ class Sources:
         given = [f for _, f in locations] + files
         for path, shown in zip(self.start, given):
             self.add(path, shown)
+        self.missing += self.without_location()
 
     def add(self, path: str, shown: str) -> None:
         """Reads a file and what it links to."""
@@ -192,6 +193,12 @@ class Sources:
                 yield link.file, shown_path(link.file)
             elif link.location and link.namespace not in known:
                 self.missing.append((source, link))
+
+    def without_location(self) -> list[tuple[Source, Link]]:
+        """Returns the imports that name no file, of namespaces that no file of the set has."""
+        known = {s.namespace for s in self.files.values()} | {XML}
+        links = [(s, link) for s in self.files.values() for link in s.links]
+        return [(s, it) for s, it in links if it.kind == "import" and not it.location and it.namespace not in known]
 
     def load(self) -> Any:
         """Returns the set as python3-xmlschema has it."""
@@ -228,7 +235,7 @@ class Sources:
         for source, link in self.missing:
             remedy = "--location '%s=FILE'" % (link.namespace or (source.namespace if link.kind != "import" else ""))
             words = "%s:%d: missing: %s of %s: no local file; name it with %s"
-            lines.append(words % (source.shown, link.line, link.kind, shortened(link.location), remedy))
+            lines.append(words % (source.shown, link.line, link.kind, shortened(link.location or link.namespace), remedy))
         return lines
 
 

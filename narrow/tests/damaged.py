@@ -105,7 +105,8 @@ def main() -> int:
         statuses[status] = statuses.get(status, 0) + 1
         said = out.getvalue()
         good = status in range(5) and said and "Traceback" not in said and "internal error" not in said
-        if not good or written != (status < 4) and "at most" not in said or time.monotonic() - start > 60:
+        over_limit = any(": failed: " in line and not line.endswith("]") for line in said.split("\n"))
+        if not good or written != (status < 4 and not over_limit) or time.monotonic() - start > 120:
             wrong += 1
             print("wrong: %d: status %d after %.0f s: %s" % (number, status, time.monotonic() - start, said), flush=True)
     print("%d files, statuses %s; %d wrong" % (count, statuses, wrong))

@@ -128,6 +128,9 @@ class Command(unittest.TestCase):
             self.assertIn("s.xsd:1: missing: import of %s: no local file; name it with --location 'urn:b=FILE'" % place, out)
             self.write("other.xsd", schema("<xs:simpleType name='B'>%s</xs:simpleType>" % restricted("int"), "urn:b"))
             self.assertEqual(self.narrow("--location", "urn:b=other.xsd", "s.xsd")[0], 0)
+        self.write("s.xsd", schema('<xs:import namespace="urn:b"/>' + element("", attributes=' type="b:B"'), "urn:a", 'xmlns:b="urn:b"'))
+        self.refused("s.xsd:1: missing: import of urn:b: no local file; name it with --location 'urn:b=FILE'", "s.xsd")
+        self.assertEqual(self.narrow("--location", "urn:b=other.xsd", "s.xsd")[0], 0)
         self.write("s.xsd", schema(imported % "gone.xsd" + INT, "urn:a"))
         self.assertEqual(self.narrow("s.xsd")[0], 0)
 
