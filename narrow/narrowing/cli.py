@@ -157,7 +157,7 @@ def summary(outcome: Outcome, folder: Optional[str]) -> str:
     counts = ["%d %s" % (outcome.kinds.count(k), k) for k in STATUS if k in outcome.kinds]
     files = "%d file%s" % (len(outcome.texts), "" if len(outcome.texts) == 1 else "s")
     said = ", ".join(counts) or "the same as the original"
-    return "%s %s: %s" % (files, "in " + folder if folder else "not written, for want of -o DIR", said)
+    return "%s %s: %s" % (files, "in " + folder if folder else "not written without -o DIR", said)
 
 
 def main(words: list[str]) -> int:

@@ -69,7 +69,7 @@ class Command(unittest.TestCase):
         """Tries the lines of the report and the statuses."""
         self.write("s.xsd", schema("\n" + DECIMAL))
         line = "s.xsd:2: wider: element e: xs:decimal becomes xs:token: any text is accepted [text]"
-        self.assertEqual(self.narrow("s.xsd"), (1, line + "\n1 file not written, for want of -o DIR: 1 wider\n", ""))
+        self.assertEqual(self.narrow("s.xsd"), (1, line + "\n1 file not written without -o DIR: 1 wider\n", ""))
         self.assertEqual(os.listdir("."), ["s.xsd"])
         self.write("q.xsd", schema("\n\n" + element("", attributes=' type="xs:QName"')))
         status, out, _ = self.narrow("q.xsd")
