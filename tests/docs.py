@@ -8,6 +8,8 @@
   tried with all of up to four (with the option --long six) child elements.
 - The remedies of docs/REASONS.md for schemas: what is refused, and what is taken in its place.
 - What both ends must agree on, and what a round trip keeps.
+- The rules of docs/NARROW.md are those of ruvkhiska-narrow. Its commands need python3-xmlschema and xmllint, and aren't tried without
+  them.
 
 It prints a line for each statement that is wrong, and the counts at the end; its status is 1 where any is.
 
@@ -18,6 +20,7 @@ PROGRAM names another program in place of bin/transcode, PEOPLE one in place of 
 import itertools
 import os
 import re
+import shutil
 import subprocess
 import sys
 import tempfile
@@ -73,7 +76,7 @@ def try_names(docs):
     size = len(text_of("README.md").encode())
     docs.holds(size < 12 * 1024, "README.md has", size, "bytes")
     for page in pages():
-        for path in re.findall(r"(?<![\w/.-])((?:docs|tests|bench|examples|crates)/[\w./*-]*[\w*])", text_of(page)):
+        for path in re.findall(r"(?<![\w/.-])((?:docs|tests|bench|examples|crates|narrow)/[\w./*-]*[\w*])", text_of(page)):
             pattern = re.sub(r"\bNAME\b|\*", "*", path)
             found = subprocess.run(["bash", "-c", f"compgen -G {pattern}"], cwd=HERE, capture_output=True)
             # What rt makes is there only behind it.
@@ -101,17 +104,39 @@ def try_code(docs):
                 docs.holds(name in names, page, "names", name, "which isn't in the code")
 
 
+def narrow_python():
+    """Returns a Python that has the module xmlschema, or None."""
+    for python in (sys.executable, "/usr/bin/python3"):
+        if os.path.exists(python) and subprocess.run([python, "-c", "import xmlschema"], capture_output=True).returncode == 0:
+            return python
+    return None
+
+
+def try_narrow(docs):
+    """Compares the rules of docs/NARROW.md, from A to Z, with those of ruvkhiska-narrow."""
+    rules = dict(re.findall(r'(?m)^    "([a-z-]+)": \("(\w+)", "', text_of("narrow/narrowing/report.py")))
+    section = text_of("docs/NARROW.md").split("\n## Rules\n")[1].split("\n## ")[0]
+    said = re.findall(r"(?m)^\| ([a-z-]+) \| (\w+) \|", section)
+    docs.holds(dict(said) == rules, "docs/NARROW.md has other rules than ruvkhiska-narrow:", set(said) ^ set(rules.items()))
+    docs.holds(said == sorted(said), "the rules of docs/NARROW.md aren't in the order of names")
+
+
 def try_commands(docs):
+    python = narrow_python()
     for page in pages():
+        if page == "docs/NARROW.md" and not (python and shutil.which("xmllint")):
+            print("not tried: the commands of docs/NARROW.md, which need python3-xmlschema and xmllint")
+            continue
         for block in re.findall(r"(?m)(?:^    .*\n?)+", text_of(page)):
             lines = [it[4:] for it in block.rstrip("\n").split("\n")]
-            if not any(it.startswith("$ ") and re.search("bin/(ruvkhiska|transcode)", it) for it in lines):
+            if not any(it.startswith("$ ") and re.search("bin/(ruvkhiska|transcode)|narrow/ruvkhiska-narrow", it) for it in lines):
                 continue
             said = []
             for line in [*lines, "$ "]:
                 if line.startswith("$ "):
                     if said:
                         command = said[0].replace("bin/ruvkhiska", PEOPLE).replace("bin/transcode", PROGRAM)
+                        command = command.replace("narrow/ruvkhiska-narrow", f"{python} narrow/ruvkhiska-narrow")
                         ran = subprocess.run(["bash", "-c", command], cwd=HERE, stdout=subprocess.PIPE, stderr=subprocess.STDOUT)
                         told = ran.stdout.decode().rstrip("\n").split("\n")
                         docs.holds(told == (said[1:] or [""]), page, said[0], "answers", told)
@@ -301,6 +326,7 @@ def main():
         try_reasons(docs.holds)
         try_remedies(docs)
         try_agreement(docs)
+        try_narrow(docs)
         try_commands(docs)
         try_recipes(docs, 6 if "--long" in sys.argv else 4)
     print(f"{docs.tried} tried, {docs.wrong} wrong")
