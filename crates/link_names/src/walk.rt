@@ -35,6 +35,25 @@ fn push_part<'a>(
     Ok(())
 }
 
+fn push_reference<'a>(
+    file: u32,
+    within: u64,
+    at: u64,
+    role: TypeRole,
+    name: &'a RawRef,
+    out: &mut Vec<Part<'a>>,
+) -> Result<(), Memory>
+    ensures { OnOk result (parts_of out.new.items ≡ parts_of out.old.items ++ told.part file (Some within) at (told.TypeReference role name.now) ∷ []) }
+{
+    push_part(
+        file,
+        Some(within),
+        at,
+        What::TypeReference { role, name },
+        out,
+    )
+}
+
 #[cycle(bases)]
 fn push_base<'a>(
     file: u32,
@@ -46,10 +65,7 @@ fn push_base<'a>(
     ensures { OnOk result (parts_of out.new.items ≡ parts_of out.old.items ++ told.in_base file at role (base_of base.now)) }
 {
     match base {
-        RawBase::Named(name) => {
-            let what = What::TypeReference { role, name };
-            push_part(file, Some(at), at, what, out)
-        }
+        RawBase::Named(name) => push_reference(file, at, at, role, name, out),
         RawBase::Inner(body) => push_simple(file, Some(at), None, body, out),
     }
 }
@@ -159,11 +175,7 @@ fn push_content<'a>(
     match content {
         RawContent::Empty => Ok(()),
         RawContent::Simple { base, at } => {
-            let what = What::TypeReference {
-                role: TypeRole::Content,
-                name: base,
-            };
-            push_part(file, Some(within), *at, what, out)
+            push_reference(file, within, *at, TypeRole::Content, base, out)
         }
         RawContent::ElementOnly(model) => push_model(file, within, model.root(), out),
         RawContent::Mixed(model) => push_mixed(file, within, model.root(), out),
@@ -229,13 +241,7 @@ fn push_kind<'a>(
     ensures { OnOk result (parts_of out.new.items ≡ parts_of out.old.items ++ told.in_kind file at (kind_of kind.now)) }
 {
     match kind {
-        RawKind::Named(name) => {
-            let what = What::TypeReference {
-                role: TypeRole::Element,
-                name,
-            };
-            push_part(file, Some(at), at, what, out)
-        }
+        RawKind::Named(name) => push_reference(file, at, at, TypeRole::Element, name, out),
         RawKind::Simple(body) => push_simple(file, Some(at), None, body, out),
         RawKind::Complex(body) => push_complex(file, Some(at), None, body, out),
     }
