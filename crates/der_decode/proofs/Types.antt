@@ -30,7 +30,7 @@ kids-no_target f h = absurd h
 
 -- the test for a form without kids
 pub leaf-no_kids : (f : Form) (b : Bool) → b ≡ is_leaf f → b ≡ true → HasNoKids f
-leaf-no_kids f b is yes = by f (sym is ∙ yes)
+leaf-no_kids f b is holds = by f (sym is ∙ holds)
   where
     by : (f : Form) → is_leaf f ≡ true → HasNoKids f
     by form.Bool e = tt
@@ -45,7 +45,7 @@ leaf-no_kids f b is yes = by f (sym is ∙ yes)
     by (form.Ref to) e = absurd (true≢false (sym e))
 
 pub kids-no_leaf : (f : Form) (b : Bool) → b ≡ is_leaf f → b ≡ false → HasNoKids f → ⊥
-kids-no_leaf f b is no leaf = by f (sym is ∙ no) leaf
+kids-no_leaf f b is fails leaf = by f (sym is ∙ fails) leaf
   where
     by : (f : Form) → is_leaf f ≡ false → HasNoKids f → ⊥
     by form.Bool e h = true≢false e
