@@ -9,7 +9,7 @@ use Rattle.std_heap.proofs.Global.TheLaws as heap
 use Rattle.transcode_core.specs.contracts.prepared.Prepared as Held
 use Rattle.transcode_core.proofs.prepared.Prepared.TheLaws as held
 use Rattle.ruvkhiska_c.specs.contracts.parts.Parts as Parts
-use Rattle.ruvkhiska_c.specs.contracts.kept.PreparedBox as PreparedBox
+use Rattle.ruvkhiska_c.specs.contracts.kept.Kept as Kept
 
 abbrev pub E : Bx
 E = record { row = Held.the_row; laws = held.the_row_laws; al = record { row = Heap.the_row; laws = heap.the_row_laws; g = ghosts; d = dict; drops = impl [] tnil dnil } }
@@ -18,4 +18,4 @@ abbrev pub FromParts : Slot 0
 FromParts = plain (λ _. Parts.the_row Held.the_row Heap.the_row ghosts)
 
 abbrev pub FromKept : Slot 0
-FromKept = plain (λ _. PreparedBox.the_row)
+FromKept = plain (λ _. Kept.the_row)

@@ -1,4 +1,4 @@
--- What a `PreparedBox` owns: what a `Box<Prepared>` does, or nothing.
+-- What a `Kept` owns: what a `Box<Prepared>` does, or nothing.
 use base.Fml.{Fml, ftrue}
 use base.Stored.{Coded}
 use denote.RawPtr.{Ptr}

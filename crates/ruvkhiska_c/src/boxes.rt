@@ -51,10 +51,12 @@ pub(crate) fn prepare_boxed(
     let Some(root) = root_of(space, local) else {
         return Err(Outcome::Usage);
     };
-    let prepared = files.prepare(alloc, root)?;
-    match Box::new(alloc, prepared) {
-        Ok(b) => Ok(b),
-        Err(_) => Err(Outcome::OutOfMemory),
+    match files.prepare(alloc, root) {
+        Ok(prepared) => match Box::new(alloc, prepared) {
+            Ok(b) => Ok(b),
+            Err(_) => Err(Outcome::OutOfMemory),
+        },
+        Err(outcome) => Err(outcome),
     }
 }
 
@@ -70,10 +72,12 @@ pub(crate) fn encode_boxed(
     let Some(syntax) = syntax_of(syntax) else {
         return Err(Outcome::Usage);
     };
-    let message = encode(alloc, prepared, syntax, document)?;
-    match Box::new(alloc, message) {
-        Ok(b) => Ok(b),
-        Err(_) => Err(Outcome::OutOfMemory),
+    match encode(alloc, prepared, syntax, document) {
+        Ok(message) => match Box::new(alloc, message) {
+            Ok(b) => Ok(b),
+            Err(_) => Err(Outcome::OutOfMemory),
+        },
+        Err(outcome) => Err(outcome),
     }
 }
 
@@ -90,9 +94,11 @@ pub(crate) fn decode_boxed(
     let Some(syntax) = syntax_of(syntax) else {
         return Err(Outcome::Usage);
     };
-    let message = decode(alloc, prepared, syntax, octets)?;
-    match Box::new(alloc, message) {
-        Ok(b) => Ok(b),
-        Err(_) => Err(Outcome::OutOfMemory),
+    match decode(alloc, prepared, syntax, octets) {
+        Ok(message) => match Box::new(alloc, message) {
+            Ok(b) => Ok(b),
+            Err(_) => Err(Outcome::OutOfMemory),
+        },
+        Err(outcome) => Err(outcome),
     }
 }

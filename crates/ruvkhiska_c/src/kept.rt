@@ -12,28 +12,28 @@ use transcode_messages::Prepared;
 /// In C one pointer.
 #[repr(C)]
 #[derive(Drop)]
-pub struct PreparedBox {
+pub struct Kept {
     ptr: *mut u8,
     alloc: Global,
     pub ghost value: { Option Held } by { kept_coded },
 }
 
-impl Model for PreparedBox {
+impl Model for Kept {
     ghost also_owns = { λ k. kept_owns k.alloc k.ptr k.value };
 }
 
-impl PreparedBox {
-    pub(crate) fn none(alloc: Global) -> PreparedBox
+impl Kept {
+    pub(crate) fn none(alloc: Global) -> Kept
         ensures { result.value ≡ None }
     {
         let at = null_mut();
-        PreparedBox::nothing(at, alloc)
+        Kept::nothing(at, alloc)
     }
 
-    pub(crate) fn of(b: Box<Prepared>) -> PreparedBox
+    pub(crate) fn of(b: Box<Prepared>) -> Kept
         ensures { result.value ≡ Some b.value }
     {
-        PreparedBox::of_parts(Parts::of(b))
+        Kept::of_parts(Parts::of(b))
     }
 
     pub(crate) fn into_box(self) -> Box<Prepared>
@@ -43,17 +43,17 @@ impl PreparedBox {
         self.into_parts().into_box()
     }
 
-    fn nothing(ptr: *mut u8, alloc: Global) -> PreparedBox
+    fn nothing(ptr: *mut u8, alloc: Global) -> Kept
         ensures { result.value ≡ None }
     {
-        PreparedBox { ptr, alloc }
+        Kept { ptr, alloc }
     }
 
-    fn of_parts(parts: Parts<Prepared, Global>) -> PreparedBox
+    fn of_parts(parts: Parts<Prepared, Global>) -> Kept
         ensures { result.value ≡ Some parts.value }
     {
         let Parts { ptr, alloc } = parts;
-        PreparedBox {
+        Kept {
             ptr: ptr.cast::<u8>(),
             alloc,
         }
@@ -63,7 +63,7 @@ impl PreparedBox {
         requires { IsSome self.value }
         ensures { self.value ≡ Some result.value }
     {
-        let PreparedBox { ptr, alloc } = self;
+        let Kept { ptr, alloc } = self;
         Parts {
             ptr: ptr.cast::<Prepared>(),
             alloc,

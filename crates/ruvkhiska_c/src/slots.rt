@@ -2,7 +2,7 @@
 ghost use Rattle.std.specs.Prelude.{◌≡◌, ◌↔◌, IsTrue, IsSome, None, Some, length};
 
 use crate::given::Given;
-use crate::kept::PreparedBox;
+use crate::kept::Kept;
 use crate::listed::Listed;
 use std::alloc::Global;
 use std::ptr::null;
@@ -13,7 +13,7 @@ use transcode_messages::{Message, Prepared, SchemaFiles};
 #[derive(Drop)]
 pub struct Converter {
     pub(crate) is_open: bool,
-    pub(crate) kept: PreparedBox,
+    pub(crate) kept: Kept,
     ghost tied: { IsTrue is_open ↔ IsSome kept.value },
 }
 
@@ -42,7 +42,7 @@ pub(crate) fn closed(alloc: Global) -> Converter
 {
     Converter {
         is_open: false,
-        kept: PreparedBox::none(alloc),
+        kept: Kept::none(alloc),
     }
 }
 
@@ -51,7 +51,7 @@ pub(crate) fn open(b: Box<Prepared>) -> Converter
 {
     Converter {
         is_open: true,
-        kept: PreparedBox::of(b),
+        kept: Kept::of(b),
     }
 }
 

@@ -38,10 +38,12 @@ fn write_record<K: Sink>(
         × ((text : List ℕ) × Written (type_seen typed.now) value.now (Ok text) × AppendsFront (K.written output.old) (K.written output.new) text))) }
     ensures later { K.faults output.old ≤ K.faults output.new }
 {
-    let text = write_value(alloc, typed, value)?;
-    match write_all(output, &text) {
-        Ok(()) => Ok(()),
-        Err(Failed) => Err(Outcome::WriteFault),
+    match write_value(alloc, typed, value) {
+        Ok(text) => match write_all(output, &text) {
+            Ok(()) => Ok(()),
+            Err(Failed) => Err(Outcome::WriteFault),
+        },
+        Err(outcome) => Err(outcome),
     }
 }
 

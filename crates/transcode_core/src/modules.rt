@@ -39,8 +39,10 @@ fn tell_of(alloc: Global, bytes: &[u8]) -> Result<Vec<u8>, Outcome>
     requires { length bytes.now ≤ 16777216 }
     ensures { Answers (λ text. text.items) (Then (ModuleIn bytes.now) (λ M. Give (back.summary M))) NoMemory result }
 {
-    let found = module_in(alloc, bytes)?;
-    tell(alloc, &found)
+    match module_in(alloc, bytes) {
+        Ok(found) => tell(alloc, &found),
+        Err(outcome) => Err(outcome),
+    }
 }
 
 /// What `show-back` answers for this file.
@@ -50,6 +52,8 @@ pub fn show_back<F: Library>(alloc: Global, files: &mut F, name: &Text) -> Resul
     ensures files { (F.entries files.new ≡ F.entries files.old) × (F.is_sure files.new ≡ F.is_sure files.old) }
     ensures later { F.faults files.old ≤ F.faults files.new }
 {
-    let bytes = load_file(alloc, files, 1, name)?;
-    tell_of(alloc, &bytes)
+    match load_file(alloc, files, 1, name) {
+        Ok(bytes) => tell_of(alloc, &bytes),
+        Err(outcome) => Err(outcome),
+    }
 }

@@ -63,8 +63,10 @@ impl Prepared {
     pub fn of(alloc: Global, opened: Opened) -> Result<Prepared, Outcome>
         ensures { Answers prepared_seen (Give (opened_seen opened)) NoMemory result }
     {
-        let typed = map_root(alloc, &opened)?;
-        Ok(Prepared { opened, typed })
+        match map_root(alloc, &opened) {
+            Ok(typed) => Ok(Prepared { opened, typed }),
+            Err(outcome) => Err(outcome),
+        }
     }
 
     /// The set that these files are, with the root in it, and its map: or the first fault.
@@ -80,8 +82,10 @@ impl Prepared {
         ensures files { (F.entries files.new ≡ F.entries files.old) × (F.is_sure files.new ≡ F.is_sure files.old) }
         ensures later { F.faults files.old ≤ F.faults files.new }
     {
-        let opened = open_files(alloc, files, root, names)?;
-        Prepared::of(alloc, opened)
+        match open_files(alloc, files, root, names) {
+            Ok(opened) => Prepared::of(alloc, opened),
+            Err(outcome) => Err(outcome),
+        }
     }
 
     // Whether the document is valid for the root: it has no bytes to write.
@@ -112,8 +116,10 @@ impl Prepared {
         ensures few { StepsUpTo (λ items. ItemsIn (Some document.now) (Ok items)) steps.old steps.new }
         ensures many { OnOk result (StepsFrom (λ items. ItemsIn (Some document.now) (Ok items)) steps.old steps.new) }
     {
-        let items = lent_items(alloc, document)?;
-        self.judge(alloc, &items, steps)
+        match lent_items(alloc, document) {
+            Ok(items) => self.judge(alloc, &items, steps),
+            Err(outcome) => Err(outcome),
+        }
     }
 
     /// Whether the document in the input is valid.
@@ -130,8 +136,10 @@ impl Prepared {
         ensures few { StepsUpTo (λ items. ItemsIn (S.left input.old) (Ok items)) steps.old steps.new }
         ensures many { OnOk result (StepsFrom (λ items. ItemsIn (S.left input.old) (Ok items)) steps.old steps.new) }
     {
-        let items = read_items(alloc, input)?;
-        self.judge(alloc, &items, steps)
+        match read_items(alloc, input) {
+            Ok(items) => self.judge(alloc, &items, steps),
+            Err(outcome) => Err(outcome),
+        }
     }
 
     /// The encoding, in a transfer syntax, of the value of the document that these bytes are.
@@ -147,8 +155,10 @@ impl Prepared {
         ensures few { StepsUpTo (λ items. ItemsIn (Some document.now) (Ok items)) steps.old steps.new }
         ensures many { OnOk result (StepsFrom (λ items. ItemsIn (Some document.now) (Ok items)) steps.old steps.new) }
     {
-        let items = lent_items(alloc, document)?;
-        encode_items(alloc, syntax, &self.opened, &self.typed, &items, steps)
+        match lent_items(alloc, document) {
+            Ok(items) => encode_items(alloc, syntax, &self.opened, &self.typed, &items, steps),
+            Err(outcome) => Err(outcome),
+        }
     }
 
     /// The encoding of the value of the document in the input.
@@ -166,8 +176,10 @@ impl Prepared {
         ensures few { StepsUpTo (λ items. ItemsIn (S.left input.old) (Ok items)) steps.old steps.new }
         ensures many { OnOk result (StepsFrom (λ items. ItemsIn (S.left input.old) (Ok items)) steps.old steps.new) }
     {
-        let items = read_items(alloc, input)?;
-        encode_items(alloc, syntax, &self.opened, &self.typed, &items, steps)
+        match read_items(alloc, input) {
+            Ok(items) => encode_items(alloc, syntax, &self.opened, &self.typed, &items, steps),
+            Err(outcome) => Err(outcome),
+        }
     }
 
     /// The document of the value of which the input is the encoding.

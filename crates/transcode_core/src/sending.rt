@@ -115,6 +115,8 @@ pub fn encode_items<L: Ledger>(
     ensures later { steps.old ≤ steps.new }
     ensures least { OnOk result (steps.old + element_count items.now ≤ steps.new + 1) }
 {
-    let value = value_of(alloc, opened, items, steps)?;
-    encode_value(alloc, syntax, typed, &value)
+    match value_of(alloc, opened, items, steps) {
+        Ok(value) => encode_value(alloc, syntax, typed, &value),
+        Err(outcome) => Err(outcome),
+    }
 }

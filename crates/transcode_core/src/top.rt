@@ -62,8 +62,10 @@ fn show<F: Library>(alloc: Global, files: &mut F, names: &[Text]) -> Result<Vec<
     ensures files { (F.entries files.new ≡ F.entries files.old) × (F.is_sure files.new ≡ F.is_sure files.old) }
     ensures later { F.faults files.old ≤ F.faults files.new }
 {
-    let set = read_set(alloc, files, names)?;
-    print(alloc, &set)
+    match read_set(alloc, files, names) {
+        Ok(set) => print(alloc, &set),
+        Err(outcome) => Err(outcome),
+    }
 }
 
 // Serves a task that needs the map of the set.
@@ -83,8 +85,10 @@ fn serve_prepared<S: Source, L: Ledger>(
     ensures few { StepsUpTo (LooksAt (reads task) (S.left input.old)) steps.old steps.new }
     ensures many { is_document (reads task) ≡ true → OnOk result (StepsFrom (LooksAt (reads task) (S.left input.old)) steps.old steps.new) }
 {
-    let prepared = Prepared::of(alloc, opened)?;
-    prepared.serve(alloc, task, input, steps)
+    match Prepared::of(alloc, opened) {
+        Ok(prepared) => prepared.serve(alloc, task, input, steps),
+        Err(outcome) => Err(outcome),
+    }
 }
 
 // What the task makes of this set and the input.
@@ -132,8 +136,10 @@ fn serve<F: Library, S: Source, L: Ledger>(
     ensures few { StepsUpTo (LooksAt (reads task) (S.left input.old)) steps.old steps.new }
     ensures many { is_document (reads task) ≡ true → OnOk result (StepsFrom (LooksAt (reads task) (S.left input.old)) steps.old steps.new) }
 {
-    let opened = open_files(alloc, files, root, names)?;
-    serve_input(alloc, task, opened, input, steps)
+    match open_files(alloc, files, root, names) {
+        Ok(opened) => serve_input(alloc, task, opened, input, steps),
+        Err(outcome) => Err(outcome),
+    }
 }
 
 // What `to-per` makes of a document over the schema of the trial.
@@ -190,8 +196,10 @@ fn try_out<L: Ledger>(alloc: Global, lines: u32, steps: &mut Steps<L>) -> Result
         return Err(Outcome::OutOfMemory);
     };
     let length = length_of(&document);
-    let octets = encode_trial(alloc, document, steps)?;
-    tell(alloc, lines, length, &octets)
+    match encode_trial(alloc, document, steps) {
+        Ok(octets) => tell(alloc, lines, length, &octets),
+        Err(outcome) => Err(outcome),
+    }
 }
 
 // What the command answers.
@@ -245,8 +253,10 @@ fn decide<F: Library, S: Source, L: Ledger>(
     ensures few { StepsUpTo (ReadsOfWords words.now (S.left input.old)) steps.old steps.new }
     ensures many { ReadsDocument words.now → OnOk result (StepsFrom (ReadsOfWords words.now (S.left input.old)) steps.old steps.new) }
 {
-    let request = read_words(words)?;
-    answer(alloc, request, files, input, steps)
+    match read_words(words) {
+        Ok(request) => answer(alloc, request, files, input, steps),
+        Err(outcome) => Err(outcome),
+    }
 }
 
 // Tells complaints of the outcome, which stands whatever becomes of its line.

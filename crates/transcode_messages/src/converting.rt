@@ -56,8 +56,10 @@ fn encode_counted<L: Ledger>(
 pub fn check(alloc: Global, prepared: &Prepared, document: &[u8]) -> Result<(), Outcome>
     ensures { Answers (λ _. []) (Checked (prepared_seen prepared.now) (Some document.now)) NoMemory result }
 {
-    check_counted::<Brand>(alloc, prepared, document, Blank::new(1))?;
-    Ok(())
+    match check_counted::<Brand>(alloc, prepared, document, Blank::new(1)) {
+        Ok(_) => Ok(()),
+        Err(outcome) => Err(outcome),
+    }
 }
 
 /// The encoding, in the transfer syntax, of the one value whose items are those of the document, if it is valid.
@@ -69,8 +71,10 @@ pub fn encode(
 ) -> Result<Message, Outcome>
     ensures { Answers (λ message. message.bytes.items) (Encoded syntax (prepared_seen prepared.now) (Some document.now)) NoMemory result }
 {
-    let bytes = encode_counted::<Brand>(alloc, prepared, syntax, document, Blank::new(1))?;
-    Ok(Message { bytes })
+    match encode_counted::<Brand>(alloc, prepared, syntax, document, Blank::new(1)) {
+        Ok(bytes) => Ok(Message { bytes }),
+        Err(outcome) => Err(outcome),
+    }
 }
 
 /// The document of the one value of which the octets are the whole encoding, which is read back as this value's items.
@@ -84,6 +88,8 @@ pub fn decode(
     ensures back { IfOk result (λ message. DocumentedBack syntax (prepared_seen prepared.now) (Some octets.now) message.bytes.items) }
 {
     let mut input = Lent::new(octets);
-    let bytes = prepared.decode(alloc, syntax, &mut input)?;
-    Ok(Message { bytes })
+    match prepared.decode(alloc, syntax, &mut input) {
+        Ok(bytes) => Ok(Message { bytes }),
+        Err(outcome) => Err(outcome),
+    }
 }

@@ -1,5 +1,4 @@
 use Rattle.std.proofs.Common.{inl}
-use Rattle.std.proofs.lemmas.Result.{err_from_is_err_and}
 use Rattle.base_trees.specs.Rose.{Rose}
 use Rattle.xml_items.specs.declared.label.ItemLabel.{ItemLabel}
 use Rattle.transcode_words.specs.declared.outcome.Outcome.TheVariants.{DocSyntax}
@@ -9,14 +8,13 @@ use Rattle.transcode_core.specs.Causes.{OneRead}
 use Rattle.transcode_words.proofs.Joined.{passed, refused}
 use Rattle.transcode_core.proofs.documents.read_items.Goals as goal
 
-pub returns-clause-due : goal.returns-clause-due
-returns-clause-due g c =
+pub returns-in-Ok-clause-due : goal.returns-in-Ok-clause-due
+returns-in-Ok-clause-due g c =
     passed (Input (g.S.Source.left c.args.input.now)) (λ bytes. Read (λ at why. DocSyntax at why) bytes) NoMemory
-    (OneRead (g.S.Source.faults c.args.input.now) (g.S.Source.faults c.read_input.new.input)) (λ (items : Rose ItemLabel). items) c.in_ok-bytes.bytes.items c.read_shared_items.result
-    c.in_ok-bytes.ensures.due c.read_shared_items.ensures.due (λ o h. inl h)
+    (OneRead (g.S.Source.faults c.args.input.now) (g.S.Source.faults c.read_input.new.input)) (λ (items : Rose ItemLabel). items) c.in-Ok.bytes.items c.read_shared_items.result
+    c.in-Ok.ensures.due c.read_shared_items.ensures.due (λ o h. inl h)
 
-pub returns-in_err-bytes-clause-due : goal.returns-in_err-bytes-clause-due
-returns-in_err-bytes-clause-due g c =
+pub returns-in-Err-clause-due : goal.returns-in-Err-clause-due
+returns-in-Err-clause-due g c =
     let cause = OneRead (g.S.Source.faults c.args.input.now) (g.S.Source.faults c.read_input.new.input) in
-    let p = err_from_is_err_and c.from_residual.result c.from_residual.ensures.1 in
-    rw (p.1, p.2) (refused (Input (g.S.Source.left c.args.input.now)) (λ bytes. Read (λ at why. DocSyntax at why) bytes) cause cause (λ (items : Rose ItemLabel). items) c.in_err-bytes.field-0.0 c.in_err-bytes.ensures.due (λ h. h))
+    refused (Input (g.S.Source.left c.args.input.now)) (λ bytes. Read (λ at why. DocSyntax at why) bytes) cause cause (λ (items : Rose ItemLabel). items) c.in-Err.outcome c.in-Err.ensures.due (λ h. h)

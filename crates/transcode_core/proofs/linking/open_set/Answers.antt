@@ -1,5 +1,4 @@
 use Rattle.std.proofs.Common.{ℕ}
-use Rattle.std.proofs.lemmas.Result.{err_from_is_err_and}
 use Rattle.schema_components.specs.SetParts.{parts_of}
 use Rattle.transcode_words.specs.Order.{Give}
 use Rattle.transcode_words.specs.Seen.{root_seen}
@@ -10,11 +9,10 @@ use Rattle.transcode_words.proofs.Joined.{refused}
 use Rattle.transcode_core.proofs.Roots.{number-within}
 use Rattle.transcode_core.proofs.linking.open_set.Goals as goal
 
-pub returns-in_err-root : goal.returns-in_err-root
-returns-in_err-root c =
+pub returns-in-Err : goal.returns-in-Err
+returns-in-Err c =
     let parts = parts_of c.args.set in
-    let p = err_from_is_err_and c.from_residual.result c.from_residual.ensures.1 in
-    rw (p.1, p.2) (refused (Rooted (root_seen c.args.root) parts) (λ (n : ℕ). Give (parts, n)) NoMemory NoMemory opened_seen c.in_err-root.field-0.0 c.in_err-root.ensures (λ h. h))
+    refused (Rooted (root_seen c.args.root) parts) (λ (n : ℕ). Give (parts, n)) NoMemory NoMemory opened_seen c.in-Err.outcome c.in-Err.ensures (λ h. h)
 
 pub invariant_of-result : goal.invariant_of-result
-invariant_of-result c = record { global = number-within (root_seen c.args.root) c.args.set.globals c.args.set.elements c.in_ok-root.root c.in_ok-root.ensures }
+invariant_of-result c = record { global = number-within (root_seen c.args.root) c.args.set.globals c.args.set.elements c.in-Ok.root c.in-Ok.ensures }

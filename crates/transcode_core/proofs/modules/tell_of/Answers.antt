@@ -1,5 +1,4 @@
 use Rattle.std.proofs.Common.{ℕ}
-use Rattle.std.proofs.lemmas.Result.{err_from_is_err_and}
 use Rattle.std.specs.Prelude.{Vec}
 use Rattle.std.specs.declared.alloc.Global.{Global}
 use Rattle.module_read.specs.Summary as back
@@ -9,13 +8,12 @@ use Rattle.transcode_words.proofs.Joined.{passed, refused}
 use Rattle.transcode_core.specs.Steps.{ModuleIn}
 use Rattle.transcode_core.proofs.modules.tell_of.Goals as goal
 
-pub returns : goal.returns
-returns c =
+pub returns-in-Ok : goal.returns-in-Ok
+returns-in-Ok c =
     passed (ModuleIn c.args.bytes.now) (λ M. Give (back.summary M)) NoMemory NoMemory (λ (text : Vec ℕ Global). text.items)
-    c.in_ok-found.found c.tell.result c.in_ok-found.ensures c.tell.ensures (λ o h. h)
+    c.in-Ok.found c.tell.result c.in-Ok.ensures c.tell.ensures (λ o h. h)
 
-pub returns-in_err-found : goal.returns-in_err-found
-returns-in_err-found c =
-    let p = err_from_is_err_and c.from_residual.result c.from_residual.ensures.1 in
-    rw (p.1, p.2) (refused (ModuleIn c.args.bytes.now) (λ M. Give (back.summary M)) NoMemory NoMemory (λ (text : Vec ℕ Global). text.items)
-    c.in_err-found.field-0.0 c.in_err-found.ensures (λ h. h))
+pub returns-in-Err : goal.returns-in-Err
+returns-in-Err c =
+    refused (ModuleIn c.args.bytes.now) (λ M. Give (back.summary M)) NoMemory NoMemory (λ (text : Vec ℕ Global). text.items)
+    c.in-Err.outcome c.in-Err.ensures (λ h. h)

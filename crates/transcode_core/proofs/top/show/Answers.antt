@@ -1,5 +1,4 @@
 use Rattle.std.proofs.Common.{ℕ, inl}
-use Rattle.std.proofs.lemmas.Result.{err_from_is_err_and}
 use Rattle.std.specs.Prelude.{Vec}
 use Rattle.std.specs.declared.alloc.Global.{Global}
 use Rattle.schema_components.specs.SetParts.{parts_of}
@@ -10,17 +9,16 @@ use Rattle.transcode_core.specs.Causes.{SomeLoad}
 use Rattle.transcode_words.proofs.Joined.{passed, refused}
 use Rattle.transcode_core.proofs.top.show.Goals as goal
 
-pub returns-clause-due : goal.returns-clause-due
-returns-clause-due g c =
+pub returns-in-Ok-clause-due : goal.returns-in-Ok-clause-due
+returns-in-Ok-clause-due g c =
     let entries = g.F.Library.entries c.args.files.now in
     passed (SetIn entries c.args.names.now) (λ parts. Printed parts) NoMemory
     (SomeLoad (g.F.Library.faults c.args.files.now) (g.F.Library.faults c.read_set.new.files) (g.F.Library.is_sure c.args.files.now) entries c.args.names.now)
-    (λ (bytes : Vec ℕ Global). bytes.items) (parts_of c.in_ok-set.set) c.print.result c.in_ok-set.ensures.due c.print.ensures (λ o h. inl h)
+    (λ (bytes : Vec ℕ Global). bytes.items) (parts_of c.in-Ok.set) c.print.result c.in-Ok.ensures.due c.print.ensures (λ o h. inl h)
 
-pub returns-in_err-set-clause-due : goal.returns-in_err-set-clause-due
-returns-in_err-set-clause-due g c =
+pub returns-in-Err-clause-due : goal.returns-in-Err-clause-due
+returns-in-Err-clause-due g c =
     let entries = g.F.Library.entries c.args.files.now in
     let cause = SomeLoad (g.F.Library.faults c.args.files.now) (g.F.Library.faults c.read_set.new.files) (g.F.Library.is_sure c.args.files.now) entries c.args.names.now in
-    let p = err_from_is_err_and c.from_residual.result c.from_residual.ensures.1 in
-    rw (p.1, p.2) (refused (SetIn entries c.args.names.now) (λ parts. Printed parts) cause cause
-    (λ (bytes : Vec ℕ Global). bytes.items) c.in_err-set.field-0.0 c.in_err-set.ensures.due (λ h. h))
+    refused (SetIn entries c.args.names.now) (λ parts. Printed parts) cause cause
+    (λ (bytes : Vec ℕ Global). bytes.items) c.in-Err.outcome c.in-Err.ensures.due (λ h. h)

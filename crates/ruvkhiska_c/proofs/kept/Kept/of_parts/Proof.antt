@@ -26,10 +26,10 @@ use Rattle.std.specs.declared.option.Option.TheVariants.{Some}
 use Rattle.std_alloc.proofs.BoxSteps.Form.{D, B, word, box_typed}
 use Rattle.std_alloc.proofs.BoxSteps.Steps.{box_out, box_in}
 use Rattle.ruvkhiska_c.proofs.KeptBox.{E, FromParts as From}
-use Rattle.ruvkhiska_c.specs.contracts.kept.PreparedBox.of_parts as F
-use Rattle.ruvkhiska_c.specs.contracts.kept.PreparedBox.of_parts.Key.{name as #self}
-use Rattle.ruvkhiska_c.proofs.kept.PreparedBox.of_parts.Statement as stated
-use Rattle.ruvkhiska_c.proofs.kept.PreparedBox.of_parts.Code as code
+use Rattle.ruvkhiska_c.specs.contracts.kept.Kept.of_parts as F
+use Rattle.ruvkhiska_c.specs.contracts.kept.Kept.of_parts.Key.{name as #self}
+use Rattle.ruvkhiska_c.proofs.kept.Kept.of_parts.Statement as stated
+use Rattle.ruvkhiska_c.proofs.kept.Kept.of_parts.Code as code
 
 abbrev stayed : Stays (F.ended).signature.params (F.ended).kept
 stayed = (stay_dropped From yes, tt)

@@ -24,7 +24,7 @@ use denote.Triple.Table.{entered}
 use denote.Triple.Walked.{says, Stays, stay_dropped, walk_of, ends_at, Goes-dropped, walk_Meets}
 use Rattle.std_alloc.proofs.BoxSteps.Form.{box_ty, box_typed}
 use Rattle.ruvkhiska_c.proofs.KeptBox.{E}
-use Rattle.ruvkhiska_c.specs.contracts.kept.PreparedBox as PreparedBox
+use Rattle.ruvkhiska_c.specs.contracts.kept.Kept as Kept
 use Rattle.std_heap.specs.contracts.Global as Heap
 use Rattle.core.proofs.alloc.Calls.{α, Fits, handle_tells}
 use Rattle.std_alloc.proofs.ResultValues.{and_tt}
@@ -37,10 +37,10 @@ use denote.Struct.Struct.{within}
 use denote.Struct.Owning.{shape, to}
 use Rattle.std.specs.declared.option.Option.TheVariants.{None}
 use Rattle.std.proofs.Common.{arith}
-use Rattle.ruvkhiska_c.specs.contracts.kept.PreparedBox.nothing as F
-use Rattle.ruvkhiska_c.specs.contracts.kept.PreparedBox.nothing.Key.{name as #self}
-use Rattle.ruvkhiska_c.proofs.kept.PreparedBox.nothing.Statement as stated
-use Rattle.ruvkhiska_c.proofs.kept.PreparedBox.nothing.Code as code
+use Rattle.ruvkhiska_c.specs.contracts.kept.Kept.nothing as F
+use Rattle.ruvkhiska_c.specs.contracts.kept.Kept.nothing.Key.{name as #self}
+use Rattle.ruvkhiska_c.proofs.kept.Kept.nothing.Statement as stated
+use Rattle.ruvkhiska_c.proofs.kept.Kept.nothing.Code as code
 
 abbrev G : RattleType
 G = Heap.the_row
@@ -78,7 +78,7 @@ module _ {M : Type 1} {𝓤 : Ura M} (𝓛 : Logic 𝓤) (at_mem : Memory → SP
       (qed 𝓛 Γ ∵ enter ! 𝓣.C 𝓣.Λ code.function (ptr_val p ∷ hv ∷ []) _ $ alloc_all ! (λ ls. pass_all ! refl (ptr_good p, (fa, tt)) $
       sets ! (agg ! (and_then ! (get ! refl) (and_then ! (get ! refl) (no_more !)))) refl (word_good p hv fa) $ returns ! (look_at ! 0 refl) $ free_all ! refl $
       nothing ! $ nothing ! $ move ! (2 ∷ []) $ fjoin ! $ feq_i ! (List Val) (ptr_val p ∷ []) (ptr_val p ∷ []) refl $ fjoin ! $ feq_i ! (List Val) (w ∷ []) (w ∷ []) refl $ fjoin ! $
-      fpack ! (Valss (shape PreparedBox.the_type).fields) (within (shape PreparedBox.the_type) (to PreparedBox.the_type made) (w ∷ [])) (ptr_val p ∷ [], (hv ∷ [], tt)) $ fjoin ! $ use1 𝓛 (‵ (To.own_val made (w ∷ []))) (id⊢ 𝓤 _) $
+      fpack ! (Valss (shape Kept.the_type).fields) (within (shape Kept.the_type) (to Kept.the_type made) (w ∷ [])) (ptr_val p ∷ [], (hv ∷ [], tt)) $ fjoin ! $ use1 𝓛 (‵ (To.own_val made (w ∷ []))) (id⊢ 𝓤 _) $
       suffices ! _ (ends_at 𝓛 F.ended stayed (F.clauses 𝓛 at_mem run) z w made (tt, (tt, tt)) (tt, (tt, tt))) $ says ! refl $
       nothing ! $ nothing ! $ fjoin ! $ nothing ! $ fjoin ! $ join ! $ nothing ! $ join ! $ done !))))))
 
