@@ -1,14 +1,20 @@
-# The commands that do all: `make run`, `make test`, and `make quick` for a first look.
+# The commands that do all: `make run`, `make test`, `make install`, and `make quick` for a first look.
 RT = rt
 # The program for people, and the one for scripts, with fixed words and lines.
 PROGRAM = bin/ruvkhiska
 FIXED = bin/transcode
 BUILT = crates/ruvkhiska/out/ruvkhiska
 FIXED_BUILT = crates/transcode_cmd/out/transcode_cmd
+# The C library: the crate's archive, and what is installed of it.
+ARCHIVE = crates/ruvkhiska_c/out/libruvkhiska_c.a
+LIBRARY = bin/libruvkhiska.a
+# Where `make install` installs. DESTDIR precedes it.
+PREFIX = /usr/local
+DESTDIR =
 SOURCES = crates.txt $(shell find crates -name out -prune -o \( -name '*.rt' -o -name '*.antt' \) -print)
 # How many crates are proved side by side at most; if it is empty, one for each processor, or fewer where memory is short.
 JOBS =
-PROVE = RT=$(RT) tests/prove.py $(if $(JOBS),--jobs $(JOBS)) transcode_cmd ruvkhiska
+PROVE = RT=$(RT) tests/prove.py $(if $(JOBS),--jobs $(JOBS))
 
 # Proves and builds both programs, copies them to bin/ruvkhiska and bin/transcode, and shows the module of an example. The crates
 # below them are proved side by side. One that `make run` or `rt check` proved isn't proved again, so an interrupted run goes on.
@@ -27,14 +33,40 @@ $(FIXED): $(FIXED_BUILT)
 
 # The crates of both programs are proved for the first that is built.
 $(BUILT): $(SOURCES) | $(FIXED_BUILT)
-	$(PROVE)
+	$(PROVE) transcode_cmd ruvkhiska
 	cd crates/ruvkhiska && $(RT) run -- trial 1 > /dev/null
 	touch $(BUILT)
 
 $(FIXED_BUILT): $(SOURCES)
-	$(PROVE)
+	$(PROVE) transcode_cmd ruvkhiska
 	cd crates/transcode_cmd && $(RT) run -- trial 1 > /dev/null
 	touch $(FIXED_BUILT)
+
+# Proves and builds both programs and the C library: all that is installed.
+.PHONY: build
+build: $(FIXED) $(PROGRAM) $(LIBRARY)
+
+$(LIBRARY): $(ARCHIVE) include/ruvkhiska.h install/library.sh install/version
+	mkdir -p bin
+	RT=$(RT) LIBRARY=$(ARCHIVE) install/library.sh bin
+
+$(ARCHIVE): $(SOURCES) | $(BUILT)
+	$(PROVE) ruvkhiska_c
+	cd crates/ruvkhiska_c && $(RT) lib
+	touch $(ARCHIVE)
+
+# Installs them, with manual pages, completions and documentation. `make uninstall` removes what was installed.
+.PHONY: install uninstall
+install: build
+	PREFIX="$(PREFIX)" DESTDIR="$(DESTDIR)" install/install.sh install
+
+uninstall:
+	PREFIX="$(PREFIX)" DESTDIR="$(DESTDIR)" install/install.sh uninstall
+
+# Makes the Debian packages in out/.
+.PHONY: deb
+deb: build
+	install/deb.sh out
 
 # Builds both programs without any proof, and puts them at bin/ruvkhiska-unproved and bin/transcode-unproved.
 .PHONY: quick
