@@ -1,7 +1,7 @@
 #!/usr/bin/env python3
-"""Checks the table of crates in docs/ARCHITECTURE.md against the crates, and prints each difference.
+"""Checks the list of crates in docs/internals/ARCHITECTURE.md against the crates, and prints each difference.
 
-Each crate of crates.txt has one row, in the order of crates.txt, and its name begins with one of the families. The row repeats the
+Each crate of crates.txt has one line, in the order of crates.txt, and its name begins with one of the families. The line repeats the
 first paragraph of the crate's documentation. Each definition that it names in backquotes, as `Fields` or `IsModule`, is a file of
 the crate's specs or a word in one (or of the crate that follows with `of`). No crate uses a crate that comes after it.
 
@@ -43,14 +43,15 @@ def summary(crate):
 
 
 def rows():
-    """Returns the rows of the table: crate, what it does, definitions."""
-    text = (TOP / "docs" / "ARCHITECTURE.md").read_text()
-    table = text.split("| Crate | What it does | Definitions to read |", 1)[1].split("\n\n", 1)[0]
-    return [[cell.strip() for cell in line.strip("|").split("|")] for line in table.splitlines()[2:]]
+    """Returns the lines of the list of crates: crate, what it does, definitions."""
+    text = (TOP / "docs" / "internals" / "ARCHITECTURE.md").read_text()
+    section = text.split("\n## The crates\n", 1)[1].split("\n## ", 1)[0]
+    found = (re.fullmatch(r"- `(\w+)`: (.*?)(?: \[([^]]*)\])?", line) for line in section.splitlines() if line.startswith("- "))
+    return [(it[1], it[2], it[3] or "") if it else () for it in found]
 
 
 def definitions(crate, cell):
-    """Yields each name of the cell with the crate that defines it."""
+    """Yields each name in brackets with the crate that defines it."""
     for group in cell.split(";"):
         for part in [group] if "cites" in group else re.split(r",|\bover\b", group):
             home = re.search(r"\bof `(\w+)`", part)
@@ -59,7 +60,7 @@ def definitions(crate, cell):
 
 
 def unknown(crate, cell):
-    """Lists the names of the cell that neither are a file of the crate's specs nor occur in its specs or its source."""
+    """Lists the names in brackets that neither are a file of the crate's specs nor occur in its specs or its source."""
     missing = []
     for name, home in definitions(crate, cell):
         files = [*(TOP / "crates" / home / "specs").rglob("*.antt"), *(TOP / "crates" / home / "src").rglob("*.rt")]
@@ -70,9 +71,9 @@ def unknown(crate, cell):
 
 def main():
     crates, table, wrong = listed(), rows(), []
-    names = [row[0].strip("`") for row in table]
+    names = [row[0] for row in table if row]
     if names != list(crates):
-        wrong.append(f"the table's crates or their order: {[n for n in names if n not in crates]}, {[c for c in crates if c not in names]}")
+        wrong.append(f"the list's crates or their order: {[n for n in names if n not in crates]}, {[c for c in crates if c not in names]}")
     folders = sorted(it.name for it in (TOP / "crates").iterdir() if (it / "src").is_dir())
     if folders != sorted(crates):
         wrong.append(f"crates.txt and the folder crates/ differ: {sorted(set(folders) ^ set(crates))}")
@@ -85,12 +86,12 @@ def main():
         wrong += [f"crates.txt: {crate} uses {it}, which comes after it" for it in used if it in crates and it not in seen]
         seen.add(crate)
     for cells in table:
-        crate = cells[0].strip("`")
-        if len(cells) != 3 or crate not in crates:
-            wrong.append(f"no row of a crate: {cells}")
+        if not cells or cells[0] not in crates:
+            wrong.append(f"no line of a crate: {cells}")
             continue
+        crate = cells[0]
         if cells[1] != summary(crate):
-            wrong.append(f"{crate}: the row says '{cells[1]}', the crate '{summary(crate)}'")
+            wrong.append(f"{crate}: the line says '{cells[1]}', the crate '{summary(crate)}'")
         wrong += [f"{crate}: no {it}" for it in unknown(crate, cells[2])]
     for line in wrong:
         print(line)

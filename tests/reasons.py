@@ -1,13 +1,13 @@
 #!/usr/bin/env python3
-"""Compares docs/REASONS.md with the reasons of the source, both ways.
+"""Compares docs/reference/REASONS.md with the reasons of the source, both ways.
 
 Each variant of an enum of reasons has a row in the function `reason` next to it: its name, what it means and its remedy. This checks:
 
 - Each variant has one row, whose name is that of the variant.
 - The names of the rows and of the definitions (`specs/Reasons` of each crate) are the same, in the same order.
-- docs/REASONS.md has a line for each row, with the same meaning and the same remedy, and each of its lines is that of a row. Marks
-  of code, which a terminal doesn't show, don't count.
-- The lines are in the order of the alphabet, and each page that they name is there.
+- docs/reference/REASONS.md has a line for each row, with the same meaning and the same remedy, and each of its lines is that of a
+  row. Marks of code, which a terminal doesn't show, don't count.
+- The lines of each table are in the order of the alphabet.
 - Each reason is the answer to a row of crates/transcode_rows.
 - The page has the word of each outcome without a reason.
 
@@ -68,11 +68,16 @@ def defined_names(path):
 
 
 def lines_of(page):
-    """The lines of the page's table of reasons: the name, the tables, the meaning, the remedy and the pages of each."""
+    """The lines of the page's tables of reasons: the name, the tables, the meaning and the remedy of each, and if the line is in
+    the table of what isn't supported, which omits the words that all its meanings have, and the reasons' table.
+
+    A dagger after a remedy says that ruvkhiska-narrow can do it."""
     for line in page.split("\n"):
-        cells = [it.strip() for it in line.split("|")]
-        if len(cells) == 8 and cells[1] not in ("Reason", "---"):
-            yield cells[1], cells[2].split(", "), cells[3].replace("`", ""), cells[5].replace("`", ""), cells[6].split(", ")
+        cells = [it.strip().replace("†", "; ruvkhiska-narrow can do it") for it in line.replace("`", "").split("|")]
+        if len(cells) in (5, 7) and cells[1] not in ("Reason", "---"):
+            is_unsupported = len(cells) == 5
+            tables, means = (["schema"], cells[2]) if is_unsupported else (cells[2].split(", "), cells[3])
+            yield cells[1], tables, means, cells[-2], is_unsupported
 
 
 def try_source(holds):
@@ -95,27 +100,32 @@ def try_source(holds):
 
 
 def try_page(holds, rows):
-    """The page has a line for each row, in the order of the alphabet, and no other line."""
-    page = text_of("docs/REASONS.md")
-    said, names = {}, []
-    for name, tables, means, remedy, pages in lines_of(page):
-        names.append((name.lower(), name))
-        for table in tables:
-            holds((table, name) not in said, "docs/REASONS.md has twice", table, name)
-            said[table, name] = means, remedy
-        for it in pages:
-            holds(os.path.isfile(f"{HERE}/docs/{it}.md"), "docs/REASONS.md names the page", it)
-    holds(names == sorted(names), "docs/REASONS.md isn't in the order of the alphabet")
+    """The page has a line for each row, in each table in the order of the alphabet, and no other line."""
+    page = text_of("docs/reference/REASONS.md")
+    said, unsupported = {}, set()
+    for part in page.split("\n## "):
+        names = []
+        for name, tables, means, remedy, is_unsupported in lines_of(part):
+            names.append((name.lower(), name))
+            for table in tables:
+                holds((table, name) not in said, "docs/reference/REASONS.md has twice", table, name)
+                said[table, name] = means, remedy
+                if is_unsupported:
+                    unsupported.add((table, name))
+        holds(names == sorted(names), "docs/reference/REASONS.md isn't in the order of the alphabet")
     for at in sorted(rows.keys() - said.keys()):
-        holds(False, "docs/REASONS.md lacks", *at)
+        holds(False, "docs/reference/REASONS.md lacks", *at)
     for at in sorted(said.keys() - rows.keys()):
-        holds(False, "docs/REASONS.md has a line that is no reason of the source:", *at)
+        holds(False, "docs/reference/REASONS.md has a line that is no reason of the source:", *at)
     for at in sorted(rows.keys() & said.keys()):
-        holds(rows[at] == said[at], *at, "is", rows[at], "and in docs/REASONS.md", said[at])
+        means, remedy = rows[at]
+        if at in unsupported:
+            means = re.sub(r"^the (?:datatype|facet) | (?:is|are) not supported", "", means)
+        holds((means, remedy) == said[at], *at, "is", rows[at], "and in docs/reference/REASONS.md", said[at])
     words = [it for path in WORDS for it in re.findall(r'name: "(\w+)"', text_of(path))]
     holds(len(words) > 10, len(words), "words of outcomes")
     for name in words:
-        holds(name == "Done" or f"`{name}`" in page, "docs/REASONS.md lacks the word", name)
+        holds(name == "Done" or f"`{name}`" in page, "docs/reference/REASONS.md lacks the word", name)
 
 
 def try_answers(holds, rows):

@@ -38,16 +38,16 @@ The report has one line for each thing that DIR doesn't say as FILE does:
 
 A document that is valid by FILE, and that no line `refuses` or `failed`
 speaks of, is valid by DIR, and what comes back from its octets is valid by
-FILE. docs/NARROW.md has each RULE.
+FILE. docs/guide/NARROW.md has each RULE.
 
 exit status:
   0  DIR says the same as FILE      3  some line says failed
   1  some line is wider or unsafe   4  the set is incomplete or no schema
   2  some line says refuses         5  wrong words, or DIR can't be written
 
-DIR is written whole or not at all, and not with status 4 or 5. It must not
-exist, or be empty, or hold only files that ruvkhiska-narrow wrote. The work
-ends within 120 seconds and 2 GB of memory.
+DIR is written completely or not at all, and not with status 4 or 5. It must
+not exist, or be empty, or hold only files that ruvkhiska-narrow wrote. The
+work ends within 120 seconds and 2 GB of memory.
 
 example:
   ruvkhiska-narrow -o po examples/purchase-order.xsd
