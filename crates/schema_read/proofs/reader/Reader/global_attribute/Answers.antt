@@ -1,11 +1,11 @@
 use Rattle.std.proofs.Common.{sym, ◌∙◌, ap, ◌++◌, Some}
 use Rattle.schema_read.proofs.Words.{kids_of, own_attributes, bindings_in, attribute_by, global_attribute}
-use Rattle.schema_read.proofs.declarations.global_attribute.Goals as goal
+use Rattle.schema_read.proofs.reader.Reader.global_attribute.Goals as goal
 
 pub returns : goal.returns
 returns c =
-    let target = c.args.target.now in
-    let scope = bindings_in c.args.scope.now in
+    let target = c.args.self.setting.target.now in
+    let scope = bindings_in c.args.self.scope.now in
     let at = c.in-Element.at in
     let own = c.deref.ensures.value ∙ (rw c.items.ensures at c.in_ok-own.ensures) in
     let made = c.in_ok-found.ensures
