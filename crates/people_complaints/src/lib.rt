@@ -20,5 +20,5 @@ pub use paths::path_at;
 pub use roots::global_names;
 pub use telling::complaint;
 pub use text_paths::path_of;
-pub use text_telling::{tell_place, tell_unit, tell_whole};
+pub use text_telling::{NamedText, tell_place, tell_unit, tell_whole};
 pub use words::{NOTE, READ, ROOT, SEVERAL_ROOTS, STAMP};

@@ -3,7 +3,7 @@ ghost use Rattle.std.specs.Prelude.{◌≡◌, ◌++◌, [], codes, decimal, IfO
 ghost use Rattle.people_complaints.specs.Telling.{explained};
 ghost use Rattle.people_complaints.specs.Complaints.{IsComplaint};
 
-use crate::text_telling::{tell_place, tell_unit, tell_whole};
+use crate::text_telling::{NamedText, tell_place, tell_unit, tell_whole};
 use base_texts::{Memory, Reason};
 use itoa::Buffer;
 use std::alloc::{AllocError, Global};
@@ -53,7 +53,8 @@ pub fn complaint(
         | Outcome::Invalid { at, .. }
         | Outcome::ModuleFault { at, .. } => {
             if at <= contents.len() as u64 {
-                tell_place(alloc, name, contents, at as usize, within, reason)
+                let text = NamedText { name, contents };
+                tell_place(alloc, text, at as usize, within, reason)
             } else {
                 tell_unit(alloc, name, ": byte ", at, reason)
             }

@@ -41,22 +41,28 @@ fn put_number(text: &mut String, mark: &str, number: u64) -> Result<(), AllocErr
     text.push_str(digits.format(number))
 }
 
+/// A text that is complained about, and its name.
+#[derive(Clone, Copy)]
+pub struct NamedText<'a> {
+    pub name: &'a str,
+    pub contents: &'a [u8],
+}
+
 /// Tells of a byte of a text: the name of the text, the line and the column, the reason, what stands before its meaning, and the line with a
 /// mark beneath.
 pub fn tell_place(
     alloc: Global,
-    name: &str,
-    contents: &[u8],
+    text: NamedText<'_>,
     at: usize,
     within: &str,
     reason: Reason,
 ) -> Result<String, Memory>
-    requires { at ≤ length contents.now }
-    ensures { IfOk result (λ told. IsPlaced name.now contents.now at within.now reason.name.now reason.means.now reason.remedy.now (string_bytes told)) }
+    requires { at ≤ length text.contents.now }
+    ensures { IfOk result (λ told. IsPlaced text.entry.name.now text.entry.contents.now at within.now reason.name.now reason.means.now reason.remedy.now (string_bytes told)) }
 {
-    let spot = spot_at(contents, at);
+    let spot = spot_at(text.contents, at);
     let shown = excerpt(alloc, spot)?;
-    let mut told = String::from_str(alloc, name)?;
+    let mut told = String::from_str(alloc, text.name)?;
     put_number(&mut told, ":", spot.line)?;
     put_number(&mut told, ":", spot.column())?;
     put_reason(&mut told, reason, within, shown.as_str())?;

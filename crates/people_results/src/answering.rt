@@ -1,13 +1,11 @@
 //! The answer to the words of the fixed program, as a value.
-ghost use Rattle.std.specs.Prelude.{◌≡◌, ◌<◌, ◌++◌, ℕ, [], List, Some, None, IfOk, IfErr};
+ghost use Rattle.std.specs.Prelude.{◌≡◌, ◌++◌, ℕ, [], List, Some, None, IfOk, IfErr};
 ghost use Rattle.transcode_core.specs.Due.{Due};
 ghost use Rattle.transcode_words.specs.Answers.{IsRefusal};
 
-use base_texts::{Failed, Library, Sink, Source, Steps, Text};
+use base_texts::{Failed, Library, Sink, Source, Text};
 use std::alloc::Global;
-use std::marker::Brand;
-use std::sync::ledger::{Blank, Ledger};
-use transcode_core::run;
+use transcode_core::{Environment, run_in};
 use transcode_words::{Outcome, read_each};
 
 // A sink in memory that grows.
@@ -51,18 +49,14 @@ impl Sink for Silence {
     }
 }
 
-// Does what the words ask for, and counts steps in a ledger of its own.
-fn run_counted<F: Library, S: Source, L: Ledger>(
+// Does what the words ask for, if that comes whole.
+fn run_whole<F: Library, S: Source>(
     alloc: Global,
     words: &[Text],
     files: &mut F,
     input: &mut S,
     output: &mut Grown,
-    blank: Blank,
 ) -> Outcome
-    requires name { blank.name ≡ L.name }
-    requires parts { blank.parts ≡ L.parts }
-    requires some { 0 < L.parts }
     ensures done { result ≡ Outcome.Done → (bytes : List ℕ) × Due words.now (F.entries files.old) (S.left input.old) Outcome.Done bytes × (output.new.bytes.items ≡ output.old.bytes.items ++ bytes) }
     ensures refused { IsRefusal result → Due words.now (F.entries files.old) (S.left input.old) result [] }
     ensures entries { F.entries files.new ≡ F.entries files.old }
@@ -70,10 +64,16 @@ fn run_counted<F: Library, S: Source, L: Ledger>(
     match read_each(words) {
         // What these words ask for comes record by record, and nothing whole is due of them.
         Some(_) => Outcome::Usage,
-        None => {
-            let mut steps = Steps::<L>::new(blank);
-            run(alloc, words, files, input, output, &mut Silence, &mut steps)
-        }
+        None => run_in(
+            alloc,
+            words,
+            Environment {
+                files,
+                input,
+                output,
+                complaints: &mut Silence,
+            },
+        ),
     }
 }
 
@@ -92,7 +92,7 @@ pub fn answer<F: Library, S: Source>(
         bytes: Vec::new(alloc),
         faults: 0,
     };
-    match run_counted::<_, _, Brand>(alloc, words, files, input, &mut output, Blank::new(1)) {
+    match run_whole(alloc, words, files, input, &mut output) {
         Outcome::Done => Ok(output.bytes),
         Outcome::WriteFault => Err(Outcome::OutOfMemory),
         outcome => Err(outcome),

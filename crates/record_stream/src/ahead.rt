@@ -81,6 +81,14 @@ impl<'a, S: Source, K: Before> Source for Ahead<'a, S, K> {
     }
 }
 
+/// What is decoded: a value of the type of the assignment with number `t`, from at most `limit` octets.
+#[derive(Clone, Copy)]
+pub(crate) struct RecordType<'m> {
+    pub(crate) module: &'m Module,
+    pub(crate) t: u32,
+    pub(crate) limit: u64,
+}
+
 /// What stands behind a value: the source, and the octet where it was not handed on.
 #[derive(Drop)]
 pub(crate) struct Behind<'a, S: Source> {
@@ -92,30 +100,29 @@ pub(crate) struct Behind<'a, S: Source> {
 /// beside what owns memory.
 pub(crate) fn decode_behind<'a, S: Source, K: Before>(
     alloc: Global,
-    module: &Module,
-    t: u32,
+    record_type: RecordType<'_>,
     source: &'a mut S,
     octet: u8,
-    limit: u64,
     answer: &mut Result<Decoded, DecodeError>,
 ) -> Behind<'a, S>
-    requires assigned { t < length module.now }
-    requires small { limit ≤ 2 ^ 32 }
+    requires assigned { record_type.t < length record_type.module.now }
+    requires small { record_type.limit ≤ 2 ^ 32 }
     requires name { source.ghost_name ≡ K.name }
     requires left { S.left source.old ≡ K.left }
     requires octet { octet ≡ K.octet }
     requires faults { S.faults source.old ≡ K.faults }
     ensures same_reference { result.source.ghost_name ≡ source.entry.ghost_name }
-    ensures value { IfOk answer.new (λ found. In module.now t found.value) }
-    ensures limited { IfOk answer.new (λ found. found.octets ≤ limit) }
+    ensures value { IfOk answer.new (λ found. In record_type.entry.module.now record_type.entry.t found.value) }
+    ensures limited { IfOk answer.new (λ found. found.octets ≤ record_type.entry.limit) }
     ensures answer { (left : List ℕ) → left_with (Some octet) K.left ≡ Some left
-        → Answers module.now t limit left (left_with result.octet (S.left result.source.now)) answer.new }
+        → Answers record_type.entry.module.now record_type.entry.t record_type.entry.limit left (left_with result.octet (S.left result.source.now)) answer.new }
     ensures cause { Counts K.faults (S.faults result.source.now) (IsErrOf answer.new DecodeError.Failed) }
     // Where it failed, the octet was handed on. Where it was not, nothing was taken.
     ensures failed { IsErrOf answer.new DecodeError.Failed → result.octet ≡ None }
     ensures untouched { IsUntouched octet K.left result.octet (S.left result.source.now) }
 {
     let mut ahead: Ahead<'a, S, K> = Ahead::new(source, octet);
+    let RecordType { module, t, limit } = record_type;
     *answer = decode(alloc, module, t, &mut ahead, limit);
     let Ahead {
         source,

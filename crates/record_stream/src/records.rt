@@ -7,7 +7,7 @@ ghost use Rattle.per_fields.specs.Encoding.{complete};
 ghost use Rattle.record_stream.specs.Heads.{left_with};
 ghost use Rattle.record_stream.specs.Next.{AnswersNext, told_of};
 
-use crate::ahead::decode_behind;
+use crate::ahead::{RecordType, decode_behind};
 use crate::errors::RecordError;
 use asn_types::Module;
 use base_texts::{Failed, Source};
@@ -109,17 +109,10 @@ impl<'a, S: Source> Records<'a, S> {
         ensures failed { IsErrOf result RecordError.Failed → self.new.octet ≡ None }
         ensures cause { Counts (S.faults self.old.source.now) (S.faults self.new.source.now) (IsErrOf result RecordError.Failed) }
     {
-        let most = RECORD_LIMIT.min(self.room);
+        let limit = RECORD_LIMIT.min(self.room);
+        let record_type = RecordType { module, t, limit };
         let mut answer = Err(DecodeError::Memory);
-        let behind = decode_behind::<S, Brand>(
-            alloc,
-            module,
-            t,
-            self.source,
-            octet,
-            most,
-            &mut answer,
-        );
+        let behind = decode_behind::<S, Brand>(alloc, record_type, self.source, octet, &mut answer);
         self.octet = behind.octet;
         match answer {
             Ok(decoded) => {

@@ -1,17 +1,18 @@
 -- What is decided before writing, and what an answer tells of its cause.
 use Rattle.std.proofs.Common.{◌≡◌, ◌⊎◌, ℕ, Bool, true, List, [], sym, ◌∙◌, subst, inl, inr, Option, Some, Result, Ok, Err}
-use Rattle.std.specs.Prelude.{Vec}
+use Rattle.std.specs.Prelude.{Vec, IsErrAnd}
 use Rattle.std.specs.declared.alloc.Global.{Global}
 use Rattle.base_texts.specs.Faults.{HasRisen}
 use Rattle.base_texts.specs.declared.texts.Name.{Name}
 use Rattle.transcode_words.specs.declared.outcome.Outcome.{Outcome}
-use Rattle.transcode_words.specs.declared.outcome.Outcome.TheVariants.{LoadFault, ReadFault, OutOfMemory}
+use Rattle.transcode_words.specs.declared.outcome.Outcome.TheVariants.{Done, LoadFault, ReadFault, OutOfMemory}
 use Rattle.transcode_words.specs.Words.{Asked}
 use Rattle.transcode_words.specs.Order.{Then}
 use Rattle.schema_components.specs.SetParts.{SetParts}
 use Rattle.transcode_core.specs.Due.{Requested, Opened, Due}
 use Rattle.transcode_core.specs.Private.Decided.{Decided}
 use Rattle.transcode_core.proofs.Verdicts.{refusal_due_of, refusal_is_not_done}
+use Rattle.transcode_core.proofs.Exits.{refused_by}
 use Rattle.transcode_words.specs.Answers.{Answers, IsRefusal}
 use Rattle.transcode_core.specs.Causes.{SomeLoad, OneRead, Fails, Reaches, files_of, ReachesFile, reads_input, ReadsInput, reads_document, ReadsDocument, ReachesInput, Deciding}
 
@@ -24,6 +25,13 @@ reads_too words request asks (other, also, reads) = subst (λ r. reads_input r �
 
 pub reads_document_too : (words : List (List ℕ)) (request : Asked) → Requested words (Ok request) → ReadsDocument words → reads_document request ≡ true
 reads_document_too words request asks (other, also, reads) = subst (λ r. reads_document r ≡ true) (same_request words other request also asks) reads
+
+-- what stops before a set is opened isn't Done
+pub not_opened : (entries : Option (List (List ℕ × List ℕ))) (loads loads_now : ℕ) (sure : Bool) (root : Name) (names : List (List ℕ)) (o : Outcome)
+    → (Opened entries root names (Err o) × IsRefusal o) ⊎ SomeLoad loads loads_now sure entries names o → o ≡ Done → ⊥
+not_opened entries loads loads_now sure root names o (inl (due, own)) is = absurd (subst IsRefusal is own)
+not_opened entries loads loads_now sure root names o (inr (inl memory)) is = let clash : OutOfMemory ≡ Done = sym memory ∙ is in cc
+not_opened entries loads loads_now sure root names o (inr (inr (k, name, load, rest, fails))) is = let clash : LoadFault k ≡ Done = sym load ∙ is in cc
 
 -- a command that opens a set, and then reads the input
 module _ (entries : Option (List (List ℕ × List ℕ))) (loads loads_now : ℕ) (sure : Bool) (reads reads_now : ℕ) (root : Name) (names : List (List ℕ))
@@ -42,10 +50,11 @@ module _ (entries : Option (List (List ℕ × List ℕ))) (loads loads_now : ℕ
   goes_on opened (Err o) is (inr (inr (read, rose))) = inr (inr (read, rose, (opened, is)))
 
   -- they are refused
-  pub stops : (o : Outcome) → (Opened entries root names (Err o) × IsRefusal o) ⊎ SomeLoad loads loads_now sure entries names o
-      → (Then (Opened entries root names) step (Err o) × IsRefusal o) ⊎ Cause o
-  stops o (inl (due, own)) = inl (inl due, own)
-  stops o (inr cause) = inr (inl cause)
+  pub stops_by : (v : Result (Vec ℕ Global) Outcome) (o : Outcome) → IsErrAnd v (λ e. e ≡ o)
+      → (Opened entries root names (Err o) × IsRefusal o) ⊎ SomeLoad loads loads_now sure entries names o
+      → Answers (λ (b : Vec ℕ Global). b.items) (Then (Opened entries root names) step) Cause v
+  stops_by v o is stop =
+      refused_by (Opened entries root names) step (SomeLoad loads loads_now sure entries names) Cause (λ (b : Vec ℕ Global). b.items) v o is stop (λ cause. inl cause)
 
 module _ (words : List (List ℕ)) (entries : Option (List (List ℕ × List ℕ))) (left : Option (List ℕ)) (loads loads_now : ℕ) (sure : Bool) (reads reads_now : ℕ) where
   -- a refusal is due

@@ -15,7 +15,6 @@ use Rattle.transcode_core.specs.Causes.{ReadsInput, IsTold, TakesOfWords, IsOfIn
 use Rattle.transcode_core.specs.Private.Decided.{Decided}
 use Rattle.transcode_core.proofs.Verdicts.{done_due, refusal_due_of, refusal_is_not_done}
 use Rattle.transcode_core.proofs.Deciding.{refusal_due, load_failed, read_failed}
-use Rattle.transcode_core.proofs.Single.{Laws, Due-single, completed_told}
 
 -- what holds whatever the outcome
 pub record Beside (words : List (List ℕ)) (old new : Outside) (same_input : Type 0) (result : Outcome) : Type 0 where
@@ -34,18 +33,22 @@ abbrev pub IsStopped : List (List ℕ) → Outside → Outside → Outcome → T
 IsStopped words old new o = (Decided words old.entries old.left (Err o) × IsRefusal o)
     ⊎ Deciding old.load_faults new.load_faults old.is_sure old.entries old.read_faults new.read_faults words o
 
--- of files that are told one thing is due
-one_due : Laws → (words : List (List ℕ)) (known : Option (List (List ℕ × List ℕ))) (left : Option (List ℕ)) (entries : List (List ℕ × List ℕ)) → known ≡ Some entries → (ReadsInput words → IsTold left)
+-- over files that are told, at most one outcome with one list of bytes is due
+abbrev pub OneDue : Type 0
+OneDue = (words : List (List ℕ)) (entries : List (List ℕ × List ℕ)) (left : Option (List ℕ)) (o p : Outcome) (b c : List ℕ) → (ReadsInput words → IsTold left)
+    → Due words (Some entries) left o b → Due words (Some entries) left p c → (o ≡ p) × (b ≡ c)
+
+one_due : OneDue → (words : List (List ℕ)) (known : Option (List (List ℕ × List ℕ))) (left : Option (List ℕ)) (entries : List (List ℕ × List ℕ)) → known ≡ Some entries → (ReadsInput words → IsTold left)
     → (o p : Outcome) (b c : List ℕ) → Due words known left o b → Due words known left p c → (o ≡ p) × (b ≡ c)
-one_due laws words known left entries is told o p b c due also =
-    Due-single laws words entries left o p b c told (subst (λ e. Due words e left o b) is due) (subst (λ e. Due words e left p c) is also)
+one_due one words known left entries is told o p b c due also =
+    one words entries left o p b c told (subst (λ e. Due words e left o b) is due) (subst (λ e. Due words e left p c) is also)
 
 -- what has room for the bytes doesn't lack it
 no_room : (room : Option ℕ) (n : ℕ) → LacksRoom room n → HasRoom room n → ⊥
 no_room None n lacks has = has
 no_room (Some room) n lacks has = absurd (omega (arith, lacks, has))
 
-module _ (laws : Laws) (words : List (List ℕ)) (old new : Outside) (same_input same_output : Type 0) where
+module _ (one : OneDue) (words : List (List ℕ)) (old new : Outside) (same_input same_output : Type 0) where
   -- all was written
   pub wrote : (bytes : List ℕ) → Beside words old new same_input Done → Decided words old.entries old.left (Ok bytes) → ReadBack words old.entries old.left bytes
       → Appends old.written new.written bytes → (ReadsInput words → IsAtEnd new.left) → (ReadsDocument words → StepsFrom (ReadsOfWords words old.left) old.steps new.steps)
@@ -63,7 +66,7 @@ module _ (laws : Laws) (words : List (List ℕ)) (old new : Outside) (same_input
         files = beside.files;
         complete = λ entries bytes known told due no_load no_read no_write. inl refl;
         sure = λ entries o more known told also is_sure has no_read room.
-            inl (one_due laws words old.entries old.left entries known told Done o bytes more (done_due words old.entries old.left bytes due) also).0;
+            inl (one_due one words old.entries old.left entries known told Done o bytes more (done_due words old.entries old.left bytes due) also).0;
         loads = beside.loads;
         reads = beside.reads;
         writes = beside.writes;
@@ -89,7 +92,7 @@ module _ (laws : Laws) (words : List (List ℕ)) (old new : Outside) (same_input
         files = beside.files;
         complete = λ entries bytes known told due no_load no_read no_write. absurd (no_write rose);
         sure = λ entries o more known told also is_sure has no_read room.
-            let same = one_due laws words old.entries old.left entries known told Done o bytes more (done_due words old.entries old.left bytes due) also in
+            let same = one_due one words old.entries old.left entries known told Done o bytes more (done_due words old.entries old.left bytes due) also in
             absurd (no_room old.room (length more) (subst (λ b. LacksRoom old.room (length b)) same.1 lacks) room);
         loads = beside.loads;
         reads = beside.reads;
@@ -117,10 +120,19 @@ module _ (laws : Laws) (words : List (List ℕ)) (old new : Outside) (same_input
   settled : (entries : List (List ℕ × List ℕ)) (o due : Outcome) (bytes : List ℕ) → old.entries ≡ Some entries → (ReadsInput words → IsTold old.left) → Due words old.entries old.left due bytes
       → IsTrue old.is_sure → HasFiles words old.entries → (HasRisen old.read_faults new.read_faults → ⊥) → IsStopped words old new o → (o ≡ due) ⊎ (o ≡ OutOfMemory)
   settled entries o due bytes known told is is_sure has no_read (inl (refused, own)) =
-      inl (one_due laws words old.entries old.left entries known told o due [] bytes (refusal_due_of words old.entries old.left o (refusal_is_not_done o own) refused) is).0
+      inl (one_due one words old.entries old.left entries known told o due [] bytes (refusal_due_of words old.entries old.left o (refusal_is_not_done o own) refused) is).0
   settled entries o due bytes known told is is_sure has no_read (inr (request, asks, inl (inl memory))) = inr memory
   settled entries o due bytes known told is is_sure has no_read (inr (request, asks, inl (inr (k, name, load, reaches, fails)))) = absurd (has k name (request, asks, reaches) (fails.lacks is_sure))
   settled entries o due bytes known told is is_sure has no_read (inr (request, asks, inr (read, rose, comes))) = absurd (no_read rose)
+
+  -- where Done is due and no count rose, only memory may be missing
+  completed : (entries : List (List ℕ × List ℕ)) (o : Outcome) (bytes : List ℕ) → old.entries ≡ Some entries → (ReadsInput words → IsTold old.left) → Due words old.entries old.left Done bytes
+      → (HasRisen old.load_faults new.load_faults → ⊥) → (HasRisen old.read_faults new.read_faults → ⊥) → IsStopped words old new o → (o ≡ Done) ⊎ (o ≡ OutOfMemory)
+  completed entries o bytes known told due no_load no_read (inl (refused, own)) =
+      inl (one_due one words old.entries old.left entries known told o Done [] bytes (refusal_due_of words old.entries old.left o (refusal_is_not_done o own) refused) due).0
+  completed entries o bytes known told due no_load no_read (inr (request, asks, inl (inl memory))) = inr memory
+  completed entries o bytes known told due no_load no_read (inr (request, asks, inl (inr (k, name, load, reaches, fails)))) = absurd (no_load fails.rose)
+  completed entries o bytes known told due no_load no_read (inr (request, asks, inr (read, rose, comes))) = absurd (no_read rose)
 
   -- it stopped before writing
   pub stopped : (o : Outcome) → Beside words old new same_input o → IsStopped words old new o → same_output → Runs words old new same_input same_output o
@@ -135,8 +147,7 @@ module _ (laws : Laws) (words : List (List ℕ)) (old new : Outside) (same_input
         end = λ is reads. absurd (not_done o answer is);
         untouched = beside.untouched;
         files = beside.files;
-        complete = λ entries bytes known told due no_load no_read no_write.
-            completed_told laws words old.entries old.left entries bytes old.load_faults new.load_faults old.read_faults new.read_faults old.is_sure o known told due no_load no_read answer;
+        complete = λ entries bytes known told due no_load no_read no_write. completed entries o bytes known told due no_load no_read answer;
         sure = λ entries due bytes known told is is_sure has no_read room. settled entries o due bytes known told is is_sure has no_read answer;
         loads = beside.loads;
         reads = beside.reads;

@@ -1,6 +1,5 @@
 -- Where contents are told, at most one outcome or result is due.
-use Rattle.std.proofs.Common.{◌≡◌, ◌⊎◌, ℕ, ◌+◌, ◌≤◌, Bool, true, List, [], ◌∷◌, length, map, refl, sym, ap, ◌∙◌, subst, inl, inr, arith, Option, Some, None, Result, Ok, Err}
-use Rattle.base_texts.specs.Faults.{HasRisen}
+use Rattle.std.proofs.Common.{◌≡◌, ℕ, ◌+◌, ◌≤◌, true, List, [], ◌∷◌, length, map, refl, sym, ap, ◌∙◌, subst, inl, inr, arith, Option, Some, None, Result, Ok, Err}
 use Rattle.base_texts.specs.Entries.{beside}
 use Rattle.base_texts.specs.declared.texts.Name.{Name}
 use Rattle.base_trees.specs.Rose as tree
@@ -10,7 +9,7 @@ use Rattle.xml_read.specs.declared.error.DocWhy.{DocWhy}
 use Rattle.xml_read.proofs.OneTree.{one_tree, tree_or_fault, one_fault}
 use Rattle.xml_read.proofs.PieceLaws.{PieceLaws}
 use Rattle.transcode_words.specs.declared.outcome.Outcome.{Outcome}
-use Rattle.transcode_words.specs.declared.outcome.Outcome.TheVariants.{Done, SchemaFault, LinkFault, ModuleFault, Invalid, TooManyNodes, OutOfMemory}
+use Rattle.transcode_words.specs.declared.outcome.Outcome.TheVariants.{SchemaFault, LinkFault, ModuleFault, Invalid, TooManyNodes}
 use Rattle.transcode_words.specs.Order.{Give, Found, Then}
 use Rattle.schema_faults.specs.Faults.{first_fault, reasons}
 use Rattle.schema_faults.specs.declared.faults.DocumentFault.{DocumentFault}
@@ -23,8 +22,7 @@ use Rattle.transcode_words.specs.declared.tasks.Task.{Task}
 use Rattle.transcode_words.specs.declared.tasks.Task.TheVariants.{Check, Send, Receive}
 use Rattle.transcode_core.specs.Syntaxes.{AreOctetsOf, AllSyntaxes}
 use Rattle.transcode_words.specs.Words.{Asked, Show, ShowBack, Serve, Trial}
-use Rattle.transcode_words.specs.Answers.{IsRefusal}
-use Rattle.transcode_core.specs.Causes.{reads_input, ReadsInput, IsTold, Deciding}
+use Rattle.transcode_core.specs.Causes.{reads_input, ReadsInput, IsTold}
 use Rattle.schema_read.specs.Raw.{raw_of}
 use Rattle.schema_components.specs.SetParts.{SetParts, NamedSpace, named_spaces, parts_of}
 use Rattle.link_set.specs.Sets.{set_of}
@@ -44,7 +42,7 @@ use Rattle.map_subjects.specs.declared.subjects.NamedSubject.{NamedSubject}
 use Rattle.map_subjects.specs.Subjects.{AreEntries, place_in}
 use Rattle.transcode_core.specs.Trial.{trial_name, trial_schema, trial_root, trial_document}
 use Rattle.transcode_core.proofs.Octets.{one_whole, whole_or_none, one_refusal, value_or_none, one_no_encoding}
-use Rattle.transcode_core.proofs.Verdicts.{outcome_of, bytes_of, decided, due_done}
+use Rattle.transcode_core.proofs.Verdicts.{outcome_of, bytes_of, decided}
 use Rattle.validity_rules.specs.Laws.{AtMostOne}
 use Rattle.schema_components.specs.declared.components.SimpleDef.{SimpleDef}
 use Rattle.map_assignments.proofs.Once.{one-map, one-entries}
@@ -361,24 +359,3 @@ Due-single laws words entries left o p b c told due also =
     let w = decided words (Some entries) left p c also in
     let same : v.0 ≡ w.0 = Decided-single laws words entries left told v.0 w.0 v.1 w.1 in
     (v.2 ∙ ap outcome_of same ∙ sym w.2, v.3 ∙ ap bytes_of same ∙ sym w.3)
-
--- where Done is due and nothing rose, only memory may be missing
-completed : Laws → (words : List (List ℕ)) (entries : List (List ℕ × List ℕ)) (left : Option (List ℕ)) (bytes : List ℕ) (loads loads_now reads reads_now : ℕ) (sure : Bool) (o : Outcome)
-    → (ReadsInput words → IsTold left) → Decided words (Some entries) left (Ok bytes) → (HasRisen loads loads_now → ⊥) → (HasRisen reads reads_now → ⊥)
-    → (Decided words (Some entries) left (Err o) × IsRefusal o) ⊎ Deciding loads loads_now sure (Some entries) reads reads_now words o
-    → (o ≡ Done) ⊎ (o ≡ OutOfMemory)
-completed laws words entries left bytes loads loads_now reads reads_now sure o told due no_load no_read (inl (refused, own)) =
-    let e = Decided-single laws words entries left told (Err o) (Ok bytes) refused due in cc
-completed laws words entries left bytes loads loads_now reads reads_now sure o told due no_load no_read (inr (request, asks, inl (inl memory))) = inr memory
-completed laws words entries left bytes loads loads_now reads reads_now sure o told due no_load no_read (inr (request, asks, inl (inr (k, name, load, named, fails)))) = absurd (no_load fails.rose)
-completed laws words entries left bytes loads loads_now reads reads_now sure o told due no_load no_read (inr (request, asks, inr (read, rose, comes))) = absurd (no_read rose)
-
--- the same, of files that are told
-pub completed_told : Laws → (words : List (List ℕ)) (known : Option (List (List ℕ × List ℕ))) (left : Option (List ℕ)) (entries : List (List ℕ × List ℕ)) (bytes : List ℕ)
-    (loads loads_now reads reads_now : ℕ) (sure : Bool) (o : Outcome) → known ≡ Some entries → (ReadsInput words → IsTold left)
-    → Due words known left Done bytes → (HasRisen loads loads_now → ⊥) → (HasRisen reads reads_now → ⊥)
-    → (Decided words known left (Err o) × IsRefusal o) ⊎ Deciding loads loads_now sure known reads reads_now words o
-    → (o ≡ Done) ⊎ (o ≡ OutOfMemory)
-completed_told laws words known left entries bytes loads loads_now reads reads_now sure o files told due no_load no_read answer =
-    completed laws words entries left bytes loads loads_now reads reads_now sure o told (subst (λ e. Decided words e left (Ok bytes)) files (due_done words known left bytes due)) no_load no_read
-    (subst (λ e. (Decided words e left (Err o) × IsRefusal o) ⊎ Deciding loads loads_now sure e reads reads_now words o) files answer)

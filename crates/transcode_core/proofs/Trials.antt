@@ -1,6 +1,6 @@
 -- The trial, whose only file and whose input are there.
 use Rattle.std.proofs.Common.{◌≡◌, ◌⊎◌, ℕ, List, [], ◌∷◌, ◌++◌, length, refl, ◌∙◌, ap, subst, inl, inr, arith, Option, Some, None, Result, Ok, Err}
-use Rattle.std.specs.Prelude.{Vec, true}
+use Rattle.std.specs.Prelude.{Vec, IsErrAnd, true}
 use Rattle.std.specs.declared.alloc.Global.{Global}
 use Rattle.base_texts.specs.Entries.{beside}
 use Rattle.transcode_words.specs.declared.outcome.Outcome.{Outcome}
@@ -14,7 +14,8 @@ use Rattle.transcode_words.specs.Order.{Give, Then}
 use Rattle.transcode_core.specs.Due.{Opened, ItemsIn, Served, Answered, Tried}
 use Rattle.transcode_words.specs.Answers.{Answers, NoMemory, IsRefusal}
 use Rattle.transcode_core.specs.Causes.{Answering, StepsUpTo, StepsFrom}
-use Rattle.transcode_words.proofs.Joined.{passed, refused}
+use Rattle.transcode_words.proofs.Joined.{passed}
+use Rattle.transcode_core.proofs.Exits.{refused_by}
 
 abbrev pub trial_files : List (List ℕ × List ℕ)
 trial_files = (trial_name, trial_schema) ∷ []
@@ -72,10 +73,10 @@ told lines n document octets given v e m same sent line =
     let two = subst (λ xs. Answers (λ (b : Vec ℕ Global). b.items) (Line lines xs) NoMemory v) same one in
     passed (SentTrial (trial_document lines)) (Line lines) NoMemory NoMemory (λ (b : Vec ℕ Global). b.items) octets v (subst (λ d. SentTrial d (Ok octets)) e sent) two (λ o h. h)
 
-pub refuses : (lines : ℕ) (document : List ℕ) (o : Outcome) → document ≡ trial_document lines → (SentTrial document (Err o) × IsRefusal o) ⊎ NoMemory o
-    → (Tried lines (Err o) × IsRefusal o) ⊎ NoMemory o
-refuses lines document o e refusal =
-    refused (SentTrial (trial_document lines)) (Line lines) NoMemory NoMemory (λ (b : Vec ℕ Global). b.items) o
+pub refuses : (lines : ℕ) (document : List ℕ) (v : Result (Vec ℕ Global) Outcome) (o : Outcome) → IsErrAnd v (λ e. e ≡ o) → document ≡ trial_document lines
+    → (SentTrial document (Err o) × IsRefusal o) ⊎ NoMemory o → Answers (λ (b : Vec ℕ Global). b.items) (Tried lines) NoMemory v
+refuses lines document v o is e refusal =
+    refused_by (SentTrial (trial_document lines)) (Line lines) NoMemory NoMemory (λ (b : Vec ℕ Global). b.items) v o is
     (subst (λ d. (SentTrial d (Err o) × IsRefusal o) ⊎ NoMemory o) e refusal) (λ h. h)
 
 pub steps_of : (lines before now : ℕ) (document : List ℕ) → document ≡ trial_document lines

@@ -4,6 +4,8 @@ use Rattle.std.specs.Prelude.{◌≡◌, ℕ, zero, ◌+◌, ◌-◌, ◌<◌, �
 use Rattle.std.specs.Io.KnownBytes.{Appends}
 use Rattle.base_texts.specs.Faults.{HasRisen}
 use Rattle.base_texts.specs.Bytes.{AppendsFront}
+use Rattle.base_texts.specs.declared.sources.Source as sources
+use Rattle.base_texts.specs.declared.sinks.Sink as sinks
 use Rattle.base_trees.specs.Rose.{Rose}
 use Rattle.simple_types.specs.declared.labels.ValueLabel.{ValueLabel}
 use Rattle.asn_values.specs.Values.{In}
@@ -74,6 +76,11 @@ pub record Flow : Type 0 where
   pub written : Option (List ℕ)
   pub read_faults : ℕ
   pub write_faults : ℕ
+
+-- what is seen of an input and an output
+abbrev pub flow_between : {S K : Type 0} → sources.Ghosts S → sinks.Ghosts K → S → K → Flow
+flow_between of_input of_output input output =
+    record { left = of_input.left input; written = of_output.written output; read_faults = of_input.faults input; write_faults = of_output.faults output }
 
 -- What each outcome says. Where a read failed, each record that was taken whole was written, and nothing else: so each is written
 -- before an octet behind it is taken.

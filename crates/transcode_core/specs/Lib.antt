@@ -9,3 +9,4 @@ pub mod ReadBack
 pub mod Again
 pub mod Each
 pub mod Runs
+pub mod Environments

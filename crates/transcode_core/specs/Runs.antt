@@ -8,6 +8,9 @@ use Rattle.transcode_words.specs.declared.outcome.Outcome.TheVariants.{Done, Loa
 use Rattle.transcode_words.specs.Answers.{IsRefusal}
 use Rattle.transcode_words.specs.Lines.{line}
 use Rattle.base_texts.specs.declared.texts.Name.{Name}
+use Rattle.base_texts.specs.declared.libraries.Library as libraries
+use Rattle.base_texts.specs.declared.sources.Source as sources
+use Rattle.base_texts.specs.declared.sinks.Sink as sinks
 use Rattle.schema_components.specs.SetParts.{SetParts}
 use Rattle.transcode_core.specs.Steps.{RootType, Typed}
 use Rattle.transcode_core.specs.Due.{Opened, Due}
@@ -29,6 +32,23 @@ pub record Outside : Type 0 where
   pub write_faults : ℕ
   pub complaint_faults : ℕ
   pub steps : ℕ
+
+-- what is seen of a library, an input, an output, complaints and a count of steps
+abbrev pub outside : {F S K E : Type 0} → libraries.Ghosts F → sources.Ghosts S → sinks.Ghosts K → sinks.Ghosts E → F → S → K → E → ℕ → Outside
+outside of_files of_input of_output of_complaints files input output complaints steps =
+    record {
+      entries = of_files.entries files;
+      is_sure = of_files.is_sure files;
+      left = of_input.left input;
+      written = of_output.written output;
+      complained = of_complaints.written complaints;
+      room = of_output.free output;
+      load_faults = of_files.faults files;
+      read_faults = of_input.faults input;
+      write_faults = of_output.faults output;
+      complaint_faults = of_complaints.faults complaints;
+      steps = steps;
+    }
 
 -- Of the words, the outside before and after the call, whether input and output are the very objects as before, and the outcome.
 pub record Runs (words : List (List ℕ)) (old new : Outside) (same_input same_output : Type 0) (result : Outcome) : Type 0 where

@@ -18,10 +18,8 @@ pub fn read_items<S: Source>(alloc: Global, input: &mut S) -> Result<Items, Outc
     ensures stage { IfErr result IsOfInput }
     ensures later { S.faults input.old ≤ S.faults input.new }
 {
-    match read_input(alloc, input) {
-        Ok(bytes) => read_shared_items(alloc, bytes),
-        Err(outcome) => Err(outcome),
-    }
+    let bytes = read_input(alloc, input)?;
+    read_shared_items(alloc, bytes)
 }
 
 /// The items of the document that these bytes are: they are read where they lie.

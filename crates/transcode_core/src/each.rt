@@ -7,7 +7,7 @@ ghost use Rattle.asn_values.specs.Values.{In};
 ghost use Rattle.schema_components.specs.Components.{Set};
 ghost use Rattle.transcode_core.specs.Private.Seen.{type_seen};
 ghost use Rattle.transcode_core.specs.Steps.{IsTypeOf, Written};
-ghost use Rattle.transcode_core.specs.Each.{EachEnds, outcome_of};
+ghost use Rattle.transcode_core.specs.Each.{flow_between, EachEnds, outcome_of};
 
 use crate::opened::RootModule;
 use crate::receiving::write_value;
@@ -38,12 +38,10 @@ fn write_record<K: Sink>(
         × ((text : List ℕ) × Written (type_seen typed.now) value.now (Ok text) × AppendsFront (K.written output.old) (K.written output.new) text))) }
     ensures later { K.faults output.old ≤ K.faults output.new }
 {
-    match write_value(alloc, typed, value) {
-        Ok(text) => match write_all(output, &text) {
-            Ok(()) => Ok(()),
-            Err(Failed) => Err(Outcome::WriteFault),
-        },
-        Err(outcome) => Err(outcome),
+    let text = write_value(alloc, typed, value)?;
+    match write_all(output, &text) {
+        Ok(()) => Ok(()),
+        Err(Failed) => Err(Outcome::WriteFault),
     }
 }
 
@@ -70,8 +68,7 @@ fn write_each<S: Source, K: Sink>(
     requires start { (records.old.octet ≡ None) × (records.old.room ≡ LIMIT) × (records.old.records ≡ 0) }
     ensures same_reference { records.new.source.ghost_name ≡ records.old.source.ghost_name }
     ensures ends { EachEnds (type_seen typed.now)
-        (record { left = S.left records.old.source.now; written = K.written output.old; read_faults = S.faults records.old.source.now; write_faults = K.faults output.old })
-        (record { left = S.left records.new.source.now; written = K.written output.new; read_faults = S.faults records.new.source.now; write_faults = K.faults output.new }) result }
+        (flow_between S.Source K.Sink records.old.source.now output.old) (flow_between S.Source K.Sink records.new.source.now output.new) result }
     ensures reads { S.faults records.old.source.now ≤ S.faults records.new.source.now }
     ensures writes { K.faults output.old ≤ K.faults output.new }
     ensures end { result ≡ Outcome.Done → IsAtEnd (S.left records.new.source.now) }
@@ -99,8 +96,7 @@ pub fn write_records<S: Source, K: Sink>(
 ) -> Outcome
     requires { (set : Set) × (n : ℕ) × IsTypeOf set n (type_seen typed.now) }
     ensures ends { EachEnds (type_seen typed.now)
-        (record { left = S.left input.old; written = K.written output.old; read_faults = S.faults input.old; write_faults = K.faults output.old })
-        (record { left = S.left input.new; written = K.written output.new; read_faults = S.faults input.new; write_faults = K.faults output.new }) result }
+        (flow_between S.Source K.Sink input.old output.old) (flow_between S.Source K.Sink input.new output.new) result }
     ensures reads { S.faults input.old ≤ S.faults input.new }
     ensures writes { K.faults output.old ≤ K.faults output.new }
     ensures end { result ≡ Outcome.Done → IsAtEnd (S.left input.new) }

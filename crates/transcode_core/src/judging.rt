@@ -56,8 +56,6 @@ pub fn check_input<S: Source, L: Ledger>(
     ensures few { StepsUpTo (λ items. ItemsIn (S.left input.old) (Ok items)) steps.old steps.new }
     ensures many { OnOk result (StepsFrom (λ items. ItemsIn (S.left input.old) (Ok items)) steps.old steps.new) }
 {
-    match read_items(alloc, input) {
-        Ok(items) => judge(alloc, opened, &items, steps),
-        Err(outcome) => Err(outcome),
-    }
+    let items = read_items(alloc, input)?;
+    judge(alloc, opened, &items, steps)
 }

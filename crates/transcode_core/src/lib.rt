@@ -1,12 +1,14 @@
 //! Answers a command: from words, schema files and an input to an outcome and output bytes.
 //!
-//! Read first: docs/ORDER.md and docs/PROMISE.md; `specs/Runs` (the promise of `run`), `specs/Due` (the required result of a
+//! Read first: docs/reference/ORDER.md and docs/internals/PROMISE.md; `specs/Runs` (the promise of `run`), `specs/Due` (the required result of a
 //! command) and `specs/Steps`, then `run` in `src/top.rt`.
 #![tactic(auto)]
 
+mod counting;
 mod documents;
 mod each;
 mod eight_bits;
+mod environments;
 mod files;
 mod judging;
 mod laws;
@@ -22,6 +24,8 @@ mod top;
 mod trial;
 mod typing;
 
+pub use counting::run_in;
+pub use environments::Environment;
 pub use laws::{exactly_one_of_both, one_answer, some_answer, there_and_back, trial_elements};
 pub use prepared::Prepared;
 pub use top::run;

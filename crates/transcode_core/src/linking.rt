@@ -65,8 +65,6 @@ fn root_number(alloc: Global, root: Root<'_>, set: &SchemaSet) -> Result<u32, Ou
 pub fn open_set(alloc: Global, root: Root<'_>, set: SchemaSet) -> Result<Opened, Outcome>
     ensures { Answers opened_seen (Then (Rooted (root_seen root.entry) (parts_of set)) (λ n. Give (parts_of set, n))) NoMemory result }
 {
-    match root_number(alloc, root, &set) {
-        Ok(root) => Ok(Opened { set, root }),
-        Err(outcome) => Err(outcome),
-    }
+    let root = root_number(alloc, root, &set)?;
+    Ok(Opened { set, root })
 }

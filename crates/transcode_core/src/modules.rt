@@ -39,10 +39,8 @@ fn tell_of(alloc: Global, bytes: &[u8]) -> Result<Vec<u8>, Outcome>
     requires { length bytes.now ≤ 16777216 }
     ensures { Answers (λ text. text.items) (Then (ModuleIn bytes.now) (λ M. Give (back.summary M))) NoMemory result }
 {
-    match module_in(alloc, bytes) {
-        Ok(found) => tell(alloc, &found),
-        Err(outcome) => Err(outcome),
-    }
+    let found = module_in(alloc, bytes)?;
+    tell(alloc, &found)
 }
 
 /// What `show-back` answers for this file.
@@ -52,8 +50,6 @@ pub fn show_back<F: Library>(alloc: Global, files: &mut F, name: &Text) -> Resul
     ensures files { (F.entries files.new ≡ F.entries files.old) × (F.is_sure files.new ≡ F.is_sure files.old) }
     ensures later { F.faults files.old ≤ F.faults files.new }
 {
-    match load_file(alloc, files, 1, name) {
-        Ok(bytes) => tell_of(alloc, &bytes),
-        Err(outcome) => Err(outcome),
-    }
+    let bytes = load_file(alloc, files, 1, name)?;
+    tell_of(alloc, &bytes)
 }

@@ -28,10 +28,8 @@ pub fn read_set<F: Library>(
     ensures files { (F.entries files.new ≡ F.entries files.old) × (F.is_sure files.new ≡ F.is_sure files.old) }
     ensures later { F.faults files.old ≤ F.faults files.new }
 {
-    match load_schemas(alloc, files, names) {
-        Ok(documents) => link_files(alloc, &documents),
-        Err(outcome) => Err(outcome),
-    }
+    let documents = load_schemas(alloc, files, names)?;
+    link_files(alloc, &documents)
 }
 
 /// The set that these files are, with the root in it.
@@ -47,8 +45,6 @@ pub fn open_files<F: Library>(
     ensures files { (F.entries files.new ≡ F.entries files.old) × (F.is_sure files.new ≡ F.is_sure files.old) }
     ensures later { F.faults files.old ≤ F.faults files.new }
 {
-    match read_set(alloc, files, names) {
-        Ok(set) => open_set(alloc, root, set),
-        Err(outcome) => Err(outcome),
-    }
+    let set = read_set(alloc, files, names)?;
+    open_set(alloc, root, set)
 }

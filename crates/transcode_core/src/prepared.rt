@@ -9,20 +9,20 @@ ghost use Rattle.transcode_words.specs.Order.{Give, Then};
 ghost use Rattle.transcode_words.specs.Answers.{Answers, NoMemory};
 ghost use Rattle.transcode_core.specs.Private.Seen.{opened_seen};
 ghost use Rattle.transcode_core.specs.Preparing.{prepared_seen};
-ghost use Rattle.transcode_core.specs.Steps.{RootType, Typed, Judged};
+ghost use Rattle.transcode_core.specs.Steps.{RootType, Typed, Judged, ValueIn, Encoding};
 ghost use Rattle.transcode_core.specs.Due as due;
 ghost use Rattle.transcode_core.specs.Due.{ItemsIn, Checked, Encoded, Documented, Served};
-ghost use Rattle.transcode_core.specs.Each.{EachEnds};
+ghost use Rattle.transcode_core.specs.Each.{flow_between, EachEnds};
 ghost use Rattle.transcode_core.specs.ReadBack.{DocumentedBack, ServedBack};
 ghost use Rattle.transcode_core.specs.Causes.{SomeLoad, OneRead, Takes, LooksAt, StepsUpTo, IsOfInput, StepsFrom};
 
 use crate::documents::{lent_items, read_items};
 use crate::each::write_records;
-use crate::judging::judge;
+use crate::judging::{check_input, judge};
 use crate::opened::{Opened, RootModule};
 use crate::opening::open_files;
 use crate::receiving::write_input;
-use crate::sending::encode_items;
+use crate::sending::{encode_value, value_of};
 use crate::typing::map_root;
 use base_texts::{Library, Sink, Source, Steps, Text};
 use std::alloc::Global;
@@ -63,10 +63,8 @@ impl Prepared {
     pub fn of(alloc: Global, opened: Opened) -> Result<Prepared, Outcome>
         ensures { Answers prepared_seen (Give (opened_seen opened)) NoMemory result }
     {
-        match map_root(alloc, &opened) {
-            Ok(typed) => Ok(Prepared { opened, typed }),
-            Err(outcome) => Err(outcome),
-        }
+        let typed = map_root(alloc, &opened)?;
+        Ok(Prepared { opened, typed })
     }
 
     /// The set that these files are, with the root in it, and its map: or the first fault.
@@ -82,10 +80,8 @@ impl Prepared {
         ensures files { (F.entries files.new ≡ F.entries files.old) × (F.is_sure files.new ≡ F.is_sure files.old) }
         ensures later { F.faults files.old ≤ F.faults files.new }
     {
-        match open_files(alloc, files, root, names) {
-            Ok(opened) => Prepared::of(alloc, opened),
-            Err(outcome) => Err(outcome),
-        }
+        let opened = open_files(alloc, files, root, names)?;
+        Prepared::of(alloc, opened)
     }
 
     // Whether the document is valid for the root: it has no bytes to write.
@@ -116,10 +112,8 @@ impl Prepared {
         ensures few { StepsUpTo (λ items. ItemsIn (Some document.now) (Ok items)) steps.old steps.new }
         ensures many { OnOk result (StepsFrom (λ items. ItemsIn (Some document.now) (Ok items)) steps.old steps.new) }
     {
-        match lent_items(alloc, document) {
-            Ok(items) => self.judge(alloc, &items, steps),
-            Err(outcome) => Err(outcome),
-        }
+        let items = lent_items(alloc, document)?;
+        self.judge(alloc, &items, steps)
     }
 
     /// Whether the document in the input is valid.
@@ -136,10 +130,33 @@ impl Prepared {
         ensures few { StepsUpTo (λ items. ItemsIn (S.left input.old) (Ok items)) steps.old steps.new }
         ensures many { OnOk result (StepsFrom (λ items. ItemsIn (S.left input.old) (Ok items)) steps.old steps.new) }
     {
-        match read_items(alloc, input) {
-            Ok(items) => self.judge(alloc, &items, steps),
-            Err(outcome) => Err(outcome),
-        }
+        check_input(alloc, &self.opened, input, steps)
+    }
+
+    // States that the root has a type. Does nothing when it runs.
+    fn see_type(&self)
+        ensures { (type : RootType) × Typed (prepared_seen self.now) (Ok type) }
+    {
+        let _number = self.typed.number;
+    }
+
+    // The encoding of the value of the document, if it is valid.
+    fn encode_items<L: Ledger>(
+        &self,
+        alloc: Global,
+        syntax: Syntax,
+        items: &Items,
+        steps: &mut Steps<L>,
+    ) -> Result<Vec<u8>, Outcome>
+        ensures due { Answers (λ octets. octets.items) (Then (Typed (prepared_seen self.now)) (λ type.
+            Then (ValueIn (prepared_seen self.now) type items.now) (λ value. Encoding syntax type value))) NoMemory result }
+        ensures stage { IfErr result IsOfInput }
+        ensures most { steps.new ≤ steps.old + 144 * element_count items.now }
+        ensures later { steps.old ≤ steps.new }
+        ensures least { OnOk result (steps.old + element_count items.now ≤ steps.new + 1) }
+    {
+        let value = value_of(alloc, &self.opened, items, steps)?;
+        encode_value(alloc, syntax, &self.typed, &value)
     }
 
     /// The encoding, in a transfer syntax, of the value of the document that these bytes are.
@@ -155,10 +172,9 @@ impl Prepared {
         ensures few { StepsUpTo (λ items. ItemsIn (Some document.now) (Ok items)) steps.old steps.new }
         ensures many { OnOk result (StepsFrom (λ items. ItemsIn (Some document.now) (Ok items)) steps.old steps.new) }
     {
-        match lent_items(alloc, document) {
-            Ok(items) => encode_items(alloc, syntax, &self.opened, &self.typed, &items, steps),
-            Err(outcome) => Err(outcome),
-        }
+        self.see_type();
+        let items = lent_items(alloc, document)?;
+        self.encode_items(alloc, syntax, &items, steps)
     }
 
     /// The encoding of the value of the document in the input.
@@ -176,10 +192,9 @@ impl Prepared {
         ensures few { StepsUpTo (λ items. ItemsIn (S.left input.old) (Ok items)) steps.old steps.new }
         ensures many { OnOk result (StepsFrom (λ items. ItemsIn (S.left input.old) (Ok items)) steps.old steps.new) }
     {
-        match read_items(alloc, input) {
-            Ok(items) => encode_items(alloc, syntax, &self.opened, &self.typed, &items, steps),
-            Err(outcome) => Err(outcome),
-        }
+        self.see_type();
+        let items = read_items(alloc, input)?;
+        self.encode_items(alloc, syntax, &items, steps)
     }
 
     /// The document of the value of which the input is the encoding.
@@ -232,8 +247,7 @@ impl Prepared {
         output: &mut K,
     ) -> Outcome
         ensures answer { (type : RootType) × Typed (prepared_seen self.now) (Ok type) × EachEnds type
-            (record { left = S.left input.old; written = K.written output.old; read_faults = S.faults input.old; write_faults = K.faults output.old })
-            (record { left = S.left input.new; written = K.written output.new; read_faults = S.faults input.new; write_faults = K.faults output.new }) result }
+            (flow_between S.Source K.Sink input.old output.old) (flow_between S.Source K.Sink input.new output.new) result }
         ensures end { result ≡ Outcome.Done → IsAtEnd (S.left input.new) }
         ensures reads { S.faults input.old ≤ S.faults input.new }
         ensures writes { K.faults output.old ≤ K.faults output.new }

@@ -35,10 +35,8 @@ fn ends<S: Source>(input: &mut S) -> Result<bool, Failed>
     ensures cause { Counts (S.faults input.old) (S.faults input.new) (IsErr result) }
 {
     let mut octet = [0u8; 1];
-    match input.read(&mut octet) {
-        Ok(count) => Ok(count == 0),
-        Err(Failed) => Err(Failed),
-    }
+    let count = input.read(&mut octet)?;
+    Ok(count == 0)
 }
 
 // The value of which the input is the encoding in one of the two variants of canonical PER.
@@ -103,10 +101,8 @@ fn decode_whole<S: Source>(
     ensures stage { IfErr result IsOfInput }
     ensures later { S.faults input.old ≤ S.faults input.new }
 {
-    match read_input(alloc, input) {
-        Ok(octets) => decode_octets(alloc, typed, &octets),
-        Err(outcome) => Err(outcome),
-    }
+    let octets = read_input(alloc, input)?;
+    decode_octets(alloc, typed, &octets)
 }
 
 // The value of which the input is the encoding.
@@ -162,8 +158,6 @@ pub fn write_input<S: Source>(
     ensures taken { TakesOctets syntax (type_seen typed.now) (S.left input.old) (S.left input.new) }
     ensures later { S.faults input.old ≤ S.faults input.new }
 {
-    match decode_input(alloc, syntax, typed, input) {
-        Ok(value) => write_value(alloc, typed, &value),
-        Err(outcome) => Err(outcome),
-    }
+    let value = decode_input(alloc, syntax, typed, input)?;
+    write_value(alloc, typed, &value)
 }

@@ -16,10 +16,8 @@ fn read_file(alloc: Global, file: u32, bytes: &[u8]) -> Result<RawDoc, Outcome>
     requires { length bytes.now ≤ 16777216 }
     ensures { Answers doc_of (SchemaIn file bytes.now) NoMemory result }
 {
-    match read_schema_items(alloc, file, bytes) {
-        Ok(items) => read_components(alloc, file, &items),
-        Err(outcome) => Err(outcome),
-    }
+    let items = read_schema_items(alloc, file, bytes)?;
+    read_components(alloc, file, &items)
 }
 
 // Loads a schema file and reads it.
@@ -34,10 +32,8 @@ fn load_schema<F: Library>(
     ensures files { (F.entries files.new ≡ F.entries files.old) × (F.is_sure files.new ≡ F.is_sure files.old) }
     ensures later { F.faults files.old ≤ F.faults files.new }
 {
-    match load_file(alloc, files, file, name) {
-        Ok(bytes) => read_file(alloc, file, &bytes),
-        Err(outcome) => Err(outcome),
-    }
+    let bytes = load_file(alloc, files, file, name)?;
+    read_file(alloc, file, &bytes)
 }
 
 /// Loads the schema files and reads them, in their order: the components of each.
@@ -54,13 +50,9 @@ pub fn load_schemas<F: Library>(
 {
     let mut documents = Vec::new(alloc);
     for (i, name) in names.iter().enumerate() {
-        match load_schema(alloc, files, i as u32 + 1, name) {
-            Ok(document) => {
-                if documents.push(document).is_err() {
-                    return Err(Outcome::OutOfMemory);
-                }
-            }
-            Err(outcome) => return Err(outcome),
+        let document = load_schema(alloc, files, i as u32 + 1, name)?;
+        if documents.push(document).is_err() {
+            return Err(Outcome::OutOfMemory);
         }
     }
     Ok(documents)

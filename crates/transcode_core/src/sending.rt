@@ -5,7 +5,6 @@ ghost use Rattle.asn_values.specs.Values.{In};
 ghost use Rattle.transcode_core.specs.Private.Seen.{opened_seen, type_seen};
 ghost use Rattle.transcode_core.specs.Steps.{RootType, IsTypeOf, ValueIn, Encoding};
 ghost use Rattle.transcode_core.specs.Syntaxes.{per_syntax};
-ghost use Rattle.transcode_words.specs.Order.{Then};
 ghost use Rattle.transcode_words.specs.Answers.{Answers, NoMemory};
 ghost use Rattle.transcode_core.specs.Causes.{IsOfInput};
 
@@ -22,8 +21,8 @@ use transcode_words::{Outcome, Syntax};
 use xer_read::{ReadValueError, read_value};
 use xml_read::Items;
 
-// The value of the document, if it is valid: one value, in the map of the set.
-fn value_of<L: Ledger>(
+/// The value of the document, if it is valid: one value, in the map of the set.
+pub fn value_of<L: Ledger>(
     alloc: Global,
     opened: &Opened,
     items: &Items,
@@ -80,8 +79,8 @@ fn encode_distinguished(
     }
 }
 
-// The encoding of the value.
-fn encode_value(
+/// The encoding of the value.
+pub fn encode_value(
     alloc: Global,
     syntax: Syntax,
     typed: &RootModule,
@@ -95,28 +94,5 @@ fn encode_value(
         Syntax::Aligned => encode_per::<Aligned>(alloc, typed, value),
         Syntax::Unaligned => encode_per::<Unaligned>(alloc, typed, value),
         Syntax::Der => encode_distinguished(alloc, typed, value),
-    }
-}
-
-/// The encoding of the value of the document, if it is valid.
-pub fn encode_items<L: Ledger>(
-    alloc: Global,
-    syntax: Syntax,
-    opened: &Opened,
-    typed: &RootModule,
-    items: &Items,
-    steps: &mut Steps<L>,
-) -> Result<Vec<u8>, Outcome>
-    requires { IsTypeOf opened.now.set opened.now.root (type_seen typed.now) }
-    ensures due { Answers (λ octets. octets.items)
-        (Then (ValueIn (opened_seen opened.now) (type_seen typed.now) items.now) (λ value. Encoding syntax (type_seen typed.now) value)) NoMemory result }
-    ensures stage { IfErr result IsOfInput }
-    ensures most { steps.new ≤ steps.old + 144 * element_count items.now }
-    ensures later { steps.old ≤ steps.new }
-    ensures least { OnOk result (steps.old + element_count items.now ≤ steps.new + 1) }
-{
-    match value_of(alloc, opened, items, steps) {
-        Ok(value) => encode_value(alloc, syntax, typed, &value),
-        Err(outcome) => Err(outcome),
     }
 }

@@ -3,7 +3,7 @@ ghost use Rattle.std.specs.Prelude.{◌≡◌, ◌⊎◌, ℕ, ◌≤◌, true, 
 ghost use Rattle.std.specs.Io.KnownBytes.{Appends, IsAtEnd};
 ghost use Rattle.base_texts.specs.Faults.{HasRisen};
 ghost use Rattle.base_texts.specs.Bytes.{AppendsFront};
-ghost use Rattle.schema_components.specs.SetParts.{SetParts, parts_of};
+ghost use Rattle.schema_components.specs.SetParts.{parts_of};
 ghost use Rattle.transcode_words.specs.Lines.{line};
 ghost use Rattle.transcode_words.specs.Seen.{root_seen, seen};
 ghost use Rattle.transcode_core.specs.Private.Seen.{opened_seen};
@@ -12,34 +12,31 @@ ghost use Rattle.transcode_words.specs.Tasks.{reads, is_document};
 ghost use Rattle.transcode_core.specs.Private.Decided.{Decided};
 ghost use Rattle.transcode_core.specs.Trial as trial;
 ghost use Rattle.transcode_core.specs.Trial.{trial_name, trial_schema, trial_root};
-ghost use Rattle.transcode_core.specs.Steps.{RootType, Typed, Printed};
+ghost use Rattle.transcode_core.specs.Steps.{Printed};
 ghost use Rattle.transcode_words.specs.Order.{Give, Then};
 ghost use Rattle.transcode_core.specs.Due as due;
 ghost use Rattle.transcode_core.specs.Due.{SetIn, ItemsIn, Served, Tried, Answered};
-ghost use Rattle.transcode_core.specs.Runs.{Runs, RunsAs};
-ghost use Rattle.transcode_core.specs.Each.{EachEnds};
+ghost use Rattle.transcode_core.specs.Runs.{outside, Runs, RunsEach, RunsAs};
+ghost use Rattle.transcode_core.specs.Environments.{on_entry, on_exit};
 ghost use Rattle.transcode_core.specs.ReadBack.{ServedBack, AnsweredBack, ReadBack};
-ghost use Rattle.transcode_words.specs.Answers.{IsRefusal, Answers, NoMemory};
+ghost use Rattle.transcode_words.specs.Answers.{Answers, NoMemory};
 ghost use Rattle.transcode_core.specs.Causes.{SomeLoad, OneRead, reads_input, ReadsInput, Takes, TakesInput, LooksAt, TakesOfWords, ReadsItems, ReadsOfWords, StepsUpTo, IsOfInput, Answering, Deciding, StepsFrom, reads_document, ReadsDocument};
 
+use crate::environments::Environment;
 use crate::judging::check_input;
+use crate::laws::one_answer;
 use crate::modules::show_back;
 use crate::opened::Opened;
 use crate::opening::{open_files, read_set};
 use crate::prepared::Prepared;
 use crate::trial::{self, schema_files, schema_name, summary, trial_document};
 use base_texts::{Failed, Library, Sink, Source, Steps, SureSource, Text, write_all};
-use der_fields::stops_first as stops_of_der;
 use map_assignments::map_set;
 use module_print::print_module;
-use module_read::one_answer as one_module;
-use per_fields::{either_variant as octets_of_either, stops_of_either};
 use schema_components::SchemaSet;
 use std::alloc::Global;
 use std::sync::ledger::Ledger;
 use transcode_words::{Outcome, Request, Root, Syntax, Task, read_each, read_words, write_line};
-use validity_rules::at_most_one;
-use value_laws::one_value;
 
 // The text of the module of the set.
 fn print(alloc: Global, set: &SchemaSet) -> Result<Vec<u8>, Outcome>
@@ -62,10 +59,8 @@ fn show<F: Library>(alloc: Global, files: &mut F, names: &[Text]) -> Result<Vec<
     ensures files { (F.entries files.new ≡ F.entries files.old) × (F.is_sure files.new ≡ F.is_sure files.old) }
     ensures later { F.faults files.old ≤ F.faults files.new }
 {
-    match read_set(alloc, files, names) {
-        Ok(set) => print(alloc, &set),
-        Err(outcome) => Err(outcome),
-    }
+    let set = read_set(alloc, files, names)?;
+    print(alloc, &set)
 }
 
 // Serves a task that needs the map of the set.
@@ -85,10 +80,8 @@ fn serve_prepared<S: Source, L: Ledger>(
     ensures few { StepsUpTo (LooksAt (reads task) (S.left input.old)) steps.old steps.new }
     ensures many { is_document (reads task) ≡ true → OnOk result (StepsFrom (LooksAt (reads task) (S.left input.old)) steps.old steps.new) }
 {
-    match Prepared::of(alloc, opened) {
-        Ok(prepared) => prepared.serve(alloc, task, input, steps),
-        Err(outcome) => Err(outcome),
-    }
+    let prepared = Prepared::of(alloc, opened)?;
+    prepared.serve(alloc, task, input, steps)
 }
 
 // What the task makes of this set and the input.
@@ -114,32 +107,36 @@ fn serve_input<S: Source, L: Ledger>(
     }
 }
 
-// What the task makes of this root, these files and the input.
+// A task, with the root and the schema files that it is for.
+#[derive(Clone, Copy)]
+struct Service<'a> {
+    task: Task,
+    root: Root<'a>,
+    names: &'a [Text],
+}
+
+// What the task makes of the root, the files and the input.
 fn serve<F: Library, S: Source, L: Ledger>(
     alloc: Global,
-    task: Task,
-    root: Root<'_>,
-    names: &[Text],
+    service: Service<'_>,
     files: &mut F,
     input: &mut S,
     steps: &mut Steps<L>,
 ) -> Result<Vec<u8>, Outcome>
-    requires { length names.now ≤ 64 }
-    ensures due { Answers (λ bytes. bytes.items) (Answered (F.entries files.old) (S.left input.old) (command.Serve task (root_seen root.entry) names.now))
-        (Answering (F.faults files.old) (F.faults files.new) (F.is_sure files.old) (F.entries files.old) (S.faults input.old) (S.faults input.new) (command.Serve task (root_seen root.entry) names.now)) result }
-    ensures back { IfOk result (λ bytes. AnsweredBack (F.entries files.old) (S.left input.old) (command.Serve task (root_seen root.entry) names.now) bytes.items) }
+    requires { length service.names.now ≤ 64 }
+    ensures due { Answers (λ bytes. bytes.items) (Answered (F.entries files.old) (S.left input.old) (command.Serve service.entry.task (root_seen service.entry.root) service.entry.names.now))
+        (Answering (F.faults files.old) (F.faults files.new) (F.is_sure files.old) (F.entries files.old) (S.faults input.old) (S.faults input.new) (command.Serve service.entry.task (root_seen service.entry.root) service.entry.names.now)) result }
+    ensures back { IfOk result (λ bytes. AnsweredBack (F.entries files.old) (S.left input.old) (command.Serve service.entry.task (root_seen service.entry.root) service.entry.names.now) bytes.items) }
     ensures end { OnOk result (IsAtEnd (S.left input.new)) }
-    ensures untouched { (input.new ≡ input.old) ⊎ (TakesInput (F.entries files.old) (command.Serve task (root_seen root.entry) names.now) (S.left input.old) (S.left input.new) × IfErr result IsOfInput) }
+    ensures untouched { (input.new ≡ input.old) ⊎ (TakesInput (F.entries files.old) (command.Serve service.entry.task (root_seen service.entry.root) service.entry.names.now) (S.left input.old) (S.left input.new) × IfErr result IsOfInput) }
     ensures files { (F.entries files.new ≡ F.entries files.old) × (F.is_sure files.new ≡ F.is_sure files.old) }
     ensures loads { F.faults files.old ≤ F.faults files.new }
     ensures reads { S.faults input.old ≤ S.faults input.new }
-    ensures few { StepsUpTo (LooksAt (reads task) (S.left input.old)) steps.old steps.new }
-    ensures many { is_document (reads task) ≡ true → OnOk result (StepsFrom (LooksAt (reads task) (S.left input.old)) steps.old steps.new) }
+    ensures few { StepsUpTo (LooksAt (reads service.entry.task) (S.left input.old)) steps.old steps.new }
+    ensures many { is_document (reads service.entry.task) ≡ true → OnOk result (StepsFrom (LooksAt (reads service.entry.task) (S.left input.old)) steps.old steps.new) }
 {
-    match open_files(alloc, files, root, names) {
-        Ok(opened) => serve_input(alloc, task, opened, input, steps),
-        Err(outcome) => Err(outcome),
-    }
+    let opened = open_files(alloc, files, service.root, service.names)?;
+    serve_input(alloc, service.task, opened, input, steps)
 }
 
 // What `to-per` makes of a document over the schema of the trial.
@@ -156,16 +153,12 @@ fn encode_trial<L: Ledger>(
         return Err(Outcome::OutOfMemory);
     };
     let mut input = SureSource::new(document, Vec::new(alloc));
-    let task = Task::Send(Syntax::Aligned);
-    serve(
-        alloc,
-        task,
-        trial::ROOT,
-        &[name],
-        &mut files,
-        &mut input,
-        steps,
-    )
+    let service = Service {
+        task: Task::Send(Syntax::Aligned),
+        root: trial::ROOT,
+        names: &[name],
+    };
+    serve(alloc, service, &mut files, &mut input, steps)
 }
 
 // How many bytes there are.
@@ -196,10 +189,8 @@ fn try_out<L: Ledger>(alloc: Global, lines: u32, steps: &mut Steps<L>) -> Result
         return Err(Outcome::OutOfMemory);
     };
     let length = length_of(&document);
-    match encode_trial(alloc, document, steps) {
-        Ok(octets) => tell(alloc, lines, length, &octets),
-        Err(outcome) => Err(outcome),
-    }
+    let octets = encode_trial(alloc, document, steps)?;
+    tell(alloc, lines, length, &octets)
 }
 
 // What the command answers.
@@ -229,7 +220,7 @@ fn answer<F: Library, S: Source, L: Ledger>(
             task,
             root,
             files: names,
-        } => serve(alloc, task, root, names, files, input, steps),
+        } => serve(alloc, Service { task, root, names }, files, input, steps),
         Request::Trial { lines } => try_out(alloc, lines, steps),
     }
 }
@@ -253,110 +244,72 @@ fn decide<F: Library, S: Source, L: Ledger>(
     ensures few { StepsUpTo (ReadsOfWords words.now (S.left input.old)) steps.old steps.new }
     ensures many { ReadsDocument words.now → OnOk result (StepsFrom (ReadsOfWords words.now (S.left input.old)) steps.old steps.new) }
 {
-    match read_words(words) {
-        Ok(request) => answer(alloc, request, files, input, steps),
-        Err(outcome) => Err(outcome),
-    }
+    let request = read_words(words)?;
+    answer(alloc, request, files, input, steps)
 }
 
-// Tells complaints of the outcome, which stands whatever becomes of its line.
-fn complain<E: Sink>(outcome: Outcome, complaints: &mut E)
+// Writes the line of the outcome, and returns the outcome whatever becomes of the line.
+fn complain<E: Sink>(outcome: Outcome, complaints: &mut E) -> Outcome
+    ensures same { result ≡ outcome }
     ensures complaint { Appends (E.written complaints.old) (E.written complaints.new) (line outcome)
         ⊎ (HasRisen (E.faults complaints.old) (E.faults complaints.new) × AppendsFront (E.written complaints.old) (E.written complaints.new) (line outcome)) }
     ensures later { E.faults complaints.old ≤ E.faults complaints.new }
 {
     let _ = write_line(&outcome, complaints);
+    outcome
 }
 
-// What `each-to-xml` makes of this root, these files and the input.
-fn serve_each<F: Library, S: Source, K: Sink>(
+// Does what `each-to-xml` asks for.
+fn run_each<F: Library, S: Source, K: Sink, E: Sink>(
     alloc: Global,
     root: Root<'_>,
     names: &[Text],
-    files: &mut F,
-    input: &mut S,
-    output: &mut K,
+    environment: Environment<'_, F, S, K, E>,
 ) -> Outcome
     requires { length names.now ≤ 64 }
-    ensures answer { ((input.new ≡ input.old) × (output.new ≡ output.old)
-        × ((due.Opened (F.entries files.old) (root_seen root.entry) names.now (Err result) × IsRefusal result)
-        ⊎ SomeLoad (F.faults files.old) (F.faults files.new) (F.is_sure files.old) (F.entries files.old) names.now result))
-        ⊎ ((opened : SetParts × ℕ) × due.Opened (F.entries files.old) (root_seen root.entry) names.now (Ok opened) × ((type : RootType) × Typed opened (Ok type) × EachEnds type
-        (record { left = S.left input.old; written = K.written output.old; read_faults = S.faults input.old; write_faults = K.faults output.old })
-        (record { left = S.left input.new; written = K.written output.new; read_faults = S.faults input.new; write_faults = K.faults output.new }) result)) }
-    ensures end { result ≡ Outcome.Done → IsAtEnd (S.left input.new) }
-    ensures files { (F.entries files.new ≡ F.entries files.old) × (F.is_sure files.new ≡ F.is_sure files.old) }
-    ensures loads { F.faults files.old ≤ F.faults files.new }
-    ensures reads { S.faults input.old ≤ S.faults input.new }
-    ensures writes { K.faults output.old ≤ K.faults output.new }
+    ensures { (steps : ℕ) → RunsEach (root_seen root.entry) names.now
+        (on_entry F.Library S.Source K.Sink E.Sink environment.entry steps) (on_exit F.Library S.Source K.Sink E.Sink environment.exit steps)
+        (environment.exit.1.0.now ≡ environment.entry.input.now) (environment.exit.1.1.0.now ≡ environment.entry.output.now) result }
 {
-    match Prepared::open(alloc, files, root, names) {
-        Ok(prepared) => prepared.write_each(alloc, input, output),
-        Err(outcome) => outcome,
-    }
+    let Environment {
+        files,
+        input,
+        output,
+        complaints,
+    } = environment;
+    let prepared = match Prepared::open(alloc, files, root, names) {
+        Ok(prepared) => prepared,
+        Err(failure) => return complain(failure, complaints),
+    };
+    let outcome = prepared.write_each(alloc, input, output);
+    complain(outcome, complaints)
 }
 
-// The commands that answer whole, or not at all.
+// Does what the commands ask for that answer whole, or not at all.
 fn run_whole<F: Library, S: Source, K: Sink, E: Sink, L: Ledger>(
     alloc: Global,
     words: &[Text],
-    files: &mut F,
-    input: &mut S,
-    output: &mut K,
-    complaints: &mut E,
+    environment: Environment<'_, F, S, K, E>,
     steps: &mut Steps<L>,
 ) -> Outcome
     ensures { Runs words.now
-        (record {
-          entries = F.entries files.old;
-          is_sure = F.is_sure files.old;
-          left = S.left input.old;
-          written = K.written output.old;
-          complained = E.written complaints.old;
-          room = K.free output.old;
-          load_faults = F.faults files.old;
-          read_faults = S.faults input.old;
-          write_faults = K.faults output.old;
-          complaint_faults = E.faults complaints.old;
-          steps = steps.old;
-        })
-        (record {
-          entries = F.entries files.new;
-          is_sure = F.is_sure files.new;
-          left = S.left input.new;
-          written = K.written output.new;
-          complained = E.written complaints.new;
-          room = K.free output.new;
-          load_faults = F.faults files.new;
-          read_faults = S.faults input.new;
-          write_faults = K.faults output.new;
-          complaint_faults = E.faults complaints.new;
-          steps = steps.new;
-        })
-        (input.new ≡ input.old) (output.new ≡ output.old) result }
+        (on_entry F.Library S.Source K.Sink E.Sink environment.entry steps.old) (on_exit F.Library S.Source K.Sink E.Sink environment.exit steps.new)
+        (environment.exit.1.0.now ≡ environment.entry.input.now) (environment.exit.1.1.0.now ≡ environment.entry.output.now) result }
 {
-    // What is due is one thing: documents are valid in one way, and have one value, octets are of one, and bytes of one module.
-    at_most_one();
-    one_value();
-    octets_of_either();
-    stops_of_either();
-    stops_of_der();
-    one_module();
+    // At most one outcome is due, with one list of bytes.
+    one_answer();
+    let Environment {
+        files,
+        input,
+        output,
+        complaints,
+    } = environment;
     match decide(alloc, words, files, input, steps) {
         Ok(bytes) => match write_all(output, &bytes) {
-            Ok(()) => {
-                complain(Outcome::Done, complaints);
-                Outcome::Done
-            }
-            Err(Failed) => {
-                complain(Outcome::WriteFault, complaints);
-                Outcome::WriteFault
-            }
+            Ok(()) => complain(Outcome::Done, complaints),
+            Err(Failed) => complain(Outcome::WriteFault, complaints),
         },
-        Err(outcome) => {
-            complain(outcome, complaints);
-            outcome
-        }
+        Err(outcome) => complain(outcome, complaints),
     }
 }
 
@@ -393,40 +346,18 @@ pub fn run<F: Library, S: Source, K: Sink, E: Sink, L: Ledger>(
     steps: &mut Steps<L>,
 ) -> Outcome
     ensures { RunsAs (command.each_asked words.now) words.now
-        (record {
-          entries = F.entries files.old;
-          is_sure = F.is_sure files.old;
-          left = S.left input.old;
-          written = K.written output.old;
-          complained = E.written complaints.old;
-          room = K.free output.old;
-          load_faults = F.faults files.old;
-          read_faults = S.faults input.old;
-          write_faults = K.faults output.old;
-          complaint_faults = E.faults complaints.old;
-          steps = steps.old;
-        })
-        (record {
-          entries = F.entries files.new;
-          is_sure = F.is_sure files.new;
-          left = S.left input.new;
-          written = K.written output.new;
-          complained = E.written complaints.new;
-          room = K.free output.new;
-          load_faults = F.faults files.new;
-          read_faults = S.faults input.new;
-          write_faults = K.faults output.new;
-          complaint_faults = E.faults complaints.new;
-          steps = steps.new;
-        })
+        (outside F.Library S.Source K.Sink E.Sink files.old input.old output.old complaints.old steps.old)
+        (outside F.Library S.Source K.Sink E.Sink files.new input.new output.new complaints.new steps.new)
         (input.new ≡ input.old) (output.new ≡ output.old) result }
 {
+    let environment = Environment {
+        files,
+        input,
+        output,
+        complaints,
+    };
     match read_each(words) {
-        Some((root, names)) => {
-            let outcome = serve_each(alloc, root, names, files, input, output);
-            complain(outcome, complaints);
-            outcome
-        }
-        None => run_whole(alloc, words, files, input, output, complaints, steps),
+        Some((root, names)) => run_each(alloc, root, names, environment),
+        None => run_whole(alloc, words, environment, steps),
     }
 }

@@ -56,10 +56,8 @@ fn encode_counted<L: Ledger>(
 pub fn check(alloc: Global, prepared: &Prepared, document: &[u8]) -> Result<(), Outcome>
     ensures { Answers (λ _. []) (Checked (prepared_seen prepared.now) (Some document.now)) NoMemory result }
 {
-    match check_counted::<Brand>(alloc, prepared, document, Blank::new(1)) {
-        Ok(_) => Ok(()),
-        Err(outcome) => Err(outcome),
-    }
+    check_counted::<Brand>(alloc, prepared, document, Blank::new(1))?;
+    Ok(())
 }
 
 /// The encoding, in the transfer syntax, of the one value whose items are those of the document, if it is valid.
@@ -71,10 +69,8 @@ pub fn encode(
 ) -> Result<Message, Outcome>
     ensures { Answers (λ message. message.bytes.items) (Encoded syntax (prepared_seen prepared.now) (Some document.now)) NoMemory result }
 {
-    match encode_counted::<Brand>(alloc, prepared, syntax, document, Blank::new(1)) {
-        Ok(bytes) => Ok(Message { bytes }),
-        Err(outcome) => Err(outcome),
-    }
+    let bytes = encode_counted::<Brand>(alloc, prepared, syntax, document, Blank::new(1))?;
+    Ok(Message { bytes })
 }
 
 /// The document of the one value of which the octets are the whole encoding, which is read back as this value's items.
@@ -88,8 +84,6 @@ pub fn decode(
     ensures back { IfOk result (λ message. DocumentedBack syntax (prepared_seen prepared.now) (Some octets.now) message.bytes.items) }
 {
     let mut input = Lent::new(octets);
-    match prepared.decode(alloc, syntax, &mut input) {
-        Ok(bytes) => Ok(Message { bytes }),
-        Err(outcome) => Err(outcome),
-    }
+    let bytes = prepared.decode(alloc, syntax, &mut input)?;
+    Ok(Message { bytes })
 }

@@ -1,31 +1,10 @@
 //! A row is run, and what came is compared with what is due.
-ghost use Rattle.std.specs.Prelude.{◌≡◌, ◌<◌};
 
 use crate::error::LineError;
 use crate::row::{Call, Calls, Due, Row};
-use base_texts::{Library, MemoryLibrary, MemorySink, MemorySource, Sink, Source, Steps, Text};
+use base_texts::{MemoryLibrary, MemorySink, MemorySource};
 use std::alloc::Global;
-use std::marker::Brand;
-use std::sync::ledger::{Blank, Ledger};
-use transcode_core::{Outcome, run};
-
-// Does what the words ask for, and counts steps in a ledger of its own.
-fn run_counted<F: Library, S: Source, K: Sink, E: Sink, L: Ledger>(
-    alloc: Global,
-    words: &[Text],
-    files: &mut F,
-    input: &mut S,
-    output: &mut K,
-    complaints: &mut E,
-    blank: Blank,
-) -> Outcome
-    requires name { blank.name ≡ L.name }
-    requires parts { blank.parts ≡ L.parts }
-    requires some { 0 < L.parts }
-{
-    let mut steps = Steps::<L>::new(blank);
-    run(alloc, words, files, input, output, complaints, &mut steps)
-}
+use transcode_core::{Environment, run_in};
 
 // What came of a row.
 #[derive(Drop)]
@@ -54,7 +33,7 @@ fn source(contents: Vec<u8>, calls: Calls) -> Result<MemorySource, LineError> {
     Ok(MemorySource::new(contents, calls.fails, calls.pieces))
 }
 
-// Calls `run` as the row says.
+// Calls `run_in` as the row says.
 fn call_run(alloc: Global, call: Call) -> Result<Answer, LineError> {
     let Call {
         words,
@@ -70,14 +49,15 @@ fn call_run(alloc: Global, call: Call) -> Result<Answer, LineError> {
     let mut input = source(input, reads)?;
     let mut output = sink(alloc, room, writes)?;
     let mut complaints = sink(alloc, LINE_ROOM, complaints)?;
-    let outcome = run_counted::<_, _, _, _, Brand>(
+    let outcome = run_in(
         alloc,
         &words,
-        &mut files,
-        &mut input,
-        &mut output,
-        &mut complaints,
-        Blank::new(1),
+        Environment {
+            files: &mut files,
+            input: &mut input,
+            output: &mut output,
+            complaints: &mut complaints,
+        },
     );
     Ok(Answer {
         status: outcome.status(),

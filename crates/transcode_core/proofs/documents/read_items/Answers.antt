@@ -5,16 +5,17 @@ use Rattle.transcode_words.specs.declared.outcome.Outcome.TheVariants.{DocSyntax
 use Rattle.transcode_core.specs.Steps.{Input, Read}
 use Rattle.transcode_words.specs.Answers.{NoMemory}
 use Rattle.transcode_core.specs.Causes.{OneRead}
-use Rattle.transcode_words.proofs.Joined.{passed, refused}
+use Rattle.transcode_words.proofs.Joined.{passed}
+use Rattle.transcode_core.proofs.Exits.{refused_by}
 use Rattle.transcode_core.proofs.documents.read_items.Goals as goal
 
-pub returns-in-Ok-clause-due : goal.returns-in-Ok-clause-due
-returns-in-Ok-clause-due g c =
+pub returns-clause-due : goal.returns-clause-due
+returns-clause-due g c =
     passed (Input (g.S.Source.left c.args.input.now)) (λ bytes. Read (λ at why. DocSyntax at why) bytes) NoMemory
-    (OneRead (g.S.Source.faults c.args.input.now) (g.S.Source.faults c.read_input.new.input)) (λ (items : Rose ItemLabel). items) c.in-Ok.bytes.items c.read_shared_items.result
-    c.in-Ok.ensures.due c.read_shared_items.ensures.due (λ o h. inl h)
+    (OneRead (g.S.Source.faults c.args.input.now) (g.S.Source.faults c.read_input.new.input)) (λ (items : Rose ItemLabel). items) c.in_ok-bytes.bytes.items c.read_shared_items.result
+    c.in_ok-bytes.ensures.due c.read_shared_items.ensures.due (λ o h. inl h)
 
-pub returns-in-Err-clause-due : goal.returns-in-Err-clause-due
-returns-in-Err-clause-due g c =
+pub returns-in_err-bytes-clause-due : goal.returns-in_err-bytes-clause-due
+returns-in_err-bytes-clause-due g c =
     let cause = OneRead (g.S.Source.faults c.args.input.now) (g.S.Source.faults c.read_input.new.input) in
-    refused (Input (g.S.Source.left c.args.input.now)) (λ bytes. Read (λ at why. DocSyntax at why) bytes) cause cause (λ (items : Rose ItemLabel). items) c.in-Err.outcome c.in-Err.ensures.due (λ h. h)
+    refused_by (Input (g.S.Source.left c.args.input.now)) (λ bytes. Read (λ at why. DocSyntax at why) bytes) cause cause (λ (items : Rose ItemLabel). items) c.from_residual.result c.in_err-bytes.field-0.0 c.from_residual.ensures.1 c.in_err-bytes.ensures.due (λ h. h)

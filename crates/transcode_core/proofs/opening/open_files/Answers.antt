@@ -7,19 +7,20 @@ use Rattle.transcode_core.specs.Steps.{Rooted}
 use Rattle.transcode_core.specs.Due.{SetIn}
 use Rattle.transcode_words.specs.Answers.{NoMemory}
 use Rattle.transcode_core.specs.Causes.{SomeLoad}
-use Rattle.transcode_words.proofs.Joined.{passed, refused}
+use Rattle.transcode_words.proofs.Joined.{passed}
+use Rattle.transcode_core.proofs.Exits.{refused_by}
 use Rattle.transcode_core.proofs.opening.open_files.Goals as goal
 
-pub returns-in-Ok-clause-due : goal.returns-in-Ok-clause-due
-returns-in-Ok-clause-due g c =
+pub returns-clause-due : goal.returns-clause-due
+returns-clause-due g c =
     let entries = g.F.Library.entries c.args.files.now in
     passed (SetIn entries c.args.names.now) (λ (parts : SetParts). Then (Rooted (root_seen c.args.root) parts) (λ (n : ℕ). Give (parts, n))) NoMemory
     (SomeLoad (g.F.Library.faults c.args.files.now) (g.F.Library.faults c.read_set.new.files) (g.F.Library.is_sure c.args.files.now) entries c.args.names.now)
-    opened_seen (parts_of c.in-Ok.set) c.open_set.result c.in-Ok.ensures.due c.open_set.ensures (λ o h. inl h)
+    opened_seen (parts_of c.in_ok-set.set) c.open_set.result c.in_ok-set.ensures.due c.open_set.ensures (λ o h. inl h)
 
-pub returns-in-Err-clause-due : goal.returns-in-Err-clause-due
-returns-in-Err-clause-due g c =
+pub returns-in_err-set-clause-due : goal.returns-in_err-set-clause-due
+returns-in_err-set-clause-due g c =
     let entries = g.F.Library.entries c.args.files.now in
     let cause = SomeLoad (g.F.Library.faults c.args.files.now) (g.F.Library.faults c.read_set.new.files) (g.F.Library.is_sure c.args.files.now) entries c.args.names.now in
-    refused (SetIn entries c.args.names.now) (λ (parts : SetParts). Then (Rooted (root_seen c.args.root) parts) (λ (n : ℕ). Give (parts, n))) cause cause
-    opened_seen c.in-Err.outcome c.in-Err.ensures.due (λ h. h)
+    refused_by (SetIn entries c.args.names.now) (λ (parts : SetParts). Then (Rooted (root_seen c.args.root) parts) (λ (n : ℕ). Give (parts, n))) cause cause
+    opened_seen c.from_residual.result c.in_err-set.field-0.0 c.from_residual.ensures.1 c.in_err-set.ensures.due (λ h. h)

@@ -8,22 +8,23 @@ use Rattle.transcode_core.specs.Private.Seen.{type_seen}
 use Rattle.transcode_core.specs.Steps.{Decoded, Written}
 use Rattle.transcode_words.specs.Answers.{NoMemory}
 use Rattle.transcode_core.specs.Causes.{OneRead}
-use Rattle.transcode_words.proofs.Joined.{passed, refused}
+use Rattle.transcode_words.proofs.Joined.{passed}
+use Rattle.transcode_core.proofs.Exits.{refused_by}
 use Rattle.transcode_core.proofs.receiving.write_input.Goals as goal
 
-pub returns-in-Ok-clause-due : goal.returns-in-Ok-clause-due
-returns-in-Ok-clause-due g c =
+pub returns-clause-due : goal.returns-clause-due
+returns-clause-due g c =
     let type = type_seen c.args.typed.now in
     let cause = OneRead (g.S.Source.faults c.args.input.now) (g.S.Source.faults c.decode_input.new.input) in
     passed (Decoded c.args.syntax type (g.S.Source.left c.args.input.now)) (λ (value : Rose ValueLabel). Written type value) NoMemory cause
-    (λ (bytes : Vec ℕ Global). bytes.items) c.in-Ok.value c.write_value.result c.in-Ok.ensures.due c.write_value.ensures.due (λ o h. inl h)
+    (λ (bytes : Vec ℕ Global). bytes.items) c.in_ok-value.value c.write_value.result c.in_ok-value.ensures.due c.write_value.ensures.due (λ o h. inl h)
 
-pub returns-in-Err-clause-due : goal.returns-in-Err-clause-due
-returns-in-Err-clause-due g c =
+pub returns-in_err-value-clause-due : goal.returns-in_err-value-clause-due
+returns-in_err-value-clause-due g c =
     let type = type_seen c.args.typed.now in
     let cause = OneRead (g.S.Source.faults c.args.input.now) (g.S.Source.faults c.decode_input.new.input) in
-    refused (Decoded c.args.syntax type (g.S.Source.left c.args.input.now)) (λ (value : Rose ValueLabel). Written type value) cause cause
-    (λ (bytes : Vec ℕ Global). bytes.items) c.in-Err.outcome c.in-Err.ensures.due (λ h. h)
+    refused_by (Decoded c.args.syntax type (g.S.Source.left c.args.input.now)) (λ (value : Rose ValueLabel). Written type value) cause cause
+    (λ (bytes : Vec ℕ Global). bytes.items) c.from_residual.result c.in_err-value.field-0.0 c.from_residual.ensures.1 c.in_err-value.ensures.due (λ h. h)
 
-pub returns-in-Ok-clause-back : goal.returns-in-Ok-clause-back
-returns-in-Ok-clause-back g c = IfOk-weaker c.write_value.result _ _ (λ text back. (c.in-Ok.value, c.in-Ok.ensures.due, back)) c.write_value.ensures.back
+pub returns-clause-back : goal.returns-clause-back
+returns-clause-back g c = IfOk-weaker c.write_value.result _ _ (λ text back. (c.in_ok-value.value, c.in_ok-value.ensures.due, back)) c.write_value.ensures.back

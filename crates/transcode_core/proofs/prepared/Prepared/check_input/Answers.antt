@@ -1,35 +1,15 @@
-use Rattle.std.proofs.Common.{ℕ, ◌+◌, ◌≤◌, [], inl, inr}
-use Rattle.std.specs.Prelude.{Vec, Ok}
+use Rattle.std.proofs.Common.{ℕ, subst}
+use Rattle.std.specs.Prelude.{Vec}
 use Rattle.std.specs.declared.alloc.Global.{Global}
-use Rattle.schema_components.specs.SetParts.{parts_of}
-use Rattle.transcode_words.specs.Order.{Give, Then}
-use Rattle.transcode_core.specs.Steps.{Judged}
-use Rattle.transcode_core.specs.Due.{ItemsIn}
-use Rattle.transcode_words.specs.Answers.{NoMemory}
-use Rattle.transcode_core.specs.Causes.{OneRead, StepsFrom}
-use Rattle.xml_items.specs.Counts.{element_count}
-use Rattle.validity_check.proofs.Counting.{on-ok}
-use Rattle.transcode_words.proofs.Joined.{passed, refused}
+use Rattle.schema_components.specs.Components.{Set}
+use Rattle.transcode_words.specs.Answers.{Answers}
+use Rattle.transcode_core.specs.Preparing.{prepared_seen}
+use Rattle.transcode_core.specs.Due.{Checked}
+use Rattle.transcode_core.specs.Causes.{OneRead}
 use Rattle.transcode_core.proofs.prepared.Prepared.check_input.Goals as goal
 
-pub returns-in-Ok-clause-due : goal.returns-in-Ok-clause-due
-returns-in-Ok-clause-due g c =
-    let opened = c.args.self.now in
-    passed (ItemsIn (g.S.Source.left c.args.input.now)) (λ items. Then (Judged (parts_of opened.0) opened.1 items) (λ _. Give [])) NoMemory
-    (OneRead (g.S.Source.faults c.args.input.now) (g.S.Source.faults c.read_items.new.input)) (λ (bytes : Vec ℕ Global). bytes.items) c.in-Ok.items c.judge.result
-    c.in-Ok.ensures.due c.judge.ensures.due (λ o h. inl h)
-
-pub returns-in-Err-clause-due : goal.returns-in-Err-clause-due
-returns-in-Err-clause-due g c =
-    let opened = c.args.self.now in
-    let cause = OneRead (g.S.Source.faults c.args.input.now) (g.S.Source.faults c.read_items.new.input) in
-    refused (ItemsIn (g.S.Source.left c.args.input.now)) (λ items. Then (Judged (parts_of opened.0) opened.1 items) (λ _. Give [])) cause cause
-    (λ (bytes : Vec ℕ Global). bytes.items) c.in-Err.outcome c.in-Err.ensures.due (λ h. h)
-
-pub returns-in-Ok-clause-few : goal.returns-in-Ok-clause-few
-returns-in-Ok-clause-few g c = inr (c.in-Ok.items, c.in-Ok.ensures.due, c.judge.ensures.later, c.judge.ensures.most)
-
-pub returns-in-Ok-clause-many : goal.returns-in-Ok-clause-many
-returns-in-Ok-clause-many g c =
-    on-ok c.judge.result (c.args.steps.now + element_count c.in-Ok.items ≤ c.judge.new.steps + 1) (StepsFrom (λ items. ItemsIn (g.S.Source.left c.args.input.now) (Ok items)) c.args.steps.now c.judge.new.steps)
-    (λ h. (c.in-Ok.items, c.in-Ok.ensures.due, h)) c.judge.ensures.least
+pub returns-clause-due : goal.returns-clause-due
+returns-clause-due g c =
+    let cause = OneRead (g.S.Source.faults c.args.input.now) (g.S.Source.faults c.check_input.new.input) in
+    subst (λ (p : Set × ℕ). Answers (λ (bytes : Vec ℕ Global). bytes.items) (Checked (prepared_seen p) (g.S.Source.left c.args.input.now)) cause c.check_input.result) c.self.view_is
+    c.check_input.ensures.due

@@ -1,7 +1,7 @@
 use Rattle.std.proofs.Common.{◌≡◌, refl, inl}
 use Rattle.transcode_words.specs.declared.outcome.Outcome.TheVariants.{Done, Usage}
 use Rattle.people_results.proofs.Commands.{nothing_whole, runs_whole}
-use Rattle.people_results.proofs.answering.run_counted.Goals as goal
+use Rattle.people_results.proofs.answering.run_whole.Goals as goal
 
 pub returns-in-Some : goal.returns-in-Some
 returns-in-Some g c =
@@ -13,7 +13,7 @@ returns-in-Some g c =
 
 pub returns-in-None : goal.returns-in-None
 returns-in-None g c =
-    let runs = runs_whole _ _ _ _ _ c.in-None.ensures.found c.run.ensures in
+    let runs = runs_whole _ _ _ _ _ c.in-None.ensures.found c.run_in.ensures.1 in
     record {
       done = λ e. let d = runs.done e in (d.0, d.1, d.3);
       refused = runs.refused;

@@ -1,5 +1,0 @@
--- the ledger is that of the blank
-use Rattle.transcode_rows.proofs.running.call_run.Given as goal
-
-abbrev pub ghosts-run_counted : goal.ghosts-run_counted
-ghosts-run_counted a = record { name = a.blank.name; parts = a.blank.parts }
