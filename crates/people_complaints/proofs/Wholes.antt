@@ -1,7 +1,7 @@
 -- Complaints that tell no byte.
 use Rattle.std.proofs.Common.{◌≡◌, ◌⊎◌, inl, inr, ℕ, List, [], ◌++◌, codes, decimal, Result, Ok, Err, IfOk, ◌∙◌, ap}
 use Rattle.transcode_words.specs.declared.outcome.Outcome.{Outcome}
-use Rattle.transcode_words.specs.declared.outcome.Outcome.TheVariants.{Done, Usage, SchemaSyntax, SchemaFault, LinkFault, UnknownRoot, DocSyntax, Invalid, PerFault, RecordFault, DerFault, ModuleFault, Trailing, TooLong, TooManyNodes, LoadFault, ReadFault, WriteFault, OutOfMemory}
+use Rattle.transcode_words.specs.declared.outcome.Outcome.TheVariants.{Done, Usage, SchemaSyntax, SchemaFault, LinkFault, UnknownRoot, Stamp, DocSyntax, Invalid, PerFault, RecordFault, DerFault, ModuleFault, Trailing, TooLong, TooManyNodes, LoadFault, ReadFault, WriteFault, OutOfMemory}
 use Rattle.transcode_words.specs.Lines.{der_reason}
 use Rattle.der_fields.specs.declared.stops.Why.{Why}
 use Rattle.people_complaints.specs.Telling.{explained}
@@ -39,6 +39,7 @@ pub whole : (o : Outcome) (name contents within r means remedy told : List ℕ) 
 whole Done name contents within r means remedy told is named e = (r, means, remedy, named, e)
 whole Usage name contents within r means remedy told is named e = (r, means, remedy, named, e)
 whole UnknownRoot name contents within r means remedy told is named e = (r, means, remedy, named, e)
+whole Stamp name contents within r means remedy told is named e = (r, means, remedy, named, e)
 whole (TooLong k) name contents within r means remedy told is named e = (r, means, remedy, named, e)
 whole (TooManyNodes count) name contents within r means remedy told is named e = (r, means, remedy, named, e)
 whole (LoadFault k) name contents within r means remedy told is named e = (r, means, remedy, named, e)
@@ -59,19 +60,20 @@ whole (Trailing at) name contents within r means remedy told is named e = absurd
 -- one of these
 abbrev pub IsOneWhole : Outcome → Type 0
 IsOneWhole o =
-    (o ≡ Done) ⊎ ((o ≡ Usage) ⊎ ((o ≡ UnknownRoot) ⊎ (((k : ℕ) × (o ≡ TooLong k)) ⊎ (((count : ℕ) × (o ≡ TooManyNodes count))
-    ⊎ (((k : ℕ) × (o ≡ LoadFault k)) ⊎ ((o ≡ ReadFault) ⊎ ((o ≡ WriteFault) ⊎ (o ≡ OutOfMemory))))))))
+    (o ≡ Done) ⊎ ((o ≡ Usage) ⊎ ((o ≡ UnknownRoot) ⊎ ((o ≡ Stamp) ⊎ (((k : ℕ) × (o ≡ TooLong k)) ⊎ (((count : ℕ) × (o ≡ TooManyNodes count))
+    ⊎ (((k : ℕ) × (o ≡ LoadFault k)) ⊎ ((o ≡ ReadFault) ⊎ ((o ≡ WriteFault) ⊎ (o ≡ OutOfMemory)))))))))
 
 pub is_whole : (o : Outcome) → IsOneWhole o → IsWhole o
 is_whole o (inl e) = rw e tt
 is_whole o (inr (inl e)) = rw e tt
 is_whole o (inr (inr (inl e))) = rw e tt
-is_whole o (inr (inr (inr (inl (k, e))))) = rw e tt
-is_whole o (inr (inr (inr (inr (inl (count, e)))))) = rw e tt
-is_whole o (inr (inr (inr (inr (inr (inl (k, e))))))) = rw e tt
-is_whole o (inr (inr (inr (inr (inr (inr (inl e))))))) = rw e tt
+is_whole o (inr (inr (inr (inl e)))) = rw e tt
+is_whole o (inr (inr (inr (inr (inl (k, e)))))) = rw e tt
+is_whole o (inr (inr (inr (inr (inr (inl (count, e))))))) = rw e tt
+is_whole o (inr (inr (inr (inr (inr (inr (inl (k, e)))))))) = rw e tt
 is_whole o (inr (inr (inr (inr (inr (inr (inr (inl e)))))))) = rw e tt
-is_whole o (inr (inr (inr (inr (inr (inr (inr (inr e)))))))) = rw e tt
+is_whole o (inr (inr (inr (inr (inr (inr (inr (inr (inl e))))))))) = rw e tt
+is_whole o (inr (inr (inr (inr (inr (inr (inr (inr (inr e))))))))) = rw e tt
 
 -- ---- the text, where there is memory for it
 

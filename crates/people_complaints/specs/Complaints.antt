@@ -4,7 +4,7 @@ use Rattle.base_trees.specs.Rose.{Rose}
 use Rattle.xml_items.specs.declared.label.ItemLabel.{ItemLabel}
 use Rattle.xml_read.specs.Documents.{DocOf}
 use Rattle.transcode_words.specs.declared.outcome.Outcome.{Outcome}
-use Rattle.transcode_words.specs.declared.outcome.Outcome.TheVariants.{Done, Usage, SchemaSyntax, SchemaFault, LinkFault, UnknownRoot, DocSyntax, Invalid, PerFault, RecordFault, DerFault, ModuleFault, Trailing, TooLong, TooManyNodes, LoadFault, ReadFault, WriteFault, OutOfMemory}
+use Rattle.transcode_words.specs.declared.outcome.Outcome.TheVariants.{Done, Usage, SchemaSyntax, SchemaFault, LinkFault, UnknownRoot, Stamp, DocSyntax, Invalid, PerFault, RecordFault, DerFault, ModuleFault, Trailing, TooLong, TooManyNodes, LoadFault, ReadFault, WriteFault, OutOfMemory}
 use Rattle.transcode_words.specs.Lines as lines
 pub use Rattle.transcode_words.specs.Status.{IsNamed}
 use Rattle.people_complaints.specs.Paths.{IsPath}

@@ -65,6 +65,7 @@ pub fn complaint(
         Outcome::Done
         | Outcome::Usage
         | Outcome::UnknownRoot
+        | Outcome::Stamp
         | Outcome::TooLong { .. }
         | Outcome::TooManyNodes { .. }
         | Outcome::LoadFault { .. }

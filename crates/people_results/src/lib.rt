@@ -5,7 +5,6 @@
 
 mod answering;
 mod results;
-mod stamps;
 
 pub use results::{NoResult, behind_stamp, due_of, module_of, stamp_of_files, stamped};
-pub use stamps::{LENGTH, stamp_line, stamp_of};
+pub use transcode_core::{STAMP_LENGTH, stamp_line, stamp_of};

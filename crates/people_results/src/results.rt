@@ -7,9 +7,9 @@ ghost use Rattle.people_results.specs.Results as rule;
 ghost use Rattle.people_results.specs.Results.{IsStamped, IsBehindStamp};
 
 use crate::answering::answer;
-use crate::stamps::{LENGTH, stamp_of};
 use base_texts::{Failed, Library, Memory, Source, SureSource, Text};
 use std::alloc::Global;
+use transcode_core::{STAMP_LENGTH, stamp_of};
 use transcode_words::Outcome;
 
 /// Why there is nothing to be written.
@@ -86,7 +86,7 @@ pub fn stamp_of_files<F: Library>(
     alloc: Global,
     files: &[Text],
     library: &mut F,
-) -> Result<[u8; LENGTH], Outcome>
+) -> Result<[u8; STAMP_LENGTH], Outcome>
     ensures done { IfOk result (λ stamp. rule.IsStampOf files.now (F.entries library.old) stamp) }
     ensures refused { IfErr result (λ o. IsRefusal o → Due (rule.show_words files.now) (F.entries library.old) (Some []) o []) }
     ensures entries { F.entries library.new ≡ F.entries library.old }
@@ -96,7 +96,7 @@ pub fn stamp_of_files<F: Library>(
 }
 
 // The octets behind the stamp.
-fn joined(alloc: Global, stamp: [u8; LENGTH], octets: &[u8]) -> Result<Vec<u8>, Memory>
+fn joined(alloc: Global, stamp: [u8; STAMP_LENGTH], octets: &[u8]) -> Result<Vec<u8>, Memory>
     ensures { IfOk result (λ whole. whole.items ≡ stamp ++ octets.now) }
 {
     let mut whole = Vec::from_slice(alloc, stamp.as_slice())?;
@@ -136,7 +136,7 @@ fn take_octet<S: Source>(input: &mut S, due: u8) -> Result<(), NoResult>
 }
 
 // Takes the stamp before the octets.
-fn take_stamp<S: Source>(input: &mut S, stamp: [u8; LENGTH]) -> Result<(), NoResult>
+fn take_stamp<S: Source>(input: &mut S, stamp: [u8; STAMP_LENGTH]) -> Result<(), NoResult>
     ensures { OnOk result (Consumes (S.left input.old) (S.left input.new) stamp) }
 {
     for octet in stamp {

@@ -128,3 +128,15 @@ module _ (M : List Assignment) (t number room octet : ℕ) (was held : Option �
               let gone : Some (drop f.count left) ≡ Some left = sym f.takes.rest ∙ same in
               let short : drop f.count left ≡ left = cc in
               absurd (omega (arith, ap length short, length-drop f.count left, f.takes.inside, some_left octet old left begins_left, f.says.1, complete-some M t found.value f.says.0.value))
+
+-- an octet that is still held is the first that was left, and behind it stands what the source has left
+pub held_first : (old : Option (List ℕ)) (octet : ℕ) (inner now : Option (List ℕ)) (left : List ℕ) → Keeps old (left_with (Some octet) inner) → old ≡ Some left → now ≡ inner
+    → (1 ≤ length left) × (now ≡ Some (drop 1 left))
+held_first old octet None now left keeps is same = absurd (subst (λ o. Keeps o (left_with (Some octet) None)) is keeps)
+held_first old octet (Some xs) now left keeps is same =
+    let e : octet ∷ xs ≡ left = subst (λ o. Keeps o (left_with (Some octet) (Some xs))) is keeps in
+    (omega (arith, ap length e), same ∙ ap (λ ys. Some (drop 1 ys)) e)
+
+-- none is held
+pub none_is_held : (held : Option ℕ) (octet : ℕ) → held ≡ None → held ≡ Some octet → ⊥
+none_is_held held octet none some = let clash : None ≡ Some octet = sym none ∙ some in cc

@@ -1,5 +1,5 @@
 //! Records, one behind the other.
-ghost use Rattle.std.specs.Prelude.{◌≡◌, ℕ, ◌+◌, ◌*◌, ◌≤◌, ◌<◌, List, [], length, None, Some, IfOk, IfSome, IsSome, MatchOption, OnOk, OnErr, IsErr, IsErrOf};
+ghost use Rattle.std.specs.Prelude.{◌≡◌, ℕ, ◌+◌, ◌*◌, ◌≤◌, ◌<◌, List, [], length, drop, None, Some, IfOk, IfSome, IsSome, MatchOption, OnOk, OnErr, IsErr, IsErrOf};
 ghost use Rattle.std.specs.Io.KnownBytes.{Keeps, IsAtEnd};
 ghost use Rattle.base_texts.specs.Faults.{Counts, one_more};
 ghost use Rattle.asn_values.specs.Values.{In};
@@ -108,6 +108,7 @@ impl<'a, S: Source> Records<'a, S> {
         ensures stays { OnErr result ((self.new.room ≡ self.old.room) × (self.new.records ≡ self.old.records)) }
         ensures failed { IsErrOf result RecordError.Failed → self.new.octet ≡ None }
         ensures cause { Counts (S.faults self.old.source.now) (S.faults self.new.source.now) (IsErrOf result RecordError.Failed) }
+        ensures untouched { (held : ℕ) → self.new.octet ≡ Some held → S.left self.new.source.now ≡ S.left self.old.source.now }
     {
         let most = RECORD_LIMIT.min(self.room);
         let mut answer = Err(DecodeError::Memory);
@@ -163,6 +164,9 @@ impl<'a, S: Source> Records<'a, S> {
         ensures stays { OnErr result ((self.new.room ≡ self.old.room) × (self.new.records ≡ self.old.records)) }
         ensures failed { IsErrOf result RecordError.Failed → self.new.octet ≡ None }
         ensures cause { Counts (S.faults self.old.source.now) (S.faults self.new.source.now) (IsErrOf result RecordError.Failed) }
+        // An octet that is still held is the first that was left, and the only one that was taken.
+        ensures held { (left : List ℕ) → left_with self.old.octet (S.left self.old.source.now) ≡ Some left
+            → (octet : ℕ) → self.new.octet ≡ Some octet → (1 ≤ length left) × (S.left self.new.source.now ≡ Some (drop 1 left)) }
     {
         match self.peek() {
             Ok(Some(octet)) => self.take(alloc, module, t, octet),

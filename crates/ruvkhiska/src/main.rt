@@ -116,7 +116,8 @@ fn about<'a>(work: &'a Work<'_>, outcome: Outcome) -> (&'a str, &'a [u8]) {
             (name, work.files.contents(name).unwrap_or(b""))
         }
         Outcome::TooLong { file } if file > 0 => (file_name(work.asked, file), b""),
-        Outcome::DocSyntax { .. }
+        Outcome::Stamp
+        | Outcome::DocSyntax { .. }
         | Outcome::Invalid { .. }
         | Outcome::PerFault { .. }
         | Outcome::RecordFault { .. }

@@ -4,7 +4,7 @@ use Rattle.std.specs.Prelude.{IfSome, IsSomeAnd, IfErr, MatchResult, IsUtf8}
 use Rattle.base_texts.specs.declared.texts.Name.{Name}
 use Rattle.schema_components.specs.Components.{Set}
 use Rattle.transcode_words.specs.declared.outcome.Outcome.{Outcome}
-use Rattle.transcode_words.specs.declared.outcome.Outcome.TheVariants.{Done, Usage, SchemaSyntax, SchemaFault, LinkFault, UnknownRoot, DocSyntax, Invalid, PerFault, RecordFault, DerFault, ModuleFault, Trailing, TooLong, TooManyNodes, LoadFault, ReadFault, WriteFault, OutOfMemory}
+use Rattle.transcode_words.specs.declared.outcome.Outcome.TheVariants.{Done, Usage, SchemaSyntax, SchemaFault, LinkFault, UnknownRoot, Stamp, DocSyntax, Invalid, PerFault, RecordFault, DerFault, ModuleFault, Trailing, TooLong, TooManyNodes, LoadFault, ReadFault, WriteFault, OutOfMemory}
 use Rattle.transcode_words.specs.Answers.{Answers, IsRefusal, NoMemory}
 use Rattle.transcode_words.specs.Status.{status}
 use Rattle.transcode_core.specs.Due.{Opened}
@@ -23,6 +23,7 @@ status_in_c (SchemaSyntax _ _ _) = refl
 status_in_c (SchemaFault _ _ _) = refl
 status_in_c (LinkFault _ _ _) = refl
 status_in_c UnknownRoot = refl
+status_in_c Stamp = refl
 status_in_c (DocSyntax _ _) = refl
 status_in_c (Invalid _ _) = refl
 status_in_c (PerFault _ _) = refl

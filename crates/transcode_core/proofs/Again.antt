@@ -33,7 +33,7 @@ same_type opened a b p q = ok_inj b a (Typed-single opened (Ok b) (Ok a) q p)
 
 module _ (documents : DocumentsOfValues) (opened : SetParts × ℕ) where
   -- a text that is read as the items of a value is valid with them as its treated items
-  valid_text : (type : RootType) → Typed opened (Ok type) → (v : Rose ValueLabel) → Fits type.assignments type.number v
+  pub valid_text : (type : RootType) → Typed opened (Ok type) → (v : Rose ValueLabel) → Fits type.assignments type.number v
       → (items : Rose Plain) → Xer type.assignments type.number v ≡ Some items → (text : List ℕ) → ReadsAs text (unplaced items) → IsValidText opened text items
   valid_text type (s, of_s, h) v fits items is text reads =
       let M = type.assignments in
@@ -56,7 +56,7 @@ pub taken_in_set : (syntax : Syntax) (opened : SetParts × ℕ) (document octets
 taken_in_set syntax opened document octets (type, typed, (items, read, (v, (treated, judged, valued), encodes))) few =
     (written (unplaced treated), (type, typed, (v, decoded_whole type syntax octets v (few, valued.0, encodes.0), (treated, valued.1, refl))))
 
-document_of : (document : List ℕ) (items : Rose ItemLabel) → ItemsIn (Some document) (Ok items) → DocOf document items
+pub document_of : (document : List ℕ) (items : Rose ItemLabel) → ItemsIn (Some document) (Ok items) → DocOf document items
 document_of document items (bytes, (is, few), read) = subst (λ (b : List ℕ). DocOf b items) (sym is) read
 
 -- its treated items are those of the first

@@ -67,15 +67,15 @@ use Rattle.transcode_core.proofs.Roots.{number-within}
 abbrev pub IsAnswered : {A : Type 0} → (Result A Outcome → Type 0) → Type 0
 IsAnswered {A} step = (v : Result A Outcome) × step v
 
-Give-answered : {A : Type 0} (a : A) → IsAnswered (Give a)
+pub Give-answered : {A : Type 0} (a : A) → IsAnswered (Give a)
 Give-answered a = (Ok a, refl)
 
-Found-answered : {A : Type 0} (found : Option A) (refusal : Outcome) → IsAnswered (Found found refusal)
+pub Found-answered : {A : Type 0} (found : Option A) (refusal : Outcome) → IsAnswered (Found found refusal)
 Found-answered (Some a) refusal = (Ok a, refl)
 Found-answered None refusal = (Err refusal, (refl, refl))
 
 -- the next step may use what the first passed on
-Then-with : {A B : Type 0} (first : Result A Outcome → Type 0) (next : A → Result B Outcome → Type 0)
+pub Then-with : {A B : Type 0} (first : Result A Outcome → Type 0) (next : A → Result B Outcome → Type 0)
     → IsAnswered first → ((a : A) → first (Ok a) → IsAnswered (next a)) → IsAnswered (Then first next)
 Then-with {A} {B} first next (Ok a, p) each = let w = each a p in by w.0 w.1
   where
@@ -86,7 +86,7 @@ Then-with first next (Err o, p) each = (Err o, inl p)
 
 -- ---- files
 
-loaded_from : (entries : List (List ℕ × List ℕ)) (k : ℕ) (name : List ℕ) (found : Option (List ℕ)) → beside name entries ≡ found → IsAnswered (Loaded (Some entries) k name)
+pub loaded_from : (entries : List (List ℕ × List ℕ)) (k : ℕ) (name : List ℕ) (found : Option (List ℕ)) → beside name entries ≡ found → IsAnswered (Loaded (Some entries) k name)
 loaded_from entries k name None is = (Err (LoadFault k), inr (refl, is))
 loaded_from entries k name (Some bytes) is = elim (cases_lt 16777216 (length bytes)) [
   | inl long ↦ (Err (TooLong k), inl (refl, (bytes, is, long)))
@@ -122,7 +122,7 @@ module _ (document : (bytes : List ℕ) → ((x : tree.Rose ItemLabel) × DocOf 
       Then-with (Schema (Some entries) k name) (λ first. Then (Schemas (Some entries) (k + 1) names) (λ others. Give (first ∷ others))) (Schema-answered entries k name) (λ first is.
       Then-with (Schemas (Some entries) (k + 1) names) (λ others. Give (first ∷ others)) (Schemas-answered entries (k + 1) names) (λ others rest. Give-answered (first ∷ others)))
 
-  ItemsIn-answered : (left : List ℕ) → IsAnswered (ItemsIn (Some left))
+  pub ItemsIn-answered : (left : List ℕ) → IsAnswered (ItemsIn (Some left))
   ItemsIn-answered left =
       Then-with (Input (Some left)) (λ bytes. Read (λ at why. DocSyntax at why) bytes) (Input-answered left) (λ bytes input. Read-answered (λ at why. DocSyntax at why) bytes)
 
@@ -137,7 +137,7 @@ of_utf8 some bytes few utf8 = elim (some bytes few utf8) [
   | inr bad ↦ (Err (ModuleFault bad.0 bad.1), (bad.0, bad.1, bad.2, refl))
 ]
 
-ModuleIn-answered : SomeAnswer → (bytes : List ℕ) → length bytes ≤ 16777216 → IsAnswered (ModuleIn bytes)
+pub ModuleIn-answered : SomeAnswer → (bytes : List ℕ) → length bytes ≤ 16777216 → IsAnswered (ModuleIn bytes)
 ModuleIn-answered some bytes few = elim (is_utf8 bytes) as (λ (b : Bool). is_utf8 bytes ≡ b → IsAnswered (ModuleIn bytes)) [
   | true ↦ (λ e. of_utf8 some bytes few (IsUtf8-from_is_utf8 bytes e))
   | false ↦ (λ e. no_utf8 bytes (λ u. let yes : is_utf8 bytes ≡ true = is_utf8-from_IsUtf8 bytes u in absurd cc))
@@ -164,7 +164,7 @@ pub record HasMap (parts : SetParts) : Type 0 where
 Printed-answered : (parts : SetParts) → HasMap parts → IsAnswered (Printed parts)
 Printed-answered parts h = (Ok (printed h.map), (h.set, h.of_set, h.map, h.is_map, refl))
 
-are_linked : (parts : SetParts) → HasMap parts → AreLinked parts
+pub are_linked : (parts : SetParts) → HasMap parts → AreLinked parts
 are_linked parts h = (h.set, h.linked, h.of_set)
 
 -- ---- documents
@@ -176,7 +176,7 @@ module _ (valid : AtLeastOne) where
     | inr fault ↦ (Err (Invalid fault.0 fault.1), ((s, linked, refl), (fault.0, fault.1, fault.2, refl)))
   ]
 
-  Judged-answered : (parts : SetParts) (n : ℕ) → AreLinked parts → (items : tree.Rose ItemLabel) → AreItems items → IsAnswered (Judged parts n items)
+  pub Judged-answered : (parts : SetParts) (n : ℕ) → AreLinked parts → (items : tree.Rose ItemLabel) → AreItems items → IsAnswered (Judged parts n items)
   Judged-answered parts n (s, linked, of_s) items are = subst (λ p. IsAnswered (Judged p n items)) of_s (judged_in s linked n items are)
 
 -- ---- types and values
@@ -197,7 +197,7 @@ type_in s linked small M is_map is_module bounded n global = (
   },
 )
 
-Typed-answered : (parts : SetParts) (n : ℕ) → HasMap parts → n < parts.globals → IsAnswered (Typed (parts, n))
+pub Typed-answered : (parts : SetParts) (n : ℕ) → HasMap parts → n < parts.globals → IsAnswered (Typed (parts, n))
 Typed-answered parts n h global =
     let below : n < h.set.globals = subst (λ (p : SetParts). n < p.globals) (sym h.of_set) global in
     let type = type_in h.set h.linked h.small h.map h.is_map h.is_module h.is_bounded n below in
@@ -211,7 +211,7 @@ module _ (values : ValuesOfItems) (parts : SetParts) (n : ℕ) (type : RootType)
       let v = values s M h.linked h.small h.is_map n h.global items b are (subst (λ p. Valid p n items b) (sym of_s) valid) in
       (v.0, subst (λ t. Fits M t v.0) (sym h.number_is) v.1, subst (λ t. Xer M t v.0 ≡ Some b) (sym h.number_is) v.2)
 
-  Valued-answered : IsRootType parts n type → (items : tree.Rose ItemLabel) → AreItems items → (b : Rose Plain) → Judged parts n items (Ok b) → IsAnswered (Valued type b)
+  pub Valued-answered : IsRootType parts n type → (items : tree.Rose ItemLabel) → AreItems items → (b : Rose Plain) → Judged parts n items (Ok b) → IsAnswered (Valued type b)
   Valued-answered is items are b judged =
       let v = valued_in is items are b judged.1 in
       elim (cases_lt 1048576 (node_count v.0)) [
@@ -221,7 +221,7 @@ module _ (values : ValuesOfItems) (parts : SetParts) (n : ℕ) (type : RootType)
 
 -- ---- octets
 
-Encoding-answered : AllSyntaxes → (syntax : Syntax) (type : RootType) (v : Rose ValueLabel) → IsAnswered (Encoding syntax type v)
+pub Encoding-answered : AllSyntaxes → (syntax : Syntax) (type : RootType) (v : Rose ValueLabel) → IsAnswered (Encoding syntax type v)
 Encoding-answered laws syntax type v = let octets = (laws syntax).encodes type.assignments type.number v in (Ok octets.0, (octets.1, octets.2))
 
 module _ (laws : AllSyntaxes) (type : RootType) {s : Set} {n : ℕ} (h : IsTypeOf s n type) (octets : List ℕ) where
@@ -260,7 +260,7 @@ module _ (laws : AllSyntaxes) (type : RootType) {s : Set} {n : ℕ} (h : IsTypeO
       | inr has ↦ (Err has.0.refusal, (fine, inl (has.0, has.1, refl)))
     ]
 
-Decoded-answered : AllSyntaxes → (syntax : Syntax) (type : RootType) (s : Set) (n : ℕ) → IsTypeOf s n type → (octets : List ℕ) → AreOctetsOf syntax octets
+pub Decoded-answered : AllSyntaxes → (syntax : Syntax) (type : RootType) (s : Set) (n : ℕ) → IsTypeOf s n type → (octets : List ℕ) → AreOctetsOf syntax octets
     → IsAnswered (Decoded syntax type (Some octets))
 Decoded-answered laws Aligned type s n h octets fine = streamed_answered laws type h octets Aligned (λ _. tt)
 Decoded-answered laws Unaligned type s n h octets fine = streamed_answered laws type h octets Unaligned (λ _. tt)
@@ -268,7 +268,7 @@ Decoded-answered laws Der type s n h octets fine =
     Then-with (Input (Some octets)) (λ bytes. DecodedOf Der type bytes) (Input-answered octets) (λ bytes all.
     decoded_of_answered laws type h bytes Der (subst (λ xs. AreOctetsOf Der xs) all.0 fine))
 
-Written-answered : ItemsOfValues → (parts : SetParts) (n : ℕ) (type : RootType) → IsRootType parts n type → (v : Rose ValueLabel) → Fits type.assignments type.number v
+pub Written-answered : ItemsOfValues → (parts : SetParts) (n : ℕ) (type : RootType) → IsRootType parts n type → (v : Rose ValueLabel) → Fits type.assignments type.number v
     → IsAnswered (Written type v)
 Written-answered items parts n type (s, of_s, h) v fits =
     let M = type.assignments in
@@ -297,12 +297,12 @@ pub record SetLaws (entries : List (List ℕ × List ℕ)) : Type 0 where
       → (parts : SetParts) → AreParts documents parts → HasMap parts
 
 module _ (laws : Laws) (entries : List (List ℕ × List ℕ)) (sets : SetLaws entries) where
-  SetIn-answered : (files : List (List ℕ)) → IsAnswered (SetIn (Some entries) files)
+  pub SetIn-answered : (files : List (List ℕ)) → IsAnswered (SetIn (Some entries) files)
   SetIn-answered files =
       Then-with (Schemas (Some entries) 1 files) (λ documents. Linked documents) (Schemas-answered laws.document entries 1 files) (λ documents read.
       Linked-answered documents (laws.linking documents) (λ passed. sets.made files documents read passed))
 
-  has_map : (files : List (List ℕ)) (parts : SetParts) → SetIn (Some entries) files (Ok parts) → HasMap parts
+  pub has_map : (files : List (List ℕ)) (parts : SetParts) → SetIn (Some entries) files (Ok parts) → HasMap parts
   has_map files parts (documents, read, (passed, are)) = sets.mapped files documents read passed parts are
 
   Opened-answered : (root : Name) (files : List (List ℕ)) → IsAnswered (Opened (Some entries) root files)
@@ -310,18 +310,18 @@ module _ (laws : Laws) (entries : List (List ℕ × List ℕ)) (sets : SetLaws e
       Then-with (SetIn (Some entries) files) (λ parts. Then (Rooted root parts) (λ n. Give (parts, n))) (SetIn-answered files) (λ parts set.
       Then-with (Rooted root parts) (λ n. Give (parts, n)) (Found-answered (number_named root (take parts.globals parts.elements)) UnknownRoot) (λ n found. Give-answered (parts, n)))
 
-  record IsOpened (opened : SetParts × ℕ) : Type 0 where
-    map : HasMap opened.0
-    global : opened.1 < opened.0.globals
+  pub record IsOpened (opened : SetParts × ℕ) : Type 0 where
+    pub map : HasMap opened.0
+    pub global : opened.1 < opened.0.globals
 
   is_opened : (root : Name) (files : List (List ℕ)) (opened : SetParts × ℕ) → Opened (Some entries) root files (Ok opened) → IsOpened opened
   is_opened root files opened (parts, set, (n, found, is)) =
       subst IsOpened (sym is) (record { map = has_map files parts set; global = number-within root parts.globals parts.elements n found })
 
-  items_are : (left : List ℕ) (items : tree.Rose ItemLabel) → ItemsIn (Some left) (Ok items) → AreItems items
+  pub items_are : (left : List ℕ) (items : tree.Rose ItemLabel) → ItemsIn (Some left) (Ok items) → AreItems items
   items_are left items (bytes, (is, few), read) = laws.items bytes items read (omega (arith, few))
 
-  Checked-answered : (opened : SetParts × ℕ) → IsOpened opened → (left : List ℕ) → IsAnswered (Checked opened (Some left))
+  pub Checked-answered : (opened : SetParts × ℕ) → IsOpened opened → (left : List ℕ) → IsAnswered (Checked opened (Some left))
   Checked-answered opened h left =
       Then-with (ItemsIn (Some left)) (λ items. Then (Judged opened.0 opened.1 items) (λ _. Give [])) (ItemsIn-answered laws.document left) (λ items read.
       Then-with (Judged opened.0 opened.1 items) (λ _. Give []) (Judged-answered laws.valid opened.0 opened.1 (are_linked opened.0 h.map) items (items_are left items read))
@@ -353,7 +353,7 @@ module _ (laws : Laws) (entries : List (List ℕ × List ℕ)) (sets : SetLaws e
   task_answered task root files left fine =
       Then-with (Opened (Some entries) root files) (λ opened. Served task opened (Some left)) (Opened-answered root files) (λ opened is. Served-answered task opened (is_opened root files opened is) left fine)
 
-Tried-answered : Laws → SetLaws ((trial_name, trial_schema) ∷ []) → (lines : ℕ) → IsAnswered (Tried lines)
+pub Tried-answered : Laws → SetLaws ((trial_name, trial_schema) ∷ []) → (lines : ℕ) → IsAnswered (Tried lines)
 Tried-answered laws sets lines =
     Then-with (TrialSent lines) (λ octets. Give (summary lines (length (trial_document lines)) (length octets)))
     (task_answered laws ((trial_name, trial_schema) ∷ []) sets (Send Aligned) trial_root (trial_name ∷ []) (trial_document lines) tt) (λ octets sent.

@@ -54,12 +54,12 @@ module _ (type : RootType) where
   t = type.number
 
   -- one document more
-  documents_more : (vs : List (Rose ValueLabel)) (v : Rose ValueLabel) (text doc : List ℕ) → Documents type vs text → Written type v (Ok doc) → Documents type (vs ++ v ∷ []) (text ++ doc)
+  pub documents_more : (vs : List (Rose ValueLabel)) (v : Rose ValueLabel) (text doc : List ℕ) → Documents type vs text → Written type v (Ok doc) → Documents type (vs ++ v ∷ []) (text ++ doc)
   documents_more [] v text doc e w = (doc, [], w, refl, ap (λ xs. xs ++ doc) e ∙ sym (append-nil doc))
   documents_more (u ∷ us) v text doc (first, rest, own, others, e) w =
       (first, rest ++ doc, own, documents_more us v rest doc others w, ap (λ xs. xs ++ doc) e ∙ append_assoc first rest doc)
 
-  all_more : (vs : List (Rose ValueLabel)) (v : Rose ValueLabel) → AllOf (In M t) vs → In M t v → AllOf (In M t) (vs ++ v ∷ [])
+  pub all_more : (vs : List (Rose ValueLabel)) (v : Rose ValueLabel) → AllOf (In M t) vs → In M t v → AllOf (In M t) (vs ++ v ∷ [])
   all_more [] v h i = (i, tt)
   all_more (u ∷ us) v h i = (h.0, all_more us v h.1 i)
 
@@ -100,7 +100,7 @@ module _ (type : RootType) where
   pub left_here : (octet : Option ℕ) (inner : Option (List ℕ)) (left : List ℕ) → octet ≡ None → inner ≡ Some left → left_with octet inner ≡ Some left
   left_here octet inner left alone is = ap (λ o. left_with o inner) alone ∙ ap (left_with None) is
 
-  inner_is : (octet : Option ℕ) (inner : Option (List ℕ)) (left : List ℕ) → octet ≡ None → left_with octet inner ≡ Some left → inner ≡ Some left
+  pub inner_is : (octet : Option ℕ) (inner : Option (List ℕ)) (left : List ℕ) → octet ≡ None → left_with octet inner ≡ Some left → inner ≡ Some left
   inner_is octet None left alone is = let e : None ≡ Some left = sym (ap (λ o. left_with o None) alone) ∙ is in absurd cc
   inner_is octet (Some xs) left alone is = sym (ap (λ o. left_with o (Some xs)) alone) ∙ is
 
@@ -108,26 +108,26 @@ module _ (type : RootType) where
       (octet_new : Option ℕ) (inner_new : Option (List ℕ)) (answer : Answer)
       (answers : (left : List ℕ) → left_with octet inner ≡ Some left → AnswersNext M t (one_more records) room left (left_with octet_new inner_new) answer) where
     module _ (left : List ℕ) (is : old ≡ Some left) where
-      here : Here left h.values octet inner room records
+      pub here : Here left h.values octet inner room records
       here = h.told left is
 
       -- what is left of them
       abbrev others : List ℕ
       others = drop (h.told left is).count left
 
-      others_left : left_with octet inner ≡ Some (drop here.count left)
+      pub others_left : left_with octet inner ≡ Some (drop here.count left)
       others_left = left_here octet inner (drop here.count left) here.alone here.rest
 
-      next : AnswersNext M t (one_more records) room (drop here.count left) (left_with octet_new inner_new) answer
+      pub next : AnswersNext M t (one_more records) room (drop here.count left) (left_with octet_new inner_new) answer
       next = answers (drop here.count left) others_left
 
-      few_records : length h.values ≤ each_limit
+      pub few_records : length h.values ≤ each_limit
       few_records = omega (arith, few_values M t left h.values here.count here.begin, here.few)
 
       number_is : one_more records ≡ length h.values + 1
       number_is = omega (arith, here.numbered, few_records)
 
-      room_is : room ≡ each_limit - here.count
+      pub room_is : room ≡ each_limit - here.count
       room_is = omega (arith, here.room_left)
 
     -- WANT OF MEMORY
@@ -142,7 +142,7 @@ module _ (type : RootType) where
     module _ (v : Rose ValueLabel) (ok : answer ≡ Ok (Some v)) (in_type : In M t v) (room_new records_new : ℕ) (counted : records_new ≡ one_more records)
         (octets : (left : List ℕ) → left_with octet inner ≡ Some left → 8 * room ≡ 8 * room_new + length (complete M t v))
         (alone : (left : List ℕ) → left_with octet inner ≡ Some left → octet_new ≡ None) where
-      next_here : (left : List ℕ) → old ≡ Some left → Here left (h.values ++ v ∷ []) octet_new inner_new room_new records_new
+      pub next_here : (left : List ℕ) → old ≡ Some left → Here left (h.values ++ v ∷ []) octet_new inner_new room_new records_new
       next_here left is =
           let here_now = here left is in
           let a = subst (AnswersNext M t (one_more records) room (drop here_now.count left) (left_with octet_new inner_new)) ok (next left is) in
@@ -194,8 +194,8 @@ module _ (type : RootType) where
 
     -- THE END
     module _ {set : Set} {root : ℕ} (of : IsTypeOf set root type) where
-      pub each_done : answer ≡ Ok None → (text : List ℕ) × EachDue type old Done text × Appends wrote wrote_now text
-      each_done ok = (h.text, by old refl, h.appended)
+      pub due_done : answer ≡ Ok None → EachDue type old Done h.text
+      due_done ok = by old refl
         where
           by : (o : Option (List ℕ)) → old ≡ o → EachDue type o Done h.text
           by None e = (h.values, h.in_type, h.documents, tt)
@@ -204,8 +204,11 @@ module _ (type : RootType) where
               let a = subst (AnswersNext M t (one_more records) room (drop n.count left) (left_with octet_new inner_new)) ok (next left e) in
               (h.values, n.count, cut_at_end M t of.is_module of.is_bounded of.within left h.values n.count each_limit n.begin n.few a.says.0, a.says.0, h.documents)
 
+      pub each_done : answer ≡ Ok None → (text : List ℕ) × EachDue type old Done text × Appends wrote wrote_now text
+      each_done ok = (h.text, due_done ok, h.appended)
+
       -- a fault of the next record
-      abbrev IsFault : RecordError → Type 0
+      abbrev pub IsFault : RecordError → Type 0
       IsFault (record_error.Bad number bit why) = Unit {0}
       IsFault record_error.TooLong = Unit {0}
       IsFault e = ⊥
@@ -253,8 +256,8 @@ module _ (type : RootType) where
       of_records record_error.Failed fault = absurd fault
       of_records record_error.Memory fault = absurd fault
 
-      pub each_stopped : (e : RecordError) → IsFault e → answer ≡ Err e → (text : List ℕ) × EachDue type old (outcome_of e) text × Appends wrote wrote_now text
-      each_stopped e fault err = (h.text, by old refl, h.appended)
+      pub due_stopped : (e : RecordError) → IsFault e → answer ≡ Err e → EachDue type old (outcome_of e) h.text
+      due_stopped e fault err = by old refl
         where
           by : (o : Option (List ℕ)) → old ≡ o → EachDue type o (outcome_of e) h.text
           by None is = (h.values, h.in_type, h.documents, of_records e fault)
@@ -268,6 +271,9 @@ module _ (type : RootType) where
                 ends_at left (length h.values) n.count e fault (number_is left is) (room_is left is) s,
                 h.documents,
               )
+
+      pub each_stopped : (e : RecordError) → IsFault e → answer ≡ Err e → (text : List ℕ) × EachDue type old (outcome_of e) text × Appends wrote wrote_now text
+      each_stopped e fault err = (h.text, due_stopped e fault err, h.appended)
 
       -- A FAULT OF THE SOURCE
       pub each_failed : answer ≡ Err record_error.Failed → octet_new ≡ None → (text : List ℕ) × TakenDue type old inner_new text × Appends wrote wrote_now text
@@ -294,10 +300,14 @@ module _ (type : RootType) where
       each_err reads reads_now writes writes_now record_error.Memory err none rose = first_so_far
 
   -- more records than octets
-  pub each_over : (old : Option (List ℕ)) (octet : Option ℕ) (inner : Option (List ℕ)) (room records turn : ℕ) (wrote wrote_now : Option (List ℕ)) → SoFar old octet inner room records turn wrote wrote_now
-      → each_limit < turn → (text : List ℕ) × EachDue type old (TooLong 0) text × Appends wrote wrote_now text
-  each_over old octet inner room records turn wrote wrote_now h many = (h.text, by old refl, h.appended)
+  pub due_over : (old : Option (List ℕ)) (octet : Option ℕ) (inner : Option (List ℕ)) (room records turn : ℕ) (wrote wrote_now : Option (List ℕ)) → (h : SoFar old octet inner room records turn wrote wrote_now)
+      → each_limit < turn → EachDue type old (TooLong 0) h.text
+  due_over old octet inner room records turn wrote wrote_now h many = by old refl
     where
       by : (o : Option (List ℕ)) → old ≡ o → EachDue type o (TooLong 0) h.text
       by None e = (h.values, h.in_type, h.documents, tt)
       by (Some left) e = let n = h.told left e in absurd (omega (arith, many, h.turns, few_values M t left h.values n.count n.begin, n.few))
+
+  pub each_over : (old : Option (List ℕ)) (octet : Option ℕ) (inner : Option (List ℕ)) (room records turn : ℕ) (wrote wrote_now : Option (List ℕ)) → SoFar old octet inner room records turn wrote wrote_now
+      → each_limit < turn → (text : List ℕ) × EachDue type old (TooLong 0) text × Appends wrote wrote_now text
+  each_over old octet inner room records turn wrote wrote_now h many = (h.text, due_over old octet inner room records turn wrote wrote_now h many, h.appended)

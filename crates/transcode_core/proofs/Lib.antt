@@ -19,3 +19,4 @@ pub mod SomeSets
 pub mod Eaching
 pub mod EachLaws
 pub mod Ready
+pub mod Requests

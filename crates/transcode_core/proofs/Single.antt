@@ -175,7 +175,7 @@ spaces_in : (ts : List SimpleDef) → map (λ (n : NamedSpace). n.space) (named_
 spaces_in [] = refl
 spaces_in (t ∷ ts) = ap (λ l. space_of t.space ∷ l) (spaces_in ts)
 
-same_parts : (s t : Set) → parts_of s ≡ parts_of t → AreSame s t
+pub same_parts : (s t : Set) → parts_of s ≡ parts_of t → AreSame s t
 same_parts s t e =
     record {
       elements = ap (λ (p : SetParts). p.elements) e;

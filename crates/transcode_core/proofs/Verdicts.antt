@@ -11,7 +11,7 @@ use Rattle.xml_items.specs.Plain.{Plain}
 use Rattle.base_texts.specs.declared.texts.Name.{Name}
 use Rattle.asn_types.specs.declared.modules.Assignment.{Assignment}
 use Rattle.transcode_words.specs.declared.outcome.Outcome.{Outcome}
-use Rattle.transcode_words.specs.declared.outcome.Outcome.TheVariants.{Done, Usage, SchemaSyntax, SchemaFault, LinkFault, UnknownRoot, DocSyntax, Invalid, PerFault, RecordFault, DerFault, ModuleFault, Trailing, TooLong, TooManyNodes, LoadFault, ReadFault, WriteFault, OutOfMemory}
+use Rattle.transcode_words.specs.declared.outcome.Outcome.TheVariants.{Done, Usage, SchemaSyntax, SchemaFault, LinkFault, UnknownRoot, Stamp, DocSyntax, Invalid, PerFault, RecordFault, DerFault, ModuleFault, Trailing, TooLong, TooManyNodes, LoadFault, ReadFault, WriteFault, OutOfMemory}
 use Rattle.transcode_words.specs.declared.tasks.Syntax.{Syntax}
 use Rattle.transcode_words.specs.declared.tasks.Syntax.TheVariants.{Aligned, Unaligned, Der}
 use Rattle.transcode_words.specs.declared.tasks.Task.{Task}
@@ -51,6 +51,7 @@ module _ (answer : Verdict → Type 0) where
   verdict (SchemaFault k at why) bytes is = (Err (SchemaFault k at why), is.0, refl, is.1)
   verdict (LinkFault k at why) bytes is = (Err (LinkFault k at why), is.0, refl, is.1)
   verdict UnknownRoot bytes is = (Err UnknownRoot, is.0, refl, is.1)
+  verdict Stamp bytes is = (Err Stamp, is.0, refl, is.1)
   verdict (DocSyntax at why) bytes is = (Err (DocSyntax at why), is.0, refl, is.1)
   verdict (Invalid at why) bytes is = (Err (Invalid at why), is.0, refl, is.1)
   verdict (RecordFault number bit why) bytes is = (Err (RecordFault number bit why), is.0, refl, is.1)
@@ -73,6 +74,7 @@ module _ (answer : Verdict → Type 0) where
   refuses (SchemaFault k at why) other is = (is, refl)
   refuses (LinkFault k at why) other is = (is, refl)
   refuses UnknownRoot other is = (is, refl)
+  refuses Stamp other is = (is, refl)
   refuses (DocSyntax at why) other is = (is, refl)
   refuses (Invalid at why) other is = (is, refl)
   refuses (RecordFault number bit why) other is = (is, refl)
@@ -125,11 +127,11 @@ neither_done : {A B : Type 0} (first : Result A Outcome → Type 0) (next : A �
 neither_done first next one each (inl p) = one.never p
 neither_done first next one each (inr (a, p, q)) = (each a).never q
 
-then_never : {A B : Type 0} (first : Result A Outcome → Type 0) (next : A → Result B Outcome → Type 0)
+pub then_never : {A B : Type 0} (first : Result A Outcome → Type 0) (next : A → Result B Outcome → Type 0)
     → NeverDone A first → ((a : A) → NeverDone B (next a)) → NeverDone B (Then first next)
 then_never first next one each = record { never = neither_done first next one each }
 
-give_never : {A : Type 0} (a : A) → NeverDone A (Give a)
+pub give_never : {A : Type 0} (a : A) → NeverDone A (Give a)
 give_never a = record { never = λ none. none }
 
 not_loaded : (entries : Option (List (List ℕ × List ℕ))) (k : ℕ) (name : List ℕ) → Loaded entries k name (Err Done) → ⊥
@@ -163,7 +165,7 @@ schemas_never entries k (name ∷ names) =
 not_linked : (documents : List Document) → Linked documents (Err Done) → ⊥
 not_linked documents (fault, shown, e) = cc
 
-set_never : (entries : Option (List (List ℕ × List ℕ))) (files : List (List ℕ)) → NeverDone SetParts (SetIn entries files)
+pub set_never : (entries : Option (List (List ℕ × List ℕ))) (files : List (List ℕ)) → NeverDone SetParts (SetIn entries files)
 set_never entries files = then_never (Schemas entries 1 files) (λ documents. Linked documents) (schemas_never entries 1 files) (λ documents. record { never = not_linked documents })
 
 not_rooted : (root : Name) (parts : SetParts) → Rooted root parts (Err Done) → ⊥
@@ -177,17 +179,17 @@ opened_never entries root files =
 not_input : (left : Option (List ℕ)) → Input left (Err Done) → ⊥
 not_input left (more, e) = cc
 
-items_never : (left : Option (List ℕ)) → NeverDone (Rose ItemLabel) (ItemsIn left)
+pub items_never : (left : Option (List ℕ)) → NeverDone (Rose ItemLabel) (ItemsIn left)
 items_never left =
     then_never (Input left) (λ bytes. Read (λ at why. DocSyntax at why) bytes) (record { never = not_input left }) (λ bytes. read_never (λ at why. DocSyntax at why) not_doc_syntax bytes)
 
 not_judged : (parts : SetParts) (n : ℕ) (items : Rose ItemLabel) → Judged parts n items (Err Done) → ⊥
 not_judged parts n items (linked, (at, why, fault, e)) = cc
 
-judged_never : (opened : SetParts × ℕ) (items : Rose ItemLabel) → NeverDone (Rose Plain) (Judged opened.0 opened.1 items)
+pub judged_never : (opened : SetParts × ℕ) (items : Rose ItemLabel) → NeverDone (Rose Plain) (Judged opened.0 opened.1 items)
 judged_never opened items = record { never = not_judged opened.0 opened.1 items }
 
-not_valued : (type : RootType) (treated : Rose Plain) → Valued type treated (Err Done) → ⊥
+pub not_valued : (type : RootType) (treated : Rose Plain) → Valued type treated (Err Done) → ⊥
 not_valued type treated (v, fits, is, many, e) = cc
 
 not_told : (b : Bool) (refusal : Outcome) → (Done ≡ refusal → ⊥) → Done ≡ cond b (TooLong 0) refusal → ⊥
@@ -218,7 +220,7 @@ not_decoded Unaligned type left is = not_streamed Unaligned type left is
 not_decoded Der type left (inl long) = not_input left long
 not_decoded Der type left (inr (octets, all, none)) = not_no_encoding Der type octets none
 
-typed_never : (opened : SetParts × ℕ) → NeverDone RootType (Typed opened)
+pub typed_never : (opened : SetParts × ℕ) → NeverDone RootType (Typed opened)
 typed_never opened = record { never = λ none. none }
 
 encoded_never : (syntax : Syntax) (opened : SetParts × ℕ) (left : Option (List ℕ)) → NeverDone (List ℕ) (Encoded syntax opened left)

@@ -9,3 +9,5 @@ pub mod ReadBack
 pub mod Again
 pub mod Each
 pub mod Runs
+pub mod Digits
+pub mod Requests

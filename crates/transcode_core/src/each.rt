@@ -1,21 +1,24 @@
 //! From records, one behind the other, to the texts of their values' documents.
-ghost use Rattle.std.specs.Prelude.{◌≡◌, ◌⊎◌, ℕ, ◌≤◌, List, None, OnOk, IfErr, Ok};
+ghost use Rattle.std.specs.Prelude.{◌≡◌, ◌⊎◌, ℕ, ◌≤◌, List, length, None, OnOk, IfOk, IfErr, Ok};
 ghost use Rattle.std.specs.Io.KnownBytes.{Appends, IsAtEnd};
 ghost use Rattle.base_texts.specs.Faults.{HasRisen};
-ghost use Rattle.base_texts.specs.Bytes.{AppendsFront};
+ghost use Rattle.base_texts.specs.Bytes.{AppendsFront, LeavesRoom, LacksRoom};
 ghost use Rattle.asn_values.specs.Values.{In};
-ghost use Rattle.schema_components.specs.Components.{Set};
-ghost use Rattle.transcode_core.specs.Private.Seen.{type_seen};
+ghost use Rattle.transcode_words.specs.Answers.{Answers, NoMemory};
+ghost use Rattle.transcode_core.specs.Private.Seen.{opened_seen, type_seen};
 ghost use Rattle.transcode_core.specs.Steps.{IsTypeOf, Written};
 ghost use Rattle.transcode_core.specs.Each.{EachEnds, outcome_of};
+ghost use Rattle.transcode_core.specs.Requests.Answers.{IsBack, TakesRecords};
+ghost use Rattle.transcode_core.specs.Requests.Records.{EndsRecords};
 
-use crate::opened::RootModule;
+use crate::opened::{Opened, RootModule};
 use crate::receiving::write_value;
 use base_texts::{Failed, Sink, Source, write_all};
 use record_stream::{RecordError, Records};
 use simple_types::Value;
 use std::alloc::Global;
 use transcode_words::Outcome;
+use value_laws::documents_of_values;
 
 /// How many octets the records of an input may have.
 const LIMIT: u64 = 1_073_741_824;
@@ -23,22 +26,41 @@ const LIMIT: u64 = 1_073_741_824;
 /// The turns in which that many octets end: each record has one, and behind the last of them the end is looked for.
 const TURNS: u64 = 1_073_741_825;
 
+// Returns the document of a record's value.
+fn record_text(
+    alloc: Global,
+    opened: &Opened,
+    typed: &RootModule,
+    value: &Value,
+) -> Result<Vec<u8>, Outcome>
+    requires typed { IsTypeOf opened.now.set opened.now.root (type_seen typed.now) }
+    requires value { In typed.now.module typed.now.number value.now }
+    ensures due { Answers (λ text. text.items) (Written (type_seen typed.now) value.now) NoMemory result }
+    ensures back { IfOk result (λ text. IsBack (opened_seen opened.now) (type_seen typed.now) value.now text.items) }
+{
+    documents_of_values();
+    write_value(alloc, typed, value)
+}
+
 // Writes the document of a record's value.
 fn write_record<K: Sink>(
     alloc: Global,
+    opened: &Opened,
     typed: &RootModule,
     value: &Value,
     output: &mut K,
 ) -> Result<(), Outcome>
-    requires typed { (set : Set) × (n : ℕ) × IsTypeOf set n (type_seen typed.now) }
+    requires typed { IsTypeOf opened.now.set opened.now.root (type_seen typed.now) }
     requires value { In typed.now.module typed.now.number value.now }
-    ensures wrote { OnOk result ((text : List ℕ) × Written (type_seen typed.now) value.now (Ok text) × Appends (K.written output.old) (K.written output.new) text) }
+    ensures wrote { OnOk result ((text : List ℕ) × Written (type_seen typed.now) value.now (Ok text) × IsBack (opened_seen opened.now) (type_seen typed.now) value.now text
+        × Appends (K.written output.old) (K.written output.new) text × LeavesRoom (K.free output.old) (K.free output.new) (length text)) }
     ensures stopped { IfErr result (λ o. ((o ≡ Outcome.OutOfMemory) × (output.new ≡ output.old))
         ⊎ ((o ≡ Outcome.WriteFault) × HasRisen (K.faults output.old) (K.faults output.new)
-        × ((text : List ℕ) × Written (type_seen typed.now) value.now (Ok text) × AppendsFront (K.written output.old) (K.written output.new) text))) }
+        × ((text : List ℕ) × Written (type_seen typed.now) value.now (Ok text) × IsBack (opened_seen opened.now) (type_seen typed.now) value.now text
+        × AppendsFront (K.written output.old) (K.written output.new) text × LacksRoom (K.free output.old) (length text)))) }
     ensures later { K.faults output.old ≤ K.faults output.new }
 {
-    match write_value(alloc, typed, value) {
+    match record_text(alloc, opened, typed, value) {
         Ok(text) => match write_all(output, &text) {
             Ok(()) => Ok(()),
             Err(Failed) => Err(Outcome::WriteFault),
@@ -62,23 +84,28 @@ fn ended(error: RecordError) -> Outcome
 // Writes the document of each record that is left, before the next is asked for.
 fn write_each<S: Source, K: Sink>(
     alloc: Global,
+    opened: &Opened,
     typed: &RootModule,
     records: &mut Records<S>,
     output: &mut K,
 ) -> Outcome
-    requires typed { (set : Set) × (n : ℕ) × IsTypeOf set n (type_seen typed.now) }
+    requires typed { IsTypeOf opened.now.set opened.now.root (type_seen typed.now) }
     requires start { (records.old.octet ≡ None) × (records.old.room ≡ LIMIT) × (records.old.records ≡ 0) }
     ensures same_reference { records.new.source.ghost_name ≡ records.old.source.ghost_name }
     ensures ends { EachEnds (type_seen typed.now)
         (record { left = S.left records.old.source.now; written = K.written output.old; read_faults = S.faults records.old.source.now; write_faults = K.faults output.old })
         (record { left = S.left records.new.source.now; written = K.written output.new; read_faults = S.faults records.new.source.now; write_faults = K.faults output.new }) result }
+    ensures streams { EndsRecords (opened_seen opened.now) (type_seen typed.now)
+        (record { left = S.left records.old.source.now; written = K.written output.old; room = K.free output.old; read_faults = S.faults records.old.source.now; write_faults = K.faults output.old })
+        (record { left = S.left records.new.source.now; written = K.written output.new; room = K.free output.new; read_faults = S.faults records.new.source.now; write_faults = K.faults output.new }) result }
+    ensures taken { TakesRecords (type_seen typed.now) (S.left records.old.source.now) (S.left records.new.source.now) }
     ensures reads { S.faults records.old.source.now ≤ S.faults records.new.source.now }
     ensures writes { K.faults output.old ≤ K.faults output.new }
     ensures end { result ≡ Outcome.Done → IsAtEnd (S.left records.new.source.now) }
 {
     'records: for turn in 0..TURNS {
         match records.next(alloc, &typed.module, typed.number) {
-            Ok(Some(value)) => match write_record(alloc, typed, &value, output) {
+            Ok(Some(value)) => match write_record(alloc, opened, typed, &value, output) {
                 Ok(()) => {}
                 Err(outcome) => return outcome,
             },
@@ -93,18 +120,23 @@ fn write_each<S: Source, K: Sink>(
 /// and written before an octet behind its record is taken.
 pub fn write_records<S: Source, K: Sink>(
     alloc: Global,
+    opened: &Opened,
     typed: &RootModule,
     input: &mut S,
     output: &mut K,
 ) -> Outcome
-    requires { (set : Set) × (n : ℕ) × IsTypeOf set n (type_seen typed.now) }
+    requires { IsTypeOf opened.now.set opened.now.root (type_seen typed.now) }
     ensures ends { EachEnds (type_seen typed.now)
         (record { left = S.left input.old; written = K.written output.old; read_faults = S.faults input.old; write_faults = K.faults output.old })
         (record { left = S.left input.new; written = K.written output.new; read_faults = S.faults input.new; write_faults = K.faults output.new }) result }
+    ensures streams { EndsRecords (opened_seen opened.now) (type_seen typed.now)
+        (record { left = S.left input.old; written = K.written output.old; room = K.free output.old; read_faults = S.faults input.old; write_faults = K.faults output.old })
+        (record { left = S.left input.new; written = K.written output.new; room = K.free output.new; read_faults = S.faults input.new; write_faults = K.faults output.new }) result }
+    ensures taken { TakesRecords (type_seen typed.now) (S.left input.old) (S.left input.new) }
     ensures reads { S.faults input.old ≤ S.faults input.new }
     ensures writes { K.faults output.old ≤ K.faults output.new }
     ensures end { result ≡ Outcome.Done → IsAtEnd (S.left input.new) }
 {
     let mut records = Records::new(input, LIMIT);
-    write_each(alloc, typed, &mut records, output)
+    write_each(alloc, opened, typed, &mut records, output)
 }

@@ -4,6 +4,8 @@
 //! command) and `specs/Steps`, then `run` in `src/top.rt`.
 #![tactic(auto)]
 
+mod asking;
+mod delivering;
 mod documents;
 mod each;
 mod eight_bits;
@@ -16,14 +18,21 @@ mod opened;
 mod opening;
 mod prepared;
 mod receiving;
+pub mod request_laws;
 mod schemas;
 mod sending;
+mod serving;
+mod showing;
+mod stamped;
+mod stamps;
 mod top;
 mod trial;
 mod typing;
 
+pub use asking::answer;
 pub use laws::{exactly_one_of_both, one_answer, some_answer, there_and_back, trial_elements};
 pub use prepared::Prepared;
+pub use stamps::{STAMP_LENGTH, stamp_line, stamp_of};
 pub use top::run;
 pub use transcode_words::{Outcome, write_line};
 pub use trial::trial_document;

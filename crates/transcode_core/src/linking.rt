@@ -2,10 +2,12 @@
 ghost use Rattle.std.specs.Prelude.{◌≡◌, ◌≤◌, length, IfOk, IfErr, map};
 ghost use Rattle.schema_components.specs.Documents.{doc_of};
 ghost use Rattle.schema_components.specs.SetParts.{parts_of};
+ghost use Rattle.transcode_words.specs.AskedSeen.{chosen_seen};
 ghost use Rattle.transcode_words.specs.Seen.{root_seen};
 ghost use Rattle.transcode_core.specs.Private.Seen.{opened_seen};
 ghost use Rattle.transcode_core.specs.Steps.{Linked, Rooted};
-ghost use Rattle.transcode_words.specs.Order.{Give, Then};
+ghost use Rattle.transcode_core.specs.Requests.Due.{only_global, root_in};
+ghost use Rattle.transcode_words.specs.Order.{Give, Found, Then};
 ghost use Rattle.link_schemas.specs.Sets.{AreNumbered};
 ghost use Rattle.transcode_words.specs.Answers.{Answers, NoMemory};
 
@@ -14,6 +16,7 @@ use base_texts::{Name, Text};
 use link_schemas::{LinkError, link};
 use schema_components::{RawDoc, SchemaSet, find_root};
 use std::alloc::Global;
+use transcode_words::asked::Root as Chosen;
 use transcode_words::{Outcome, Root};
 
 /// The documents as one set.
@@ -66,6 +69,37 @@ pub fn open_set(alloc: Global, root: Root<'_>, set: SchemaSet) -> Result<Opened,
     ensures { Answers opened_seen (Then (Rooted (root_seen root.entry) (parts_of set)) (λ n. Give (parts_of set, n))) NoMemory result }
 {
     match root_number(alloc, root, &set) {
+        Ok(root) => Ok(Opened { set, root }),
+        Err(outcome) => Err(outcome),
+    }
+}
+
+// Returns the number of the only global element, if there is exactly one.
+fn only_root(set: &SchemaSet) -> Result<u32, Outcome>
+    ensures { Answers (λ n. n) (Found (only_global (parts_of set.now)) Outcome.UnknownRoot) NoMemory result }
+{
+    if set.global_count() == 1 {
+        Ok(0)
+    } else {
+        Err(Outcome::UnknownRoot)
+    }
+}
+
+// Returns the number of the global element that the request takes for the root.
+fn chosen_root(alloc: Global, root: Chosen<'_>, set: &SchemaSet) -> Result<u32, Outcome>
+    ensures { Answers (λ n. n) (Found (root_in (parts_of set.now) (chosen_seen root.entry)) Outcome.UnknownRoot) NoMemory result }
+{
+    match root {
+        Chosen::Named(name) => root_number(alloc, name, set),
+        Chosen::Only => only_root(set),
+    }
+}
+
+/// Returns the set with the number of its root.
+pub fn open_chosen(alloc: Global, root: Chosen<'_>, set: SchemaSet) -> Result<Opened, Outcome>
+    ensures { Answers opened_seen (Then (Found (root_in (parts_of set) (chosen_seen root.entry)) Outcome.UnknownRoot) (λ n. Give (parts_of set, n))) NoMemory result }
+{
+    match chosen_root(alloc, root, &set) {
         Ok(root) => Ok(Opened { set, root }),
         Err(outcome) => Err(outcome),
     }

@@ -1,19 +1,22 @@
 //! The set that files are, and the root in it.
 ghost use Rattle.std.specs.Prelude.{◌≡◌, ◌≤◌, length};
 ghost use Rattle.schema_components.specs.SetParts.{parts_of};
+ghost use Rattle.transcode_words.specs.AskedSeen.{chosen_seen};
 ghost use Rattle.transcode_words.specs.Seen.{root_seen};
 ghost use Rattle.transcode_words.specs.Answers.{Answers};
 ghost use Rattle.transcode_core.specs.Private.Seen.{opened_seen};
 ghost use Rattle.transcode_core.specs.Due.{SetIn};
 ghost use Rattle.transcode_core.specs.Due as due;
+ghost use Rattle.transcode_core.specs.Requests.Due as requests;
 ghost use Rattle.transcode_core.specs.Causes.{SomeLoad};
 
-use crate::linking::{link_files, open_set};
+use crate::linking::{link_files, open_chosen, open_set};
 use crate::opened::Opened;
 use crate::schemas::load_schemas;
 use base_texts::{Library, Text};
 use schema_components::SchemaSet;
 use std::alloc::Global;
+use transcode_words::asked::Root as Chosen;
 use transcode_words::{Outcome, Root};
 
 /// The set that these files are.
@@ -49,6 +52,25 @@ pub fn open_files<F: Library>(
 {
     match read_set(alloc, files, names) {
         Ok(set) => open_set(alloc, root, set),
+        Err(outcome) => Err(outcome),
+    }
+}
+
+/// Returns the set that these files are, with the root that the request takes.
+pub fn open_asked<F: Library>(
+    alloc: Global,
+    files: &mut F,
+    root: Chosen<'_>,
+    names: &[Text],
+) -> Result<Opened, Outcome>
+    requires { length names.now ≤ 64 }
+    ensures due { Answers opened_seen (requests.Opened (F.entries files.old) (chosen_seen root.entry) names.now)
+        (SomeLoad (F.faults files.old) (F.faults files.new) (F.is_sure files.old) (F.entries files.old) names.now) result }
+    ensures files { (F.entries files.new ≡ F.entries files.old) × (F.is_sure files.new ≡ F.is_sure files.old) }
+    ensures later { F.faults files.old ≤ F.faults files.new }
+{
+    match read_set(alloc, files, names) {
+        Ok(set) => open_chosen(alloc, root, set),
         Err(outcome) => Err(outcome),
     }
 }

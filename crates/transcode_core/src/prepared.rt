@@ -13,6 +13,9 @@ ghost use Rattle.transcode_core.specs.Steps.{RootType, Typed, Judged};
 ghost use Rattle.transcode_core.specs.Due as due;
 ghost use Rattle.transcode_core.specs.Due.{ItemsIn, Checked, Encoded, Documented, Served};
 ghost use Rattle.transcode_core.specs.Each.{EachEnds};
+ghost use Rattle.transcode_core.specs.Requests.Answers.{ReceivedBack, TakesRecords, TakesStamped};
+ghost use Rattle.transcode_core.specs.Requests.Due as request;
+ghost use Rattle.transcode_core.specs.Requests.Records.{EndsRecords};
 ghost use Rattle.transcode_core.specs.ReadBack.{DocumentedBack, ServedBack};
 ghost use Rattle.transcode_core.specs.Causes.{SomeLoad, OneRead, Takes, LooksAt, StepsUpTo, IsOfInput, StepsFrom};
 
@@ -23,6 +26,7 @@ use crate::opened::{Opened, RootModule};
 use crate::opening::open_files;
 use crate::receiving::write_input;
 use crate::sending::encode_items;
+use crate::stamped::{pass_stamp, with_stamp};
 use crate::typing::map_root;
 use base_texts::{Library, Sink, Source, Steps, Text};
 use std::alloc::Global;
@@ -200,6 +204,70 @@ impl Prepared {
         write_input(alloc, syntax, &self.typed, input)
     }
 
+    /// Returns the encoding of the value of the document in the input, after the stamp of the set where `stamped` holds.
+    pub fn send<S: Source, L: Ledger>(
+        &self,
+        alloc: Global,
+        syntax: Syntax,
+        stamped: bool,
+        input: &mut S,
+        steps: &mut Steps<L>,
+    ) -> Result<Vec<u8>, Outcome>
+        ensures due { Answers (λ bytes. bytes.items) (request.Encoded syntax stamped (prepared_seen self.now) (S.left input.old)) (OneRead (S.faults input.old) (S.faults input.new)) result }
+        ensures end { OnOk result (IsAtEnd (S.left input.new)) }
+        ensures stage { IfErr result IsOfInput }
+        ensures later { S.faults input.old ≤ S.faults input.new }
+        ensures few { StepsUpTo (λ items. ItemsIn (S.left input.old) (Ok items)) steps.old steps.new }
+        ensures many { OnOk result (StepsFrom (λ items. ItemsIn (S.left input.old) (Ok items)) steps.old steps.new) }
+    {
+        match self.encode_input(alloc, syntax, input, steps) {
+            Ok(octets) => with_stamp(alloc, stamped, &self.typed, octets),
+            Err(outcome) => Err(outcome),
+        }
+    }
+
+    // Returns the document of the value of which the input after the stamp of the set is the encoding.
+    fn receive_stamped<S: Source>(
+        &self,
+        alloc: Global,
+        syntax: Syntax,
+        input: &mut S,
+    ) -> Result<Vec<u8>, Outcome>
+        ensures due { Answers (λ bytes. bytes.items) (request.Documented syntax true (prepared_seen self.now) (S.left input.old)) (OneRead (S.faults input.old) (S.faults input.new)) result }
+        ensures back { IfOk result (λ bytes. ReceivedBack syntax true (prepared_seen self.now) (S.left input.old) bytes.items) }
+        ensures end { OnOk result (IsAtEnd (S.left input.new)) }
+        ensures stage { IfErr result IsOfInput }
+        ensures taken { (type : RootType) × Typed (prepared_seen self.now) (Ok type) × TakesStamped true syntax type (S.left input.old) (S.left input.new) }
+        ensures later { S.faults input.old ≤ S.faults input.new }
+    {
+        match pass_stamp(alloc, &self.typed, input) {
+            Ok(()) => self.decode(alloc, syntax, input),
+            Err(outcome) => Err(outcome),
+        }
+    }
+
+    /// Returns the document of the value of which the input is the encoding, after the stamp of the set where `stamped` holds.
+    pub fn receive<S: Source>(
+        &self,
+        alloc: Global,
+        syntax: Syntax,
+        stamped: bool,
+        input: &mut S,
+    ) -> Result<Vec<u8>, Outcome>
+        ensures due { Answers (λ bytes. bytes.items) (request.Documented syntax stamped (prepared_seen self.now) (S.left input.old)) (OneRead (S.faults input.old) (S.faults input.new)) result }
+        ensures back { IfOk result (λ bytes. ReceivedBack syntax stamped (prepared_seen self.now) (S.left input.old) bytes.items) }
+        ensures end { OnOk result (IsAtEnd (S.left input.new)) }
+        ensures stage { IfErr result IsOfInput }
+        ensures taken { (type : RootType) × Typed (prepared_seen self.now) (Ok type) × TakesStamped stamped syntax type (S.left input.old) (S.left input.new) }
+        ensures later { S.faults input.old ≤ S.faults input.new }
+    {
+        if stamped {
+            self.receive_stamped(alloc, syntax, input)
+        } else {
+            self.decode(alloc, syntax, input)
+        }
+    }
+
     /// What the task makes of the input.
     pub fn serve<S: Source, L: Ledger>(
         &self,
@@ -234,10 +302,14 @@ impl Prepared {
         ensures answer { (type : RootType) × Typed (prepared_seen self.now) (Ok type) × EachEnds type
             (record { left = S.left input.old; written = K.written output.old; read_faults = S.faults input.old; write_faults = K.faults output.old })
             (record { left = S.left input.new; written = K.written output.new; read_faults = S.faults input.new; write_faults = K.faults output.new }) result }
+        ensures streams { (type : RootType) × Typed (prepared_seen self.now) (Ok type) × EndsRecords (prepared_seen self.now) type
+            (record { left = S.left input.old; written = K.written output.old; room = K.free output.old; read_faults = S.faults input.old; write_faults = K.faults output.old })
+            (record { left = S.left input.new; written = K.written output.new; room = K.free output.new; read_faults = S.faults input.new; write_faults = K.faults output.new }) result
+            × TakesRecords type (S.left input.old) (S.left input.new) }
         ensures end { result ≡ Outcome.Done → IsAtEnd (S.left input.new) }
         ensures reads { S.faults input.old ≤ S.faults input.new }
         ensures writes { K.faults output.old ≤ K.faults output.new }
     {
-        write_records(alloc, &self.typed, input, output)
+        write_records(alloc, &self.opened, &self.typed, input, output)
     }
 }

@@ -186,7 +186,11 @@ fn tell(alloc: Global, lines: u32, document: u64, octets: &[u8]) -> Result<Vec<u
 }
 
 // What `trial` answers for so many lines.
-fn try_out<L: Ledger>(alloc: Global, lines: u32, steps: &mut Steps<L>) -> Result<Vec<u8>, Outcome>
+pub fn try_out<L: Ledger>(
+    alloc: Global,
+    lines: u32,
+    steps: &mut Steps<L>,
+) -> Result<Vec<u8>, Outcome>
     requires { (1 ≤ lines) × (lines ≤ 100000) }
     ensures due { Answers (λ bytes. bytes.items) (Tried lines) NoMemory result }
     ensures few { StepsUpTo (λ items. ItemsIn (Some (trial.trial_document lines)) (Ok items)) steps.old steps.new }

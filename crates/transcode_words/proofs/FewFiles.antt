@@ -1,5 +1,5 @@
 -- The words name at most 64 files that are loaded, or from 1 to 100,000 lines.
-use Rattle.std.proofs.Common.{◌≡◌, ◌≤◌, ℕ, Bool, true, false, cond, List, [], ◌∷◌, length, refl, sym, subst, arith, Option, Some, None, Result, Ok, Err}
+use Rattle.std.proofs.Common.{◌≡◌, ◌≤◌, ℕ, Bool, true, false, cond, List, [], ◌∷◌, length, refl, sym, subst, arith, Option, Some, None, Result}
 use Rattle.std.specs.Prelude.{bytes_eq, codes, nat_le, IfOk, ◌&&◌, not, ◌==◌, ◌+◌, ◌*◌, ◌-◌}
 use Rattle.std.specs.List.{list_all}
 use Rattle.std.proofs.lemmas.Bool.Decides.{nat_tests}
@@ -23,7 +23,7 @@ abbrev pub ArePartsFew : Option (Name × List (List ℕ)) → Type 0
 ArePartsFew None = Unit {0}
 ArePartsFew (Some parts) = length parts.1 ≤ 64
 
-few_of : (files : List (List ℕ)) → are_files files ≡ true → length files ≤ 64
+pub few_of : (files : List (List ℕ)) → are_files files ≡ true → length files ≤ 64
 few_of files e = leb-true (length files) 64 (and_parts (nat_le 1 (length files)) (nat_le (length files) 64) e).1
 
 split : (t : Bool) (x y : Option Asked) → AreFew x → AreFew y → AreFew (cond t x y)
@@ -42,7 +42,7 @@ with_name : (found : Option Name) (files : List (List ℕ)) → length files ≤
 with_name None files few = tt
 with_name (Some name) files few = few
 
-few_parts : (words : List (List ℕ)) → ArePartsFew (rooted_parts words)
+pub few_parts : (words : List (List ℕ)) → ArePartsFew (rooted_parts words)
 few_parts [] = tt
 few_parts (root ∷ files) = parts_unless (are_files files) (option_map (λ (name : Name). (name, files)) (root_of root)) (λ e. with_name (root_of root) files (few_of files e))
 
@@ -58,7 +58,7 @@ few_served (Some task) words = few_rooted task (rooted_parts words) (few_parts w
 from_one : (b : ℕ) → is_digit b ≡ true → not (b == 48) ≡ true → 1 ≤ b - 48
 from_one b digit other = grind (arith, nat_tests)
 
-count_within : (word : List ℕ) → is_count word ≡ true → (1 ≤ number_of word) × (number_of word ≤ 100000)
+pub count_within : (word : List ℕ) → is_count word ≡ true → (1 ≤ number_of word) × (number_of word ≤ 100000)
 count_within [] e = absurd (cc)
 count_within (b ∷ bs) e =
     let parts = and_parts (list_all is_digit (b ∷ bs) && not (b == 48)) (nat_le (number_of (b ∷ bs)) 100000) e in

@@ -1,4 +1,5 @@
 pub mod Fronts
 pub mod WordLemmas
 pub mod FewFiles
+pub mod FewAsked
 pub mod Joined

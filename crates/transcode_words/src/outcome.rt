@@ -30,6 +30,8 @@ pub enum Outcome {
     LinkFault { file: u32, at: u64, why: LinkWhy },
     /// No global element has the name of the root.
     UnknownRoot,
+    /// The input doesn't begin with the stamp of the set.
+    Stamp,
     /// The first fault of the text of the input, at this byte.
     DocSyntax { at: u64, why: DocWhy },
     /// The document in the input isn't valid: its first fault, at this byte.
@@ -83,7 +85,7 @@ impl Outcome {
             Outcome::UnknownRoot => 6,
             Outcome::DocSyntax { .. } => 7,
             Outcome::Invalid { .. } => 8,
-            Outcome::PerFault { .. } => 9,
+            Outcome::Stamp | Outcome::PerFault { .. } => 9,
             Outcome::Trailing { .. } => 10,
             Outcome::TooLong { .. } => 11,
             Outcome::TooManyNodes { .. } => 12,
@@ -134,6 +136,7 @@ impl Outcome {
                 end: b"\n",
             },
             Outcome::UnknownRoot => plain(b"unknown root\n"),
+            Outcome::Stamp => plain(b"input: another stamp\n"),
             Outcome::DocSyntax { at, why } => Parts {
                 head: b"input, byte ",
                 file: None,
@@ -225,6 +228,11 @@ impl Outcome {
                 name: "UnknownRoot",
                 means: "no global element of the schemas has this name",
                 remedy: "--root with one of the names below; ROOT is {namespace}name where the schema has a namespace",
+            },
+            Outcome::Stamp => Reason {
+                name: "Stamp",
+                means: "these octets don't begin with the stamp of these schemas: others wrote them",
+                remedy: "read them with the schemas that they were written with; show --stamp prints the stamp",
             },
             Outcome::Trailing { .. } => Reason {
                 name: "Trailing",

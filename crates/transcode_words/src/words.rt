@@ -8,16 +8,10 @@ ghost use Rattle.transcode_words.specs.Seen.{root_seen, seen};
 ghost use Rattle.transcode_words.specs.Order.{Found};
 ghost use Rattle.transcode_words.specs.Answers.{Answers, Never};
 
+use crate::asked::RootName as Root;
 use crate::outcome::Outcome;
 use crate::tasks::{Syntax, Task};
 use base_texts::{Text, are_digits, is_ncname, is_ncname_text, is_short_space, is_xml_char};
-
-/// The name of a root element: its namespace, empty where there is none, and its local name.
-#[derive(Clone, Copy)]
-pub struct Root<'a> {
-    pub space: &'a str,
-    pub local: &'a str,
-}
 
 /// What the words ask for.
 #[derive(Clone, Copy)]
@@ -42,7 +36,7 @@ pub enum Request<'a> {
     },
 }
 
-fn are_files(files: &[Text]) -> bool
+pub(crate) fn are_files(files: &[Text]) -> bool
     ensures { result ≡ command.are_files files.now }
 {
     1 <= files.len() && files.len() <= 64
@@ -98,7 +92,7 @@ fn number_of(digits: &[u8]) -> Option<u32>
 }
 
 // The number of lines of the trial document.
-fn count_of(word: &[u8]) -> Option<u32>
+pub(crate) fn count_of(word: &[u8]) -> Option<u32>
     ensures { result ≡ command.count_of word.now }
 {
     match word {
@@ -131,7 +125,7 @@ fn root_of(word: &Text) -> Option<Root<'_>>
 }
 
 // The files, and the root before them.
-fn rooted(words: &[Text]) -> Option<(Root<'_>, &[Text])>
+pub(crate) fn rooted(words: &[Text]) -> Option<(Root<'_>, &[Text])>
     ensures { MatchOption result (command.rooted_parts words.now ≡ None) (λ found. command.rooted_parts words.now ≡ Some (root_seen found.0, found.1.now)) }
 {
     let (root, files) = words.split_first()?;

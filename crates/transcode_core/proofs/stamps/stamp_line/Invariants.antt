@@ -1,7 +1,7 @@
 use Rattle.std.proofs.Common.{◌≡◌, ◌++◌, length}
 use Rattle.std.specs.List.{flat_map}
-use Rattle.people_results.specs.Digits.{both_digits}
-use Rattle.people_results.proofs.stamps.stamp_line.Given as goal
+use Rattle.transcode_core.specs.Digits.{both_digits}
+use Rattle.transcode_core.proofs.stamps.stamp_line.Given as goal
 
 -- the digits so far, and those of the octets that come
 abbrev pub invariant-octets : goal.invariant-octets
