@@ -4,7 +4,7 @@
  *     messages SPACE LOCAL SYNTAX MESSAGES SCHEMA...      SYNTAX is 0 (aligned PER), 1 (unaligned) or 2 (DER)
  *
  * Of each message it writes the octets in hexadecimal and the document that they stand for, or why it is refused.
- * docs/LIBRARY.md has the line that compiles and links it.
+ * docs/guide/LIBRARY.md has the line that compiles and links it.
  */
 #include "ruvkhiska.h"
 #include <stdio.h>

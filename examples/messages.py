@@ -2,7 +2,7 @@
 
     messages.py LIBRARY SPACE LOCAL SYNTAX MESSAGES SCHEMA...      SYNTAX is 0 (aligned PER), 1 (unaligned) or 2 (DER)
 
-LIBRARY is the shared object; docs/LIBRARY.md has the line that links it. It writes what examples/messages.c does.
+LIBRARY is the shared object; docs/guide/LIBRARY.md has the line that links it. It writes what examples/messages.c does.
 """
 import ctypes
 import os

@@ -1,6 +1,6 @@
 /*
  * Ruvkhiska for C: XML documents of a schema as the few octets of canonical PER, or DER, and back. Schemas are read once, and then any
- * number of messages is checked, encoded and decoded. docs/LIBRARY.md has how it is linked, and an example.
+ * number of messages is checked, encoded and decoded. docs/guide/LIBRARY.md has how it is linked, and an example.
  *
  *     ruvkhiska_files files = {0};
  *     ruvkhiska_converter converter = {0};
@@ -33,7 +33,7 @@
  * threads.
  *
  * Memory. malloc, realloc and free are those of one allocator, and align blocks up to 16 bytes. The stack has room: 8 MB for
- * the deepest documents (docs/LIMITS.md).
+ * the deepest documents (docs/reference/LIMITS.md).
  */
 #ifndef RUVKHISKA_H
 #define RUVKHISKA_H
@@ -125,7 +125,7 @@ void ruvkhiska_drop_files(ruvkhiska_files *files);
  * namespace, which is empty where it has none. Both are UTF-8. The files stay as they are.
  *
  * RUVKHISKA_DONE: the converter is open on what was prepared, and what it had before is closed. Else the converter is as it
- * was, and the status is that of the first fault, in the order in which the program tells faults (docs/ORDER.md):
+ * was, and the status is that of the first fault, in the order in which the program tells faults (docs/reference/ORDER.md):
  * RUVKHISKA_USAGE, RUVKHISKA_SCHEMA_SYNTAX, RUVKHISKA_SCHEMA_FAULT, RUVKHISKA_LINK_FAULT, RUVKHISKA_UNKNOWN_ROOT,
  * RUVKHISKA_TOO_LONG; or it is RUVKHISKA_OUT_OF_MEMORY. */
 int32_t ruvkhiska_open(ruvkhiska_files *files, const uint8_t *space, size_t space_count, const uint8_t *local, size_t local_count,

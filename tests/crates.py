@@ -1,5 +1,5 @@
 #!/usr/bin/env python3
-"""Checks the table of crates in docs/ARCHITECTURE.md against the crates, and prints each difference.
+"""Checks the table of crates in docs/internals/ARCHITECTURE.md against the crates, and prints each difference.
 
 Each crate of crates.txt has one row, in the order of crates.txt, and its name begins with one of the families. The row repeats the
 first paragraph of the crate's documentation. Each definition that it names in backquotes, as `Fields` or `IsModule`, is a file of
@@ -44,7 +44,7 @@ def summary(crate):
 
 def rows():
     """Returns the rows of the table: crate, what it does, definitions."""
-    text = (TOP / "docs" / "ARCHITECTURE.md").read_text()
+    text = (TOP / "docs" / "internals" / "ARCHITECTURE.md").read_text()
     table = text.split("| Crate | What it does | Definitions to read |", 1)[1].split("\n\n", 1)[0]
     return [[cell.strip() for cell in line.strip("|").split("|")] for line in table.splitlines()[2:]]
 

@@ -2,14 +2,15 @@
 """Tries what README.md and docs/ say.
 
 - README.md has less than 12 KB, each file that a page names is there, and so is each name of the code.
-- docs/REASONS.md has each reason of the source with its meaning and its remedy, and no other: tests/reasons.py.
+- docs/README.md has a line for each page, and no two pages have the same name.
+- docs/reference/REASONS.md has each reason of the source with its meaning and its remedy, and no other: tests/reasons.py.
 - Each command of a page, a line `$ ...` with `bin/ruvkhiska` or `bin/transcode` in it, answers what the page says.
-- The recipes of docs/CONTENT-MODELS.md: the first model is refused as NotClear, the second is taken, and takes the same documents,
-  tried with all of up to four (with the option --long six) child elements.
-- The remedies of docs/REASONS.md for schemas: what is refused, and what is taken in its place.
+- The recipes of docs/reference/CONTENT-MODELS.md: the first model is refused as NotClear, the second is taken, and takes the same
+  documents, tried with all of up to four (with the option --long six) child elements.
+- The remedies of docs/reference/REASONS.md for schemas: what is refused, and what is taken in its place.
 - What both ends must agree on, and what a round trip keeps.
-- The rules of docs/NARROW.md are those of ruvkhiska-narrow. Its commands need python3-xmlschema and xmllint, and aren't tried without
-  them.
+- The rules of docs/guide/NARROW.md are those of ruvkhiska-narrow. The commands of a page that runs it need python3-xmlschema and
+  xmllint, and aren't tried without them.
 
 It prints a line for each statement that is wrong, and the counts at the end; its status is 1 where any is.
 
@@ -17,6 +18,7 @@ It prints a line for each statement that is wrong, and the counts at the end; it
 
 PROGRAM names another program in place of bin/transcode, PEOPLE one in place of bin/ruvkhiska.
 """
+import glob
 import itertools
 import os
 import re
@@ -68,8 +70,17 @@ class Docs:
 
 
 def pages():
-    folder = os.path.join(HERE, "docs")
-    return ["README.md", "bench/README.md", *(f"docs/{it}" for it in sorted(os.listdir(folder)) if it.endswith(".md"))]
+    """Returns the paths of README.md, bench/README.md, the index docs/README.md, and the pages in the folders of docs."""
+    return ["README.md", "docs/README.md", "bench/README.md", *sorted(glob.glob("docs/*/*.md", root_dir=HERE))]
+
+
+def try_index(docs):
+    """Tries that docs/README.md has one line for each page, and that no two pages have the same name."""
+    indexed = re.findall(r"(?m)^\| \[[^]]+\]\(([\w/.-]+)\) \|", text_of("docs/README.md"))
+    found = sorted(glob.glob("*/*.md", root_dir=f"{HERE}/docs"))
+    docs.holds(sorted(indexed) == found, "docs/README.md and the pages differ:", set(indexed) ^ set(found), len(indexed))
+    docs.holds(len({os.path.basename(it) for it in found}) == len(found), "two pages have the same name")
+    docs.holds(glob.glob("*.md", root_dir=f"{HERE}/docs") == ["README.md"], "docs/ has a page outside its folders")
 
 
 def try_names(docs):
@@ -79,11 +90,12 @@ def try_names(docs):
         for path in re.findall(r"(?<![\w/.-])((?:docs|tests|bench|examples|crates|narrow)/[\w./*-]*[\w*])", text_of(page)):
             pattern = re.sub(r"\bNAME\b|\*", "*", path)
             found = subprocess.run(["bash", "-c", f"compgen -G {pattern}"], cwd=HERE, capture_output=True)
-            # What rt makes is there only behind it.
+            # rt makes the folders out.
             docs.holds(found.returncode == 0 or "/out" in path or "must-fail" in path, page, "names", path)
-        # The pages of the kit stand in tables of their own.
-        for name in re.findall(r"(?<![\w/-])([A-Z][A-Z-]+)\.md", text_of(page)) if page != "docs/CONTRIBUTING.md" else []:
-            docs.holds(os.path.isfile(f"{HERE}/docs/{name}.md") or name == "README", page, "names", f"{name}.md")
+        # The kit's pages are in tables of their own.
+        if page != "docs/internals/CONTRIBUTING.md":
+            for name in re.findall(r"(?<![\w/-])([A-Z][A-Z-]+)\.md", text_of(page)):
+                docs.holds(glob.glob(f"{HERE}/docs/*/{name}.md") or name == "README", page, "names", f"{name}.md")
 
 
 def try_code(docs):
@@ -113,19 +125,19 @@ def narrow_python():
 
 
 def try_narrow(docs):
-    """Compares the rules of docs/NARROW.md, from A to Z, with those of ruvkhiska-narrow."""
+    """Compares the rules of docs/guide/NARROW.md, from A to Z, with those of ruvkhiska-narrow."""
     rules = dict(re.findall(r'(?m)^    "([a-z-]+)": \("(\w+)", "', text_of("narrow/narrowing/report.py")))
-    section = text_of("docs/NARROW.md").split("\n## Rules\n")[1].split("\n## ")[0]
+    section = text_of("docs/guide/NARROW.md").split("\n## Rules\n")[1].split("\n## ")[0]
     said = re.findall(r"(?m)^\| ([a-z-]+) \| (\w+) \|", section)
-    docs.holds(dict(said) == rules, "docs/NARROW.md has other rules than ruvkhiska-narrow:", set(said) ^ set(rules.items()))
-    docs.holds(said == sorted(said), "the rules of docs/NARROW.md aren't in the order of names")
+    docs.holds(dict(said) == rules, "docs/guide/NARROW.md has other rules than ruvkhiska-narrow:", set(said) ^ set(rules.items()))
+    docs.holds(said == sorted(said), "the rules of docs/guide/NARROW.md aren't in the order of names")
 
 
 def try_commands(docs):
     python = narrow_python()
     for page in pages():
-        if page == "docs/NARROW.md" and not (python and shutil.which("xmllint")):
-            print("not tried: the commands of docs/NARROW.md, which need python3-xmlschema and xmllint")
+        if "    $ narrow/" in text_of(page) and not (python and shutil.which("xmllint")):
+            print(f"not tried: the commands of {page}, which need python3-xmlschema and xmllint")
             continue
         for block in re.findall(r"(?m)(?:^    .*\n?)+", text_of(page)):
             lines = [it[4:] for it in block.rstrip("\n").split("\n")]
@@ -178,8 +190,9 @@ def element_of(model):
 
 
 def try_recipes(docs, most):
-    recipes = re.findall(r"(?m)^\| `([^`]+)` \| `([^`]+)` \|", text_of("docs/CONTENT-MODELS.md").replace("\\|", "|"))
-    docs.holds(len(recipes) > 5, "docs/CONTENT-MODELS.md has", len(recipes), "recipes")
+    page = text_of("docs/reference/CONTENT-MODELS.md").replace("\\|", "|")
+    recipes = re.findall(r"(?m)^\| `([^`]+)` \| `([^`]+)` \|", page)
+    docs.holds(len(recipes) > 5, "docs/reference/CONTENT-MODELS.md has", len(recipes), "recipes")
     for refused, taken in recipes:
         docs.is_refused(element_of(refused), "link", "NotClear")
         schema = docs.schema(element_of(taken), "taken.xsd")
@@ -191,7 +204,7 @@ def try_recipes(docs, most):
                 ours = run("check", "d", schema, octets=document.encode()).returncode
                 due = 0 if takes.fullmatch("".join(names)) else 8
                 docs.holds(ours == due, taken, "in place of", refused, "answers", ours, "to", document)
-    for refused in re.findall(r"No model takes the place of `([^`]+)`", text_of("docs/CONTENT-MODELS.md").replace("\\|", "|")):
+    for refused in re.findall(r"No model takes the place of `([^`]+)`", page):
         docs.is_refused(element_of(refused), "link", "NotClear")
 
 
@@ -211,7 +224,7 @@ def a(name, kind="boolean"):
     return f'<xs:element name="{name}" type="xs:{kind}"/>'
 
 
-# What is refused, by which table and reason, and what docs/REASONS.md says in its place.
+# What is refused, by which table and reason, and what docs/reference/REASONS.md says in its place.
 REMEDIES = [
     (typed(refused), "schema", refused[0].upper() + refused[1:], [typed(it) for it in taken.split()])
     for refused, taken in {
@@ -290,7 +303,7 @@ def try_agreement(docs):
     docs.holds(run("show", loose).stdout == run("show", order).stdout, "another layout gives another module")
     files = [f"{HERE}/examples/collisions-{it}.xsd" for it in "123"]
     docs.holds(run("show", *files).stdout == run("show", *reversed(files)).stdout, "the order of files shows in the module")
-    for name in ("order", "features", "names", "boolean", "defaults", "any-order"):
+    for name in ("order", "features", "names", "boolean", "defaults", "any-order", "river"):
         docs.holds(run("show", f"{HERE}/examples/{name}.xsd").stdout.decode() == text_of(f"examples/{name}.asn1"), name)
     docs.holds(run("show", *files).stdout.decode() == text_of("examples/collisions.asn1"), "collisions")
     files = [f"{HERE}/examples/{it}.xsd" for it in ("parcel", "address")]
@@ -321,6 +334,7 @@ def main():
             return 2
     with tempfile.TemporaryDirectory() as work:
         docs = Docs(work)
+        try_index(docs)
         try_names(docs)
         try_code(docs)
         try_reasons(docs.holds)

@@ -158,7 +158,7 @@ def main():
                             wrong(variant, root, made.stderr.decode())
                         cases.append((root, made.stdout))
                 decode_all(module, cases)
-            # A text in fragments (docs/INTEROP.md says what the other side makes of it).
+            # A text in fragments (docs/guide/INTEROP.md says what the other side makes of it).
             for size in (16384, 20000, 100000):
                 long = ORDER % f"<line><sku>{'s' * size}</sku><qty>1</qty></line>"
                 order = modules["order"]

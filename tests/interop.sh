@@ -1,6 +1,7 @@
 #!/usr/bin/env bash
-# Tries what docs/INTEROP.md says with another implementation of ASN.1, that of Erlang (Debian's erlang-asn1). In PER, aligned and
-# unaligned, and in DER, with the modules of the examples and of random schemas, as `show` prints them and tests/strip_xer.py strips them:
+# Tries what docs/guide/INTEROP.md says with another implementation of ASN.1, that of Erlang (Debian's erlang-asn1). In PER,
+# aligned and unaligned, and in DER, with the modules of the examples and of random schemas, as `show` prints them and tests/strip_xer.py
+# strips them:
 #
 # - each module is compiled;
 # - of documents, our octets are decoded, and the value is encoded to the same octets again;

@@ -1,19 +1,21 @@
 #!/usr/bin/env python3
-"""Walks the definitions that the contract of `run` reaches, from `RunsAs` in transcode_core down, and checks docs/PROMISE.md by it.
+"""Walks the definitions that the contract of `run` reaches, from `RunsAs` in transcode_core down, and checks
+docs/internals/PROMISE.md by it.
 
 Each file of specs/ that has a definition reached has a row there, with the number of lines that a reader needs of it (those of the
 definitions reached, with the comments before them), and each row is such a file. The sum is at most LIMIT.
 
     tests/promise.py            a line for each row that is wrong; the status is 1 where any is
     tests/promise.py --list     the files in the order of reading, with their lines needed and in all
-    tests/promise.py --write    puts the numbers into the rows of docs/PROMISE.md, and lists the files that it lacks
+    tests/promise.py --write    puts the numbers into the rows of docs/internals/PROMISE.md, and lists the files that it lacks
 """
 import os
 import re
 import sys
 
 HERE = os.path.dirname(os.path.dirname(os.path.abspath(__file__)))
-PAGE = os.path.join(HERE, "docs/PROMISE.md")
+NAME = "docs/internals/PROMISE.md"
+PAGE = os.path.join(HERE, NAME)
 START = ("transcode_core", "Runs", "RunsAs")
 LIMIT = 9000
 BROUGHT = re.compile(r"(?:(?:unfoldable )?pub )?use ")
@@ -126,11 +128,11 @@ def main(option):
         with open(PAGE, "w", encoding="utf-8") as file:
             file.write(page)
     told = {(row[1], row[2]): int(row[3]) for row in ROW.finditer(page)}
-    wrong = [f"docs/PROMISE.md lacks {crate}/{path}, of which {lines} lines are needed" for (crate, path), (lines, _) in files.items() if (crate, path) not in told]
-    wrong += [f"docs/PROMISE.md has {crate}/{path} with {lines} lines, and {files.get((crate, path), (0, 0))[0]} are needed"
+    wrong = [f"{NAME} lacks {crate}/{path}, of which {lines} lines are needed" for (crate, path), (lines, _) in files.items() if (crate, path) not in told]
+    wrong += [f"{NAME} has {crate}/{path} with {lines} lines, and {files.get((crate, path), (0, 0))[0]} are needed"
               for (crate, path), lines in told.items() if lines != files.get((crate, path), (0, 0))[0]]
     if f"**{len(files)} files, {total:,} lines**" not in page:
-        wrong.append(f"docs/PROMISE.md doesn't tell {len(files)} files, {total:,} lines")
+        wrong.append(f"{NAME} doesn't tell {len(files)} files, {total:,} lines")
     if total > LIMIT:
         wrong.append(f"{total} lines are needed, more than {LIMIT}")
     print("\n".join([*wrong, f"{len(files)} files, {total} lines needed, {len(wrong)} statements wrong"]))

@@ -12,8 +12,8 @@ was made, by the clauses that are named below. A case is wrong where
 - the schema with something changed, ten times, is taken by `show` and not by xmllint. The other way round is no fault: the
   profile leaves things out, and xmllint takes more than XML Schema does (attributes that are unknown, a facet twice).
 
-Models that aren't clear by the rules of docs/CONTENT-MODELS.md must be refused (NotClear), and no others; they are counted and
-passed over. It prints a line for each case that is wrong, keeps its schema and its document in the folder KEEP, and the counts
+Models that aren't clear by the rules of docs/reference/CONTENT-MODELS.md must be refused (NotClear), and no others; they are counted
+and passed over. It prints a line for each case that is wrong, keeps its schema and its document in the folder KEEP, and the counts
 at the end. Its status is 1 where any is wrong.
 
     tests/random_cases.py [FIRST [COUNT]]      needs the program (`make run`) and xmllint; 1 and 300, some three minutes
@@ -34,7 +34,7 @@ import sys
 import tempfile
 import xml.etree.ElementTree as tree
 
-# The greatest document, in bytes (docs/LIMITS.md).
+# The greatest document, in bytes (docs/reference/LIMITS.md).
 MOST = 16_777_216
 
 XSD = "http://www.w3.org/2001/XMLSchema"
@@ -726,7 +726,7 @@ class Particle:
         return self.least == 0 or self.term.may_be_empty()
 
     def is_clear(self, follow):
-        """The rules of docs/CONTENT-MODELS.md, before these names."""
+        """The rules of docs/reference/CONTENT-MODELS.md, before these names."""
         names = self.term.first_names()
         if not self.is_once() and self.term.may_be_empty():
             return False
@@ -1408,8 +1408,8 @@ class Cases:
             told = f"check: {ours.returncode} {ours.stderr.decode()}, xmllint: {peer.returncode} {peer.stderr.decode()}"
             self.is_wrong(number, document, told)
 
-    # What xmllint says of schemas that the program takes beyond XML Schema Part 2 (docs/DECISIONS.md): a bound that is no value
-    # of the base, and a length beside the other lengths.
+    # What xmllint says of schemas that the program takes beyond XML Schema Part 2 (docs/internals/DECISIONS.md): a bound that is
+    # no value of the base, and a length beside the other lengths.
     BEYOND = (b"of the facet does not validate against the base type", b"'length'")
 
     def is_taken(self, number, schema):

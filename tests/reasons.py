@@ -1,12 +1,12 @@
 #!/usr/bin/env python3
-"""Compares docs/REASONS.md with the reasons of the source, both ways.
+"""Compares docs/reference/REASONS.md with the reasons of the source, both ways.
 
 Each variant of an enum of reasons has a row in the function `reason` next to it: its name, what it means and its remedy. This checks:
 
 - Each variant has one row, whose name is that of the variant.
 - The names of the rows and of the definitions (`specs/Reasons` of each crate) are the same, in the same order.
-- docs/REASONS.md has a line for each row, with the same meaning and the same remedy, and each of its lines is that of a row. Marks
-  of code, which a terminal doesn't show, don't count.
+- docs/reference/REASONS.md has a line for each row, with the same meaning and the same remedy, and each of its lines is that of a
+  row. Marks of code, which a terminal doesn't show, don't count.
 - The lines are in the order of the alphabet, and each page that they name is there.
 - Each reason is the answer to a row of crates/transcode_rows.
 - The page has the word of each outcome without a reason.
@@ -15,6 +15,7 @@ It prints a line for each statement that is wrong, and the counts at the end; it
 
     tests/reasons.py              a second; needs no program
 """
+import glob
 import os
 import re
 import sys
@@ -96,26 +97,26 @@ def try_source(holds):
 
 def try_page(holds, rows):
     """The page has a line for each row, in the order of the alphabet, and no other line."""
-    page = text_of("docs/REASONS.md")
+    page = text_of("docs/reference/REASONS.md")
     said, names = {}, []
     for name, tables, means, remedy, pages in lines_of(page):
         names.append((name.lower(), name))
         for table in tables:
-            holds((table, name) not in said, "docs/REASONS.md has twice", table, name)
+            holds((table, name) not in said, "docs/reference/REASONS.md has twice", table, name)
             said[table, name] = means, remedy
         for it in pages:
-            holds(os.path.isfile(f"{HERE}/docs/{it}.md"), "docs/REASONS.md names the page", it)
-    holds(names == sorted(names), "docs/REASONS.md isn't in the order of the alphabet")
+            holds(glob.glob(f"{HERE}/docs/*/{it}.md"), "docs/reference/REASONS.md names the page", it)
+    holds(names == sorted(names), "docs/reference/REASONS.md isn't in the order of the alphabet")
     for at in sorted(rows.keys() - said.keys()):
-        holds(False, "docs/REASONS.md lacks", *at)
+        holds(False, "docs/reference/REASONS.md lacks", *at)
     for at in sorted(said.keys() - rows.keys()):
-        holds(False, "docs/REASONS.md has a line that is no reason of the source:", *at)
+        holds(False, "docs/reference/REASONS.md has a line that is no reason of the source:", *at)
     for at in sorted(rows.keys() & said.keys()):
-        holds(rows[at] == said[at], *at, "is", rows[at], "and in docs/REASONS.md", said[at])
+        holds(rows[at] == said[at], *at, "is", rows[at], "and in docs/reference/REASONS.md", said[at])
     words = [it for path in WORDS for it in re.findall(r'name: "(\w+)"', text_of(path))]
     holds(len(words) > 10, len(words), "words of outcomes")
     for name in words:
-        holds(name == "Done" or f"`{name}`" in page, "docs/REASONS.md lacks the word", name)
+        holds(name == "Done" or f"`{name}`" in page, "docs/reference/REASONS.md lacks the word", name)
 
 
 def try_answers(holds, rows):

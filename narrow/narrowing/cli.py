@@ -38,7 +38,7 @@ The report has one line for each thing that DIR doesn't say as FILE does:
 
 A document that is valid by FILE, and that no line `refuses` or `failed`
 speaks of, is valid by DIR, and what comes back from its octets is valid by
-FILE. docs/NARROW.md has each RULE.
+FILE. docs/guide/NARROW.md has each RULE.
 
 exit status:
   0  DIR says the same as FILE      3  some line says failed

@@ -1,4 +1,4 @@
-"""Particles, and how a content model is made clear (docs/CONTENT-MODELS.md).
+"""Particles, and how a content model is made clear (docs/reference/CONTENT-MODELS.md).
 
 A particle is an element, whose body has a `name`, or a sequence, a choice or an all, whose body is a tuple of
 particles. NEVER is the particle that nothing matches, as an empty choice. EMPTY is the one that matches no
@@ -82,7 +82,7 @@ def levels(p: Particle) -> int:
 
 
 def faults(p: Particle, follow: frozenset[str] = frozenset(), top: bool = True) -> Iterator[int]:
-    """Yields the rules 1 to 4 of docs/CONTENT-MODELS.md that the particle, or one in it, breaks."""
+    """Yields the rules 1 to 4 of docs/reference/CONTENT-MODELS.md that the particle, or one in it, breaks."""
     starts = first(p)
     if (p.lo, p.hi) != (1, 1) and empty_body(p):
         yield 1

@@ -1,4 +1,4 @@
-"""What a simple type becomes in the profile (docs/SIMPLE-TYPES.md).
+"""What a simple type becomes in the profile (docs/reference/SIMPLE-TYPES.md).
 
 A type becomes whole numbers, truth values, a list or a union where it can, and else a text, as it was written:
 what comes back from octets has to be valid by the original, and a number comes back in canonical spelling.

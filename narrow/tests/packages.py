@@ -6,8 +6,8 @@
 FOLDER has a folder for each package, with what `dpkg-deb -x` unpacks of it. A namespace that a schema imports from a place which
 isn't there is read from a file of the package, or else of another one, by --location. --download fetches the packages below into it by
 `apt-get download`, which needs their lists (`apt-get update`) and no rights. Each schema file is tried by itself, with what it
-includes and imports. The table of docs/NARROW.md is written to standard output, and a line for each schema that isn't accepted
-afterwards to standard error. The status is 1 where under 90 % of the schemas are accepted afterwards.
+includes and imports. The table of docs/guide/NARROW.md is written to standard output, and a line for each schema that isn't
+accepted afterwards to standard error. The status is 1 where under 90 % of the schemas are accepted afterwards.
 
 PROGRAM names another program in place of bin/ruvkhiska; --only PACKAGE tries this package alone.
 """

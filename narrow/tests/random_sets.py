@@ -1,5 +1,5 @@
 #!/usr/bin/env python3
-"""Random schemas with all that ruvkhiska-narrow rewrites, and random documents: the promise of docs/NARROW.md.
+"""Random schemas with all that ruvkhiska-narrow rewrites, and random documents: the promise of docs/guide/NARROW.md.
 
     narrow/tests/random_sets.py [COUNT [FIRST]] [--documents N] [--sample N]
 

@@ -1,5 +1,5 @@
 #!/usr/bin/env bash
-# The sizes in docs/NARROW.md: examples whose schemas were rewritten, as XML, in gzip, as octets, and these in gzip.
+# The sizes in docs/guide/NARROW.md: examples whose schemas were rewritten, as XML, in gzip, as octets, and these in gzip.
 #
 #     narrow/tests/sizes.sh          needs bin/ruvkhiska (or PROGRAM), gzip, and python3-xmlschema (PYTHON names its Python)
 set -eu

@@ -1,4 +1,7 @@
-"""The reasons of docs/REASONS.md for which ruvkhiska-narrow helps: each refused schema is accepted after the rewriting."""
+"""The reasons of docs/reference/REASONS.md for which ruvkhiska-narrow helps.
+
+Each refused schema is accepted after the rewriting.
+"""
 from __future__ import annotations
 
 import os
@@ -75,9 +78,16 @@ class Reasons(unittest.TestCase):
                 self.assertTrue(rewritten.files, rewritten.outcome.lines)
                 self.assertEqual(rewritten.accepted(), "")
 
+    def test_remedies(self) -> None:
+        """Tries that docs/reference/REASONS.md, whose remedies `ruvkhiska` prints, names ruvkhiska-narrow for these reasons alone."""
+        with open(os.path.join(TOP, "docs", "reference", "REASONS.md"), encoding="utf-8") as file:
+            rows = re.findall(r"(?m)^\| (\w+) \| ([a-z]+(?:: Facet)?) \| .*; `ruvkhiska-narrow` [^|]* \| [A-Z-]+ \|$", file.read())
+        expected = {(table, reason) for table, reason, _ in REFUSED}
+        self.assertEqual({(table, reason) for reason, table in rows} ^ expected, {("schema", "Limit")})
+
     def test_page(self) -> None:
-        """Tries that docs/NARROW.md lists these reasons."""
-        with open(os.path.join(TOP, "docs", "NARROW.md"), encoding="utf-8") as file:
+        """Tries that docs/guide/NARROW.md lists these reasons."""
+        with open(os.path.join(TOP, "docs", "guide", "NARROW.md"), encoding="utf-8") as file:
             section = file.read().split("\n## Refusals that it helps with\n")[1].split("\n## ")[0]
         said = {(table, reason) for table, reasons in re.findall(r"(?m)^\| ([a-z]+(?:: Facet)?) \| (.*?) \|", section) for reason in reasons.split(", ")}
         self.assertEqual(said ^ {(table, reason) for table, reason, _ in REFUSED}, set())

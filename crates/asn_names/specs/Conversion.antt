@@ -11,11 +11,11 @@ use Rattle.asn_names.specs.declared.conversion.NameKind.TheVariants.{Reference, 
 abbrev pub letters_and_digits : List (ℕ × ℕ)
 letters_and_digits = (0x41, 0x5A) ∷ (0x61, 0x7A) ∷ (0x30, 0x39) ∷ []
 
--- what is kept of a character: a hyphen for a space, a full stop, a low line and a hyphen, and a letter or a digit as it is
+-- What is kept of a character: a hyphen for a space, a full stop, a low line and a hyphen; a letter or a digit as it is.
 unfoldable pub kept : ℕ → Option ℕ
 kept c = if c == 0x20 || c == 0x2E || c == 0x5F || c == 0x2D then Some 0x2D else if in_ranges letters_and_digits c then Some c else None
 
--- the parts between hyphens, joined by one hyphen each
+-- The characters kept, with one hyphen for each run of hyphens, and none at the beginning or the end.
 abbrev pub joined : List ℕ → List ℕ
 joined cs = join_with_byte 0x2D (filter has_bytes (slice_split (λ c. c == 0x2D) (filter_map kept cs)))
 
@@ -24,12 +24,12 @@ abbrev pub letter_x : NameKind → ℕ
 letter_x Reference = 0x58
 letter_x Identifier = 0x78
 
--- the first letter of a reference is raised, and that of an identifier lowered
+-- The first letter of a reference is raised, and that of an identifier is lowered.
 abbrev pub cased : NameKind → ℕ → ℕ
 cased Reference c = to_ascii_uppercase c
 cased Identifier c = to_ascii_lowercase c
 
--- a letter stands first
+-- The characters, made to begin with a letter: `X` or `x` is written for an empty list and before a digit.
 abbrev pub begun : NameKind → List ℕ → List ℕ
 begun kind [] = letter_x kind ∷ []
 begun kind (c ∷ cs) = if is_ascii_digit c then letter_x kind ∷ c ∷ cs else cased kind c ∷ cs

@@ -1,8 +1,8 @@
--- The reserved words of ASN.1 as this mapping has them (after ITU-T X.680): its words and its restricted string types.
+-- The reserved words of ASN.1 in this mapping: the words and the restricted string types of ITU-T X.680.
 use Rattle.std.specs.Prelude.{ℕ, ◌==◌, List, ◌++◌, codes}
 use Rattle.std.specs.List.{slice_split}
 
--- the words, with a space between two
+-- The words, separated by single spaces.
 abbrev pub reserved_text : List ℕ
 reserved_text =
     codes "ABSENT ABSTRACT-SYNTAX ALL APPLICATION AUTOMATIC BEGIN BIT BMPString BOOLEAN BY CHARACTER CHOICE CLASS COMPONENT "

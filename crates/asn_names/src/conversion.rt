@@ -1,4 +1,4 @@
-//! How a name of XML becomes a name of ASN.1.
+//! Converts an XML name into an ASN.1 name (X.694).
 ghost use Rattle.std.specs.Prelude.{◌≡◌, ◌++◌, ◌∷◌, [], IfOk, OnOk, ◌<◌, string_bytes, if◌then◌else◌};
 ghost use Rattle.std.specs.Char.{is_ascii_digit};
 ghost use Rattle.std.specs.Str.{chars};
@@ -7,7 +7,7 @@ ghost use Rattle.asn_names.specs.Conversion.{converted, kept, letter_x, cased};
 use base_texts::{Memory, Text};
 use std::alloc::{AllocError, Global};
 
-/// What a name of ASN.1 names.
+/// The kind of thing that an ASN.1 name denotes.
 #[derive(Clone, Copy, Debug, PartialEq, Eq)]
 pub enum NameKind {
     /// A type. Its name begins with a capital letter.
@@ -16,7 +16,8 @@ pub enum NameKind {
     Identifier,
 }
 
-// What is kept of a character: a letter or a digit as it is, and a hyphen for what stands between words.
+// Returns what a conversion keeps of a character: a letter or a digit as it is, and a hyphen for a character that separates
+// words.
 #[tactic(auto, unfolding(crate::specs::Conversion::kept))]
 fn kept(c: char) -> Option<char>
     ensures { result ≡ kept c }
@@ -46,7 +47,7 @@ fn cased(kind: NameKind, c: char) -> char
     }
 }
 
-// Appends the first letter or digit of a name, the letter in the case of its kind, and the digit behind an `x`.
+// Appends the first letter or digit of a name: a letter in the case of its kind, or an `x` and then the digit.
 fn begin(name: &mut String, kind: NameKind, c: char) -> Result<(), AllocError>
     requires { c < 128 }
     ensures { OnOk result (string_bytes name.new ≡ string_bytes name.old ++ (if is_ascii_digit c then letter_x kind ∷ c ∷ [] else cased kind c ∷ [])) }
@@ -57,8 +58,8 @@ fn begin(name: &mut String, kind: NameKind, c: char) -> Result<(), AllocError>
     name.push(cased(kind, c))
 }
 
-/// The name of ASN.1 that is made from a name of XML, after X.694: its letters and digits of ASCII, and one hyphen where
-/// spaces, full stops, low lines or hyphens stand between them; begun by a letter in the case of its kind.
+/// Returns the ASN.1 name of an XML name, by X.694: its ASCII letters and digits, and one hyphen for each run of spaces, full
+/// stops, low lines and hyphens between them. It begins with a letter in the case of its kind.
 pub fn convert(alloc: Global, kind: NameKind, name: &Text) -> Result<Text, Memory>
     ensures { IfOk result (λ made. made ≡ converted kind (chars name.now)) }
 {

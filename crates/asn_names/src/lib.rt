@@ -1,6 +1,6 @@
 //! Converts XML names to ASN.1 names, keeps them distinct in a scope, and restores the XML name.
 //!
-//! Read first: docs/NAMES.md, `specs/Conversion`, then `src/scope.rt`.
+//! Read first: docs/reference/NAMES.md, `specs/Conversion`, then `src/scope.rt`.
 #![tactic(auto)]
 
 mod conversion;

@@ -3,7 +3,7 @@ ghost use Rattle.std.specs.Prelude.{◌≡◌, ◌↔◌, ◌==◌, IsTrue, byte
 ghost use Rattle.std.specs.List.{Contains, list_any, slice_split};
 ghost use Rattle.asn_names.specs.ReservedWords.{reserved_words};
 
-// The words, with a space between two.
+// The words, separated by single spaces.
 const RESERVED_WORDS: &str =
     "ABSENT ABSTRACT-SYNTAX ALL APPLICATION AUTOMATIC BEGIN BIT BMPString BOOLEAN BY CHARACTER CHOICE CLASS COMPONENT \
     COMPONENTS CONSTRAINED CONTAINING DEFAULT DEFINITIONS EMBEDDED ENCODED ENCODING-CONTROL END ENUMERATED EXCEPT \
@@ -13,7 +13,7 @@ const RESERVED_WORDS: &str =
     PrintableString PRIVATE REAL RELATIVE-OID SEQUENCE SET SETTINGS SIZE STRING SYNTAX T61String TAGS TeletexString \
     TRUE TYPE-IDENTIFIER UNION UNIQUE UNIVERSAL UniversalString UTCTime UTF8String VideotexString VisibleString WITH";
 
-// Whether the words, with a space between two, have this one.
+// Returns whether a text of words, separated by single spaces, has this word.
 fn has_word(words: &[u8], name: &[u8]) -> bool
     ensures { result ≡ list_any (bytes_eq name.now) (slice_split (λ b. b == 32) words.now) }
 {

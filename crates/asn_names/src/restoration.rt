@@ -1,4 +1,4 @@
-//! How an XML name is told back from its name of ASN.1.
+//! Restores an XML name from its ASN.1 name.
 ghost use Rattle.std.specs.Prelude.{◌≡◌, bytes_eq};
 ghost use Rattle.asn_names.specs.Restoring.{capitalized, uncapitalized, named, form_of};
 
@@ -11,11 +11,11 @@ pub enum NameForm {
     Capitalized,
     /// The name with its first letter lowered.
     Uncapitalized,
-    /// A name of its own, in quotation marks.
+    /// A given name, in quotation marks.
     Quoted,
 }
 
-/// Returns whether raising the first letter of the one name gives the other.
+/// Returns whether the generated name with its first letter raised is the original name.
 pub fn is_capitalized(generated: &[u8], original: &[u8]) -> bool
     ensures { result ≡ bytes_eq (capitalized generated.now) original.now }
 {
@@ -27,7 +27,7 @@ pub fn is_capitalized(generated: &[u8], original: &[u8]) -> bool
     }
 }
 
-/// Returns whether lowering the first letter of the one name gives the other.
+/// Returns whether the generated name with its first letter lowered is the original name.
 pub fn is_uncapitalized(generated: &[u8], original: &[u8]) -> bool
     ensures { result ≡ bytes_eq (uncapitalized generated.now) original.now }
 {
@@ -39,7 +39,7 @@ pub fn is_uncapitalized(generated: &[u8], original: &[u8]) -> bool
     }
 }
 
-/// The form of NAME that tells the original name back from the generated one, or None where they are equal.
+/// Returns the form of NAME that restores the original name from the generated one, or None if they are equal.
 pub fn restoring(generated: &Text, original: &Text) -> Option<NameForm>
     ensures form { result ≡ form_of generated.now original.now }
     ensures back { named result generated.now original.now ≡ original.now }

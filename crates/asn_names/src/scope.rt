@@ -1,4 +1,4 @@
-//! Names that are kept apart.
+//! Names that are kept distinct.
 ghost use Rattle.std.specs.Prelude.{◌≡◌, ℕ, ◌+◌, ◌<◌, ◌≤◌, ◌^◌, ◌↔◌, List, [], ◌∷◌, ◌++◌, IfOk, OnErr, IsTrue};
 ghost use Rattle.std.specs.List.{Contains};
 ghost use Rattle.asn_names.specs.Taking.{IsFree, IsTaken, IsLeastSuffix, AreTakenBelow, suffixed};
@@ -11,12 +11,12 @@ use indexmap::{IndexMap, IndexSet};
 use std::alloc::Global;
 use std::marker::Model;
 
-/// Names of which no two are equal, seen as the list of them in the order in which they were taken.
+/// Distinct names, seen as the list of them in the order in which they were added.
 #[derive(Drop)]
 pub struct Scope {
     alloc: Global,
     names: IndexSet<Text>,
-    // For a name that was given with a suffix, a number below which each suffix is taken.
+    // For each name that was returned with a suffix, a number below which each suffix is in use.
     suffixes: IndexMap<Text, u64>,
 }
 
@@ -32,14 +32,14 @@ impl Model for Scope {
     ghost invariant = { λ s. (name : List ℕ) (n : ℕ) → get bytes_eq s.suffixes name ≡ Some n → (0 < n) × AreTakenBelow s.names.keys name n };
 }
 
-// The name with a suffix.
+// Returns the name with a suffix.
 fn with_suffix(alloc: Global, name: &Text, n: u64) -> Result<Text, Memory>
     ensures { IfOk result (λ text. text ≡ suffixed name.now n) }
 {
     Text::from_string(format!(in alloc; "{}-{n}", name.as_str())?)
 }
 
-// The name with the first suffix that makes it none of the names, where each suffix below this one is taken.
+// Returns the name with the first suffix that differs from all names, where each suffix below `from` is in use.
 fn first_suffix(
     alloc: Global,
     names: &IndexSet<Text>,
@@ -50,7 +50,7 @@ fn first_suffix(
     requires taken { AreTakenBelow names.now.keys name.now from }
     ensures { IfOk result (λ r. (r.0 ≡ suffixed name.now r.1) × (0 < r.1) × (r.1 < 2 ^ 64) × (¬ Contains names.now.keys r.0) × AreTakenBelow names.now.keys name.now r.1) }
 {
-    // Each suffix that is taken is a name of its own, so they run out before the numbers do.
+    // The names with these suffixes are distinct, so the names in use run out before the numbers do.
     prove!(names.len() < usize::MAX);
     let mut n = from;
     'suffixes: loop {
@@ -63,7 +63,7 @@ fn first_suffix(
 }
 
 impl Scope {
-    /// No names yet.
+    /// Returns a scope without names.
     pub fn new(alloc: Global) -> Scope
         ensures { result ≡ [] }
     {
@@ -86,7 +86,7 @@ impl Scope {
         }
     }
 
-    // The name with the least suffix that makes it none of the names taken.
+    // Returns the name with the least suffix that differs from all names in use.
     fn suffixed(&mut self, name: &Text) -> Result<Text, Memory>
         ensures same { self.new ≡ self.old }
         ensures least { IfOk result (λ text. (n : ℕ) × ((kind : NameKind) → IsLeastSuffix kind self.old name.now n) × (text ≡ suffixed name.now n)) }
@@ -97,7 +97,7 @@ impl Scope {
         Ok(text)
     }
 
-    // What is given for the name, where no name is noted.
+    // Returns the name that is chosen for this one, and adds none.
     fn given(&mut self, kind: NameKind, converted: &Text) -> Result<Text, Memory>
         ensures same { self.new ≡ self.old }
         ensures taken { IfOk result (λ name. IsTaken kind self.old converted.now name) }
@@ -108,8 +108,8 @@ impl Scope {
         self.suffixed(converted)
     }
 
-    /// Takes the name, or where it is taken, or a reserved word and asked for as a reference, the name with a hyphen and
-    /// the least positive number that makes it free.
+    /// Adds and returns the name. If it is in use, or is a reserved word and a reference is required, it adds and returns the
+    /// name with a hyphen and the least positive number that makes it free.
     pub fn take(&mut self, kind: NameKind, converted: &Text) -> Result<Text, Memory>
         ensures taken { IfOk result (λ name. IsTaken kind self.old converted.now name) }
         ensures fresh { IfOk result (λ name. ¬ Contains self.old name) }

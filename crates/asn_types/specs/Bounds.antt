@@ -1,4 +1,4 @@
--- The widths that bounds and numbers have in each module: whole numbers are of 128 bits, and sizes of 32.
+-- The widths of bounds and numbers in each module: whole numbers have 128 bits, and sizes 32.
 use Rattle.std.specs.Prelude.{◌≡◌, ◌<◌, ◌^◌, ℕ, ℤ, true, Option, Some, None, List, All}
 use Rattle.base_trees.specs.Rose.{Rose, node, Roses, none, more}
 use Rattle.simple_types.specs.Lexical.{is_128_bits}
@@ -7,7 +7,7 @@ use Rattle.asn_types.specs.declared.types.Form.{Form}
 use Rattle.asn_types.specs.declared.types.Form.TheVariants as form
 use Rattle.asn_types.specs.declared.types.TypeLabel.{TypeLabel}
 
--- a bound of an INTEGER, where there is one
+-- A bound of an INTEGER, if there is one, has 128 bits.
 abbrev pub IsBound : Option ℤ → Type 0
 IsBound None = Unit {0}
 IsBound (Some z) = is_128_bits z ≡ true
@@ -15,7 +15,7 @@ IsBound (Some z) = is_128_bits z ≡ true
 abbrev pub AreWhole : List ℤ → Type 0
 AreWhole numbers = All (λ z. is_128_bits z ≡ true) numbers
 
--- a greatest size, where there is one
+-- A greatest size, if there is one, has 32 bits.
 abbrev pub IsSize : Option ℕ → Type 0
 IsSize None = Unit {0}
 IsSize (Some n) = n < 2 ^ 32

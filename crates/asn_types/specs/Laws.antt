@@ -1,5 +1,5 @@
--- What code needs that goes down types without a value, as a decoder does: it has only so many elements, references and
--- kids before it.
+-- What a traversal of types without a value needs, as in a decoder: the numbers of nested elements, of references and of children
+-- are bounded.
 use Rattle.std.specs.Prelude.{◌≡◌, ℕ, suc, false, Some, None, List, length, slice_get}
 use Rattle.base_trees.specs.Rose.{Rose, node, Roses, list_of, label_of, kids_of}
 use Rattle.asn_types.specs.declared.types.Component.{Component}
@@ -10,24 +10,24 @@ use Rattle.asn_types.specs.Parts.{parts_of, IsPart}
 use Rattle.asn_types.specs.Refs.{target, next, resolve, is_element, ChainsWithin, IsOf}
 use Rattle.asn_types.specs.Roles.{role_of}
 
--- A part that is no element has the references that its type has,
+-- A part that is not an element inherits the number of references of its type,
 abbrev pub PartKeepsReferences : Type 0
 PartKeepsReferences = (M : List Assignment) (n : ℕ) (l : TypeLabel) (ts : Roses TypeLabel) (i : ℕ) (part : Component) (t : Rose TypeLabel)
     → ChainsWithin M n (node l ts) → IsPart l ts i part t → is_element (role_of l i part) ≡ false → ChainsWithin M n t
 
--- a reference takes one,
+-- a reference uses one of them,
 abbrev pub ReferenceTakesOne : Type 0
 ReferenceTakesOne = (M : List Assignment) (n : ℕ) (t u : Rose TypeLabel) → ChainsWithin M (suc n) t → next M t ≡ Some u → ChainsWithin M n u
 
--- and each type of a module has four, an element's too.
+-- and each type of a module has four, the type of an element too.
 abbrev pub TypeHasFour : Type 0
 TypeHasFour = (M : List Assignment) (t : Rose TypeLabel) → AreWellFormed M t → ChainsWithin M 4 t
 
--- Behind so many references as a type may have stands a type that is none.
+-- In a module the type that `resolve` reaches is not a reference.
 abbrev pub ResolvedIsNoReference : Type 0
 ResolvedIsNoReference = (M : List Assignment) (t : Rose TypeLabel) → IsModule M → AreWellFormed M t → target (label_of (resolve M t)).form ≡ None
 
--- The types of a module are well formed, those of their parts are of the module,
+-- The types of a module are well formed, the types of their parts are of the module,
 abbrev pub TypesAreWellFormed : Type 0
 TypesAreWellFormed = (M : List Assignment) (t : Rose TypeLabel) → IsModule M → IsOf M t → AreWellFormed M t
 
@@ -35,10 +35,10 @@ abbrev pub PartsAreOfTheModule : Type 0
 PartsAreOfTheModule = (M : List Assignment) (l : TypeLabel) (ts : Roses TypeLabel) (i : ℕ) (t : Rose TypeLabel)
     → IsOf M (node l ts) → slice_get (list_of ts) i ≡ Some t → IsOf M t
 
--- one for each component, alternative and item,
+-- there is one for each component, alternative and item,
 abbrev pub TypesHaveTheirParts : Type 0
 TypesHaveTheirParts = (M : List Assignment) (t : Rose TypeLabel) → IsModule M → IsOf M t → length (kids_of t) ≡ length (parts_of (label_of t).form)
 
--- and so are those behind their references.
+-- and the types that their references reach are of the module.
 abbrev pub ResolvedIsOfTheModule : Type 0
 ResolvedIsOfTheModule = (M : List Assignment) (t : Rose TypeLabel) → IsOf M t → IsOf M (resolve M t)

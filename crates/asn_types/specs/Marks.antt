@@ -55,7 +55,7 @@ has_list marks = list_any is_list marks
 abbrev pub has_use_union : List Instruction → Bool
 has_use_union marks = list_any is_use_union marks
 
--- what the first WHITESPACE says
+-- The treatment of the first WHITESPACE.
 abbrev pub white_space_of : List Instruction → WhiteSpace
 white_space_of [] = Preserve
 white_space_of (mark.WhiteSpace how ∷ marks) = how

@@ -1,4 +1,4 @@
--- What each module keeps.
+-- What holds of each module.
 use Rattle.std.specs.Prelude.{◌≡◌, ℕ, ◌^◌, ◌<◌, ◌+◌, ◌-◌, ◌||◌, Bool, true, false, nat_lt, Option, Some, None, List, [], ◌∷◌, length, map, slice_get, bytes_eq, All, if◌then◌else◌}
 use Rattle.std.specs.Option.{option_map}
 use Rattle.std.specs.List.{IsDistinct}
@@ -27,7 +27,7 @@ use Rattle.asn_types.specs.Roles.{role_of, order_place}
 use Rattle.asn_types.specs.Simples.{MapsTo, IsSimple}
 use Rattle.asn_types.specs.Refs.{resolve, is_element, ChainsWithin}
 
--- no bounds are crossed, numbers and words ascend, no ENUMERATED and no CHOICE is empty, references are of the module
+-- No bounds are crossed, numbers and words ascend, no ENUMERATED and no CHOICE is empty, and references are of the module.
 abbrev pub IsForm : List Assignment → Form → Type 0
 IsForm M form.Bool = Unit {0}
 IsForm M (form.Int least greatest) = AreBounds least greatest
@@ -40,21 +40,21 @@ IsForm M (form.Choice parts) = IsCounted (length parts)
 IsForm M (form.SequenceOf part least most) = AreSizes least most
 IsForm M (form.Ref to) = to < length M
 
--- UTF8String without constraints
+-- The type is UTF8String without constraints.
 abbrev pub IsAnyText : Rose TypeLabel → Type 0
 IsAnyText (node l ts) = l.form ≡ form.Utf8 0 None Any
 
--- SEQUENCE OF UTF8String without bounds
+-- The type is SEQUENCE OF UTF8String without bounds.
 abbrev pub AreTexts : Rose TypeLabel → Type 0
 AreTexts (node l none) = ⊥
 AreTexts (node l (more t ts)) = (part : Component) × (l.form ≡ form.SequenceOf part 0 None) × IsAnyText t
 
--- EMBED-VALUES: a SEQUENCE whose first part is the texts
+-- EMBED-VALUES: the type is a SEQUENCE whose first part has the texts.
 abbrev pub HasTexts : Form → Roses TypeLabel → Type 0
 HasTexts (form.Sequence parts) (more t ts) = AreTexts t
 HasTexts _ _ = ⊥
 
--- USE-NIL: a SEQUENCE whose last part may be absent
+-- USE-NIL: the type is a SEQUENCE whose last part may be absent.
 abbrev pub HasContent : Form → Type 0
 HasContent (form.Sequence parts) = (part : Component) × (slice_get parts (length parts - 1) ≡ Some part) × (part.optional ≡ true)
 HasContent _ = ⊥
@@ -67,7 +67,7 @@ abbrev pub IsChoice : Form → Type 0
 IsChoice (form.Choice parts) = Unit {0}
 IsChoice _ = ⊥
 
--- the type of each part with ATTRIBUTE stands for a simple type
+-- The type of each part with ATTRIBUTE is that of a simple type.
 abbrev pub AttributesAreSimple : List Assignment → List Component → Roses TypeLabel → Type 0
 AttributesAreSimple M [] ts = Unit {0}
 AttributesAreSimple M (part ∷ parts) none = Unit {0}
@@ -76,11 +76,11 @@ AttributesAreSimple M (part ∷ parts) (more t ts) =
 
 -- ---- default and fixed values (X.680, clause 25)
 
--- the text is the canonical spelling of a value of the type, which stands for a simple type
+-- The text is the canonical spelling of a value of the type, which is that of a simple type.
 abbrev pub IsSpellingOf : List Assignment → Rose TypeLabel → List ℕ → Type 0
 IsSpellingOf M t text = (s : Space) × (v : Rose ValueLabel) × Sound s × MapsTo s (resolve M t) × Holds s v × (spelled s v ≡ text)
 
--- They stand on parts that are attributes, and a default value where the part may be absent.
+-- Only parts that are attributes have them, and a default value requires that the part may be absent.
 abbrev pub IsStandard : List Assignment → Component → Rose TypeLabel → Type 0
 IsStandard M part t = elim part.standard [
   | Free ↦ Unit {0}
@@ -93,7 +93,7 @@ AreStandards M [] ts = Unit {0}
 AreStandards M (part ∷ parts) none = Unit {0}
 AreStandards M (part ∷ parts) (more t ts) = IsStandard M part t × AreStandards M parts ts
 
--- a part of a SEQUENCE alone has one
+-- Only a part of a SEQUENCE has one.
 abbrev pub HasStandards : List Assignment → Form → Roses TypeLabel → Type 0
 HasStandards M (form.Sequence parts) ts = AreStandards M parts ts
 HasStandards M (form.Choice parts) ts = All (λ (part : Component). part.standard ≡ Free) parts
@@ -102,12 +102,12 @@ HasStandards M _ ts = Unit {0}
 
 -- ---- USE-ORDER: the order of the child elements (X.693)
 
--- the type whose elements are in an order: of a USE-NIL type its content, of each other type the type itself
+-- The type whose elements are in an order: the content of a USE-NIL type, and each other type itself.
 abbrev pub ordered : List Assignment → TypeLabel → Roses TypeLabel → Option TypeLabel
 ordered M l ts =
     if has_use_nil l.marks then option_map (λ t. label_of (resolve M t)) (slice_get (list_of ts) (length (parts_of l.form) - 1)) else Some l
 
--- the parts of a type from the one with number i on that have the role, in their order
+-- The parts of a type, from the one with number i on, that have the role, in their order.
 abbrev pub parts_from : TypeLabel → (Role → Bool) → ℕ → List Component → List Component
 parts_from l is i [] = []
 parts_from l is i (part ∷ parts) =
@@ -123,7 +123,7 @@ is_group _ = false
 abbrev pub group_parts : TypeLabel → List Component
 group_parts l = parts_from l is_group 0 (parts_of l.form)
 
--- a SEQUENCE OF the ENUMERATED of these identifiers, without bounds
+-- The type is a SEQUENCE OF the ENUMERATED of these identifiers, without bounds.
 abbrev pub IsOrderOf : List (List ℕ) → Rose TypeLabel → Type 0
 IsOrderOf identifiers (node l none) = ⊥
 IsOrderOf identifiers (node l (more t ts)) =
@@ -133,8 +133,8 @@ abbrev pub IsSequence : Form → Type 0
 IsSequence (form.Sequence parts) = Unit {0}
 IsSequence _ = ⊥
 
--- A USE-ORDER type is a SEQUENCE with a part that has the order of its elements, or of those of its content, which then is
--- a SEQUENCE without content, texts and order of its own. No part of either has UNTAGGED.
+-- A USE-ORDER type is a SEQUENCE with a part that has the order of its elements. If it is a USE-NIL type, they are those of its
+-- content, which is a SEQUENCE without content, texts and order of its own. No part of either has UNTAGGED.
 pub record HasOrderPart (M : List Assignment) (l : TypeLabel) (ts : Roses TypeLabel) : Type 0 where
   pub sequence : IsSequence l.form
   pub groups : group_parts l ≡ []
@@ -151,7 +151,7 @@ pub record HasOrderPart (M : List Assignment) (l : TypeLabel) (ts : Roses TypeLa
   pub present : part.optional ≡ false
   pub identifiers : IsOrderOf (map (λ (p : Component). p.identifier) (element_parts inner)) type
 
--- what holds of each type of a module
+-- What holds of each type of a module.
 pub record IsWellFormed (M : List Assignment) (l : TypeLabel) (ts : Roses TypeLabel) : Type 0 where
   pub form : IsForm M l.form
   pub attribute : has_attribute l.marks ≡ false
@@ -173,8 +173,8 @@ abbrev mutual
   AllWellFormed M none = Unit {0}
   AllWellFormed M (more t ts) = AreWellFormed M t × AllWellFormed M ts
 
--- The part of a SEQUENCE OF has no identifier exactly where it is the item of a LIST, one of the texts of EMBED-VALUES or
--- an item of the order of USE-ORDER.
+-- The part of a SEQUENCE OF has no identifier if and only if it is the item of a LIST, one of the texts of EMBED-VALUES or an
+-- item of the order of USE-ORDER.
 abbrev pub IsItemNamed : Bool → Form → Type 0
 IsItemNamed nameless (form.SequenceOf part least most) = is_empty part.identifier ≡ nameless
 IsItemNamed nameless _ = Unit {0}
@@ -183,21 +183,21 @@ abbrev pub one_if : Bool → ℕ
 one_if true = 1
 one_if false = 0
 
--- how many parts at the front are such texts or such an order
+-- The number of the first parts that are such texts or such an order.
 abbrev pub nameless_parts : List Instruction → ℕ
 nameless_parts marks = one_if (has_embed_values marks) + one_if (has_use_order marks)
 
 abbrev mutual
-  -- in a type, which is that of such texts or of such an order, or not
+  -- The rule holds in a type, which is that of such texts or of such an order if `nameless` is true.
   pub AreItemsNamed : Bool → Rose TypeLabel → Type 0
   AreItemsNamed nameless (node l ts) = IsItemNamed (has_list l.marks || nameless) l.form × AllItemsNamed (nameless_parts l.marks) ts
 
-  -- in the types of parts, of which so many at the front are such
+  -- The rule holds in the types of parts, of which the first `front` are such texts or such an order.
   pub AllItemsNamed : ℕ → Roses TypeLabel → Type 0
   AllItemsNamed front none = Unit {0}
   AllItemsNamed front (more t ts) = AreItemsNamed (nat_lt 0 front) t × AllItemsNamed (front - 1) ts
 
--- what holds of each assignment
+-- What holds of each assignment.
 pub record IsAssignment (M : List Assignment) (a : Assignment) : Type 0 where
   pub allowed : Allowed MayHave a.body
   pub types : AreWellFormed M a.body

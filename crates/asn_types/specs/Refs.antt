@@ -19,16 +19,16 @@ target _ = None
 abbrev pub body_at : List Assignment → ℕ → Option (Rose TypeLabel)
 body_at M k = option_map (λ a. a.body) (slice_get M k)
 
--- the type to which one reference leads
+-- The type that one reference reaches.
 abbrev pub next : List Assignment → Rose TypeLabel → Option (Rose TypeLabel)
 next M t = option_and_then (body_at M) (target (label_of t).form)
 
--- the type to which at most so many references lead
+-- The type that at most n references reach.
 unfoldable pub follow : List Assignment → ℕ → Rose TypeLabel → Rose TypeLabel
 follow M zero t = t
 follow M (suc n) t = elim (next M t) [ None ↦ t | Some u ↦ follow M n u ]
 
--- The type that is meant. In a module no more than 4 references follow one another.
+-- The type itself, or the type at the end of its references. In a module at most 4 references follow one another.
 abbrev pub resolve : List Assignment → Rose TypeLabel → Rose TypeLabel
 resolve M t = follow M 4 t
 
@@ -37,7 +37,7 @@ is_element Element = true
 is_element _ = false
 
 module _ (P : ℕ → Type 0) where
-  -- what holds of each reference that is reached from the type without passing a part with the role of an element
+  -- P holds of each reference that the type reaches without passing a part with the role of an element.
   unfoldable mutual
     pub NearRefs : Rose TypeLabel → Type 0
     NearRefs (node l ts) = IfSome (target l.form) P × NearRefsOf l 0 (parts_of l.form) ts
@@ -50,12 +50,12 @@ module _ (P : ℕ → Type 0) where
           | part ∷ others ↦ MatchBool (is_element (role_of l i part)) (Unit {0}) (NearRefs t) × NearRefsOf l (i + 1) others ts
         ]
 
--- no more than so many references follow one another from the type without passing a part with the role of an element
+-- At most n references follow one another from the type without passing a part with the role of an element.
 unfoldable pub ChainsWithin : List Assignment → ℕ → Rose TypeLabel → Type 0
 ChainsWithin M zero t = NearRefs (λ k. ⊥) t
 ChainsWithin M (suc n) t = NearRefs (λ k. IfSome (body_at M k) (λ u. ChainsWithin M n u)) t
 
--- the type stands somewhere in this one
+-- The first type is the second or a part of it, at any depth.
 abbrev mutual
   pub StandsIn : Rose TypeLabel → Rose TypeLabel → Type 0
   StandsIn t (node l ts) = (t ≡ node l ts) ⊎ StandsInSome t ts
@@ -64,7 +64,7 @@ abbrev mutual
   StandsInSome t none = ⊥
   StandsInSome t (more u us) = StandsIn t u ⊎ StandsInSome t us
 
--- the type is the body of an assignment of the module, or stands in one
+-- The type is the body of an assignment of the module, or a part of one.
 abbrev pub IsOf : List Assignment → Rose TypeLabel → Type 0
 IsOf [] t = ⊥
 IsOf (a ∷ others) t = StandsIn t a.body ⊎ IsOf others t

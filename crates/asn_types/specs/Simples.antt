@@ -1,4 +1,4 @@
--- The types that stand for simple types (X.694, clauses 11 to 13). Identifiers, NAME and TEXT count for nothing in this.
+-- The types of simple types (X.694, clauses 11 to 13). Identifiers, NAME and TEXT make no difference here.
 use Rattle.std.specs.Prelude.{◌≡◌, ℕ, Bool, true, false, List, [], ◌∷◌, filter}
 use Rattle.base_trees.specs.Rose.{Rose, node, Roses}
 use Rattle.base_trees.specs.Rose as rose
@@ -21,17 +21,17 @@ counts _ = true
 abbrev pub counting : List Instruction → List Instruction
 counting marks = filter counts marks
 
--- WHITESPACE stands where white space isn't preserved
+-- WHITESPACE is present unless white space is preserved.
 abbrev pub white_space_marks : WhiteSpace → List Instruction
 white_space_marks Preserve = []
 white_space_marks Replace = mark.WhiteSpace Replace ∷ []
 white_space_marks Collapse = mark.WhiteSpace Collapse ∷ []
 
--- a type of this form with these marks
+-- The type has this form and these marks.
 abbrev pub IsType : TypeLabel → Form → List Instruction → Type 0
 IsType l f marks = (l.form ≡ f) × (counting l.marks ≡ marks)
 
--- an item or an alternative: never absent, and with no marks
+-- The component is an item or an alternative: never absent, and without marks.
 abbrev pub IsPlain : Component → Type 0
 IsPlain part = (part.optional ≡ false) × (counting part.marks ≡ [])
 
@@ -39,7 +39,7 @@ abbrev pub ArePlain : List Component → Type 0
 ArePlain [] = Unit {0}
 ArePlain (part ∷ parts) = IsPlain part × ArePlain parts
 
--- the simple type is mapped to the type
+-- The simple type is mapped to the type.
 abbrev mutual
   pub MapsTo : Space → Rose TypeLabel → Type 0
   MapsTo Booleans (node l ts) = IsType l form.Bool []
@@ -58,6 +58,6 @@ abbrev mutual
   MapToEach (more s ss) (rose.more t ts) = MapsTo s t × MapToEach ss ts
   MapToEach _ _ = ⊥
 
--- some simple type is
+-- Some simple type is mapped to the type.
 abbrev pub IsSimple : Rose TypeLabel → Type 0
 IsSimple t = (s : Space) × Sound s × MapsTo s t

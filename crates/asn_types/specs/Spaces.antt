@@ -1,4 +1,4 @@
--- The simple type for which a type stands, told by its form and its WHITESPACE (X.694, clauses 11 to 13).
+-- The simple type of a type, given by its form and its WHITESPACE (X.694, clauses 11 to 13).
 use Rattle.std.specs.Prelude.{ℕ, List}
 use Rattle.base_trees.specs.Rose.{Rose, node, Roses}
 use Rattle.base_trees.specs.Rose as rose
@@ -11,7 +11,7 @@ use Rattle.asn_types.specs.declared.types.TypeLabel.{TypeLabel}
 use Rattle.asn_types.specs.Marks.{white_space_of}
 use Rattle.asn_types.specs.Refs.{resolve}
 
--- Of a type that stands for no simple type this says nothing.
+-- For a type that is not that of a simple type the result has no meaning.
 abbrev mutual
   pub space_at : Rose TypeLabel → Space
   space_at (node l ts) = elim l.form [
@@ -35,6 +35,6 @@ abbrev mutual
   first_space rose.none = Booleans
   first_space (rose.more t ts) = space_at t
 
--- the canonical spelling of a value, whose type is found through references
+-- The canonical spelling of a value, whose type is found through references.
 abbrev pub spelling : List Assignment → Rose TypeLabel → Rose ValueLabel → List ℕ
 spelling M t v = spelled (space_at (resolve M t)) v

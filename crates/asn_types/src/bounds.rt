@@ -1,4 +1,4 @@
-//! Whole numbers of types have 128 bits, and their sizes 32: the fields' types say so, and here it becomes a fact on
+//! Numbers of types have 128 bits, and sizes 32 bits. The types of the fields imply it, and this module makes it a fact about
 //! modules.
 ghost use Rattle.std.specs.Prelude.{◌≡◌, true};
 ghost use Rattle.base_trees.specs.Rose.{roses_of};
@@ -77,7 +77,7 @@ fn see_type(node: &Tree<TypeLabel>)
     see_kids(node.kids());
 }
 
-/// The numbers of each type have 128 bits, and its sizes 32. It goes through all types once.
+/// Proves that the numbers of each type have 128 bits and its sizes 32 bits. It visits each type once.
 pub(crate) fn see_assignments(assignments: &[Assignment])
     ensures { IsBounded assignments.now }
 {

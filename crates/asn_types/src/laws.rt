@@ -1,8 +1,8 @@
 //! Laws of references and of the types of a module. Each is proved for all modules and types.
 ghost use Rattle.asn_types.specs.Laws.{PartKeepsReferences, ReferenceTakesOne, TypeHasFour, ResolvedIsNoReference, TypesAreWellFormed, PartsAreOfTheModule, TypesHaveTheirParts, ResolvedIsOfTheModule};
 
-/// How many references may follow one another: on the way down to a part that is no element as many as before, through
-/// a reference one less, and from each element on four. So `resolve` always reaches a type that is no reference.
+/// States how many references may follow one another. A part that is not an element inherits the number of its type, a reference
+/// uses one, and each element may again have four. So `resolve` always reaches a type that is not a reference.
 pub fn references()
     ensures part { PartKeepsReferences }
     ensures reference { ReferenceTakesOne }
@@ -10,7 +10,7 @@ pub fn references()
     ensures resolved { ResolvedIsNoReference }
 {}
 
-/// Going down from a type of a module, and through its references, one stays among the types of the module.
+/// States that the parts of a module's types, and the types that their references reach, are types of the module.
 pub fn types_of_modules()
     ensures well_formed { TypesAreWellFormed }
     ensures parts { PartsAreOfTheModule }

@@ -1,6 +1,6 @@
 //! Defines ASN.1 types with their encoding instructions, and modules of them.
 //!
-//! Read first: docs/VALUES.md, `specs/Modules` (`IsModule`) and `Roles`, then `src/types.rt`.
+//! Read first: docs/reference/VALUES.md, `specs/Modules` (`IsModule`) and `Roles`, then `src/types.rt`.
 #![tactic(auto)]
 
 mod bounds;

@@ -10,30 +10,30 @@ use base_texts::{Memory, Text, WhiteSpace};
 use std::alloc::Global;
 use std::marker::Model;
 
-/// An encoding instruction of EXTENDED-XER (X.693), which stands as a prefix of a type, a component or an assignment.
+/// An encoding instruction of EXTENDED-XER (X.693), a prefix of a type, a component or an assignment.
 #[derive(Drop)]
 pub enum Instruction {
     /// The value is an attribute.
     Attribute,
-    /// The value stands without a tag of its own.
+    /// The value has no tag of its own.
     Untagged,
     /// The local name of the element or attribute.
     Name(Text),
     /// The namespace of the element or attribute.
     Namespace(Text),
-    /// An absent last component stands for `xsi:nil`.
+    /// An absent last component means `xsi:nil`.
     UseNil,
     /// The first component has the texts between the child elements.
     EmbedValues,
-    /// The first component, or the second behind that of EMBED-VALUES, has the order of the child elements.
+    /// The first component, or the second after that of EMBED-VALUES, has the order of the child elements.
     UseOrder,
     /// The items are words of one text.
     List,
-    /// The alternative is told by the text alone.
+    /// The text alone determines the alternative.
     UseUnion,
     /// The items of an ENUMERATED are written as their numbers.
     UseNumber,
-    /// What is done to the white space of a text before it is read.
+    /// How the white space of a text is treated before it is read.
     WhiteSpace(WhiteSpace),
     /// The text of the item of an ENUMERATED with this number, from 0.
     Text { item: u32, text: Text },
@@ -69,7 +69,7 @@ impl Instruction {
     }
 }
 
-/// What stands among encoding instructions but for NAME and TEXT, which say nothing of a simple type.
+/// The encoding instructions of a type except NAME and TEXT, which do not affect a simple type.
 #[derive(Clone, Copy)]
 pub(crate) enum Told {
     Nothing,
@@ -82,7 +82,7 @@ pub(crate) enum Told {
 }
 
 impl Told {
-    // With one more instruction.
+    // Returns the summary with one more instruction.
     fn with(self, mark: &Instruction) -> Told
         ensures { result ≡ telling.with_mark self mark.now }
     {
@@ -98,7 +98,7 @@ impl Told {
 }
 
 impl Instruction {
-    // What it tells alone.
+    // Returns the summary of this instruction alone.
     fn alone(&self) -> Told
         ensures { result ≡ telling.alone self.now }
     {
@@ -112,11 +112,11 @@ impl Instruction {
     }
 }
 
-/// Encoding instructions, in their order. What they say is found when they are put together, so asking takes no time.
+/// Encoding instructions, in their order. They are summarised once when the list is built, so each query takes constant time.
 #[derive(Drop)]
 pub struct Marks {
     entries: Vec<Instruction>,
-    // Each part of each value asks, and an ENUMERATED may have many TEXT.
+    // Every part of every value queries it, and an ENUMERATED may have many TEXT instructions.
     said: Said,
 }
 
@@ -147,7 +147,7 @@ impl Marks {
         &self.entries
     }
 
-    /// Equal instructions.
+    /// Returns equal instructions.
     pub fn copy(&self, alloc: Global) -> Result<Marks, Memory>
         ensures { IfOk result (λ marks. marks ≡ self.now) }
     {
@@ -160,7 +160,7 @@ impl Marks {
         Ok(Marks::of(copies))
     }
 
-    /// Whether ATTRIBUTE stands among them.
+    /// Returns whether ATTRIBUTE is among them.
     #[inline(always)]
     pub fn has_attribute(&self) -> bool
         ensures { result ≡ marked.has_attribute self.now }
@@ -168,7 +168,7 @@ impl Marks {
         self.said.attribute
     }
 
-    /// Whether UNTAGGED stands among them.
+    /// Returns whether UNTAGGED is among them.
     #[inline(always)]
     pub fn has_untagged(&self) -> bool
         ensures { result ≡ marked.has_untagged self.now }
@@ -176,7 +176,7 @@ impl Marks {
         self.said.untagged
     }
 
-    /// Whether USE-NIL stands among them.
+    /// Returns whether USE-NIL is among them.
     #[inline(always)]
     pub fn has_use_nil(&self) -> bool
         ensures { result ≡ marked.has_use_nil self.now }
@@ -184,7 +184,7 @@ impl Marks {
         self.said.use_nil
     }
 
-    /// Whether EMBED-VALUES stands among them.
+    /// Returns whether EMBED-VALUES is among them.
     #[inline(always)]
     pub fn has_embed_values(&self) -> bool
         ensures { result ≡ marked.has_embed_values self.now }
@@ -192,7 +192,7 @@ impl Marks {
         self.said.embed_values
     }
 
-    /// Whether USE-ORDER stands among them.
+    /// Returns whether USE-ORDER is among them.
     #[inline(always)]
     pub fn has_use_order(&self) -> bool
         ensures { result ≡ marked.has_use_order self.now }
@@ -200,7 +200,7 @@ impl Marks {
         self.said.use_order
     }
 
-    /// Whether LIST stands among them.
+    /// Returns whether LIST is among them.
     #[inline(always)]
     pub fn has_list(&self) -> bool
         ensures { result ≡ marked.has_list self.now }
@@ -208,7 +208,7 @@ impl Marks {
         self.said.list
     }
 
-    /// Whether USE-UNION stands among them.
+    /// Returns whether USE-UNION is among them.
     #[inline(always)]
     pub fn has_use_union(&self) -> bool
         ensures { result ≡ marked.has_use_union self.now }
@@ -216,7 +216,7 @@ impl Marks {
         self.said.use_union
     }
 
-    /// What the first WHITESPACE says, and to preserve where there is none.
+    /// Returns the treatment of the first WHITESPACE, or to preserve if there is none.
     #[inline(always)]
     pub fn white_space(&self) -> WhiteSpace
         ensures { result ≡ marked.white_space_of self.now }
@@ -224,7 +224,7 @@ impl Marks {
         self.said.white_space
     }
 
-    // The first NAME, if there is one.
+    // Returns the first NAME, if there is one.
     #[inline(always)]
     pub(crate) fn first_name(&self) -> Option<&Instruction>
         ensures { MatchOption result (slice_get self.now (name_place self.now) ≡ None) (λ mark. slice_get self.now (name_place self.now) ≡ Some mark.now) }
@@ -232,7 +232,7 @@ impl Marks {
         self.entries.as_slice().get(self.said.name_at)
     }
 
-    // The first NAMESPACE, if there is one.
+    // Returns the first NAMESPACE, if there is one.
     #[inline(always)]
     pub(crate) fn first_namespace(&self) -> Option<&Instruction>
         ensures { MatchOption result
@@ -242,7 +242,7 @@ impl Marks {
         self.entries.as_slice().get(self.said.namespace_at)
     }
 
-    /// What stands among them but for NAME and TEXT.
+    /// Returns the summary of the instructions except NAME and TEXT.
     pub(crate) fn told(&self) -> Told
         ensures { result ≡ telling.told (counting self.now) }
     {
@@ -253,35 +253,36 @@ impl Marks {
         seen
     }
 
-    /// Whether there are none but NAME and TEXT.
+    /// Returns whether all instructions are NAME or TEXT.
     pub(crate) fn tell_nothing(&self) -> bool
         ensures { IsTrue result ↔ (counting self.now ≡ []) }
     {
         matches!(self.told(), Told::Nothing)
     }
 
-    /// Whether USE-NUMBER stands there alone but for NAME and TEXT.
+    /// Returns whether USE-NUMBER is the only instruction except NAME and TEXT.
     pub(crate) fn tell_use_number(&self) -> bool
         ensures { IsTrue result ↔ (counting self.now ≡ Instruction.UseNumber ∷ []) }
     {
         matches!(self.told(), Told::UseNumber)
     }
 
-    /// Whether LIST stands there alone but for NAME and TEXT.
+    /// Returns whether LIST is the only instruction except NAME and TEXT.
     pub(crate) fn tell_list(&self) -> bool
         ensures { IsTrue result ↔ (counting self.now ≡ Instruction.List ∷ []) }
     {
         matches!(self.told(), Told::List)
     }
 
-    /// Whether USE-UNION stands there alone but for NAME and TEXT.
+    /// Returns whether USE-UNION is the only instruction except NAME and TEXT.
     pub(crate) fn tell_use_union(&self) -> bool
         ensures { IsTrue result ↔ (counting self.now ≡ Instruction.UseUnion ∷ []) }
     {
         matches!(self.told(), Told::UseUnion)
     }
 
-    /// The treatment of white space that they tell alone but for NAME and TEXT: to preserve where there are none.
+    /// Returns the treatment of white space if that is all they state, except NAME and TEXT: to preserve if there are no others.
+    /// None if they state something else.
     pub(crate) fn tell_white_space(&self) -> Option<WhiteSpace>
         ensures { MatchOption result
             ((how : _) → counting self.now ≡ white_space_marks how → ⊥)

@@ -20,7 +20,7 @@ pub struct Assignment {
     pub body: Whole<TypeLabel>,
 }
 
-/// Types that refer to one another: assignments in their order, seen as just these.
+/// Types that refer to one another: assignments in their order, seen as the list of them.
 #[derive(Drop)]
 pub struct Module {
     assignments: Vec<Assignment>,
@@ -45,7 +45,7 @@ impl Model for Module {
 }
 
 impl Module {
-    /// The module of these assignments. It goes through all types once, and takes no memory.
+    /// Returns the module of these assignments. It visits each type once, and allocates nothing.
     pub fn of(assignments: Vec<Assignment>) -> Module
         requires { IsModule assignments.items }
         ensures { result ≡ assignments.items }
@@ -54,7 +54,7 @@ impl Module {
         Module { assignments }
     }
 
-    /// The number of assignments.
+    /// Returns the number of assignments.
     pub fn count(&self) -> u32
         ensures count { result ≡ length self.now }
         ensures module { IsModule self.now }
@@ -63,14 +63,14 @@ impl Module {
         self.assignments.len() as u32
     }
 
-    /// The assignments, in their order.
+    /// Returns the assignments, in their order.
     pub fn assignments(&self) -> &[Assignment]
         ensures { result.now ≡ self.now }
     {
         &self.assignments
     }
 
-    /// The assignment with this number, from 0.
+    /// Returns the assignment with this number, from 0.
     pub fn assignment(&self, n: u32) -> &Assignment
         requires { n < length self.now }
         ensures assignment { slice_get self.now n ≡ Some result.now }
@@ -79,7 +79,7 @@ impl Module {
         &self.assignments[n as usize]
     }
 
-    // The type of the assignment with this number.
+    // Returns the type of the assignment with this number, if there is one.
     #[inline(always)]
     pub(crate) fn body(&self, n: u32) -> Option<&Tree<TypeLabel>>
         ensures { MatchOption result (body_at self.now n ≡ None) (λ body. body_at self.now n ≡ Some body.now) }

@@ -1,4 +1,4 @@
-//! The names of XML that parts and assignments tell by NAME and NAMESPACE (X.693).
+//! The XML names of parts and assignments, given by NAME and NAMESPACE (X.693).
 ghost use Rattle.std.specs.Prelude.{◌≡◌, Some, [], IfOk, MatchOption};
 ghost use Rattle.asn_types.specs.Names as names;
 ghost use Rattle.asn_types.specs.Private.Saying.{name_in, space_in};
@@ -10,7 +10,7 @@ use base_texts::{Memory, Name, Text};
 use std::alloc::Global;
 
 impl Instruction {
-    // What it says as a NAME. Another instruction says nothing against the generated name.
+    // Returns the name that this instruction gives as a NAME. Any other instruction gives the generated name.
     #[inline(always)]
     fn name_or<'a>(&'a self, generated: &'a Text) -> &'a Text
         ensures { result.now ≡ name_in generated.now (Some self.now) }
@@ -21,7 +21,7 @@ impl Instruction {
         }
     }
 
-    // What it says as a NAMESPACE.
+    // Returns the namespace that this instruction gives as a NAMESPACE.
     #[inline(always)]
     fn namespace(&self) -> Option<&Text>
         ensures { MatchOption result (space_in (Some self.now) ≡ []) (λ space. space_in (Some self.now) ≡ space.now) }
@@ -34,7 +34,7 @@ impl Instruction {
 }
 
 impl Marks {
-    /// The local name of what has this generated name: what the first NAME says, or the generated name itself.
+    /// Returns the local name for this generated name: that of the first NAME, or the generated name itself.
     #[inline(always)]
     pub fn local_name<'a>(&'a self, generated: &'a Text) -> &'a Text
         ensures { result.now ≡ names.local_told generated.now self.now }
@@ -45,7 +45,7 @@ impl Marks {
         }
     }
 
-    /// What the first NAMESPACE says. None where there is none: the name is in no namespace.
+    /// Returns the namespace of the first NAMESPACE. None if there is none: the name is in no namespace.
     #[inline(always)]
     pub fn namespace(&self) -> Option<&Text>
         ensures { MatchOption result (names.space_told self.now ≡ []) (λ space. names.space_told self.now ≡ space.now) }
@@ -56,7 +56,7 @@ impl Marks {
         }
     }
 
-    // The name of XML of what has this generated name. It takes no memory.
+    // Returns the XML name for this generated name. It allocates nothing.
     fn name_of(&self, alloc: Global, generated: &Text) -> Result<Name, Memory>
         ensures { IfOk result (λ name. name ≡ names.name_told generated.now self.now) }
     {
@@ -70,7 +70,7 @@ impl Marks {
 }
 
 impl Component {
-    /// The name of the element or attribute that the component stands for, where it stands for one. It takes no memory.
+    /// Returns the name of the element or attribute that the component represents, if it represents one. It allocates nothing.
     pub fn name(&self, alloc: Global) -> Result<Name, Memory>
         ensures { IfOk result (λ name. name ≡ names.name_of_part self.now) }
     {
@@ -79,7 +79,7 @@ impl Component {
 }
 
 impl Assignment {
-    /// The name of the element or attribute that the assignment stands for, where it stands for one. It takes no memory.
+    /// Returns the name of the element or attribute that the assignment represents, if it represents one. It allocates nothing.
     pub fn name(&self, alloc: Global) -> Result<Name, Memory>
         ensures { IfOk result (λ name. name ≡ names.name_told self.now.reference self.now.marks) }
     {

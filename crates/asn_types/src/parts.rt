@@ -26,7 +26,7 @@ impl Form {
         }
     }
 
-    // The component with this number.
+    // Returns the component with this number.
     #[inline(always)]
     fn part(&self, i: usize) -> Option<&Component>
         ensures { MatchOption result (slice_get (parts_of self.now) i ≡ None) (λ part. slice_get (parts_of self.now) i ≡ Some part.now) }
@@ -40,7 +40,7 @@ impl Form {
     }
 }
 
-/// The role of the part with this number, from 0. The root of a value has the role of an element.
+/// Returns the role of the part with this number, from 0. The root of a value has the role of an element.
 #[inline(always)]
 pub fn role(node: &TypeLabel, part: u32) -> Role
     requires { part < length (parts_of node.now.form) }
@@ -53,7 +53,7 @@ pub fn role(node: &TypeLabel, part: u32) -> Role
 }
 
 impl TypeLabel {
-    /// The role of the part with this number, which is this component.
+    /// Returns the role of the part with this number, which is this component.
     #[inline(always)]
     pub fn role_of(&self, i: usize, component: &Component) -> Role
         requires { i < length (parts_of self.now.form) }
@@ -78,7 +78,7 @@ impl TypeLabel {
         }
     }
 
-    // Whether the part with this number is the last of a USE-NIL type.
+    // Returns whether the part with this number is the last of a USE-NIL type.
     #[inline(always)]
     fn is_content(&self, i: usize) -> bool
         requires { i < length (parts_of self.now.form) }
@@ -87,7 +87,7 @@ impl TypeLabel {
         self.marks.has_use_nil() && self.form.part_count() - i == 1
     }
 
-    // Whether the part with this number is the order of a USE-ORDER type.
+    // Returns whether the part with this number is the order of a USE-ORDER type.
     #[inline(always)]
     fn is_order(&self, i: usize) -> bool
         ensures { result ≡ roles.is_order self.now i }
@@ -95,7 +95,7 @@ impl TypeLabel {
         i == usize::from(self.marks.has_embed_values()) && self.marks.has_use_order()
     }
 
-    // Whether this part is an item without a name.
+    // Returns whether this part is an item without a name.
     #[inline(always)]
     fn is_item(&self, component: &Component) -> bool
         ensures { result ≡ roles.is_item self.now.form component.now }

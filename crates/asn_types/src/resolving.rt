@@ -1,4 +1,4 @@
-//! Types behind references.
+//! The types that references reach.
 ghost use Rattle.std.specs.Prelude.{◌≡◌, MatchOption, Some, None};
 ghost use Rattle.asn_types.specs.Refs as refs;
 
@@ -6,7 +6,7 @@ use crate::modules::Module;
 use crate::types::{Form, TypeLabel};
 use base_trees::Tree;
 
-/// The type to which the reference leads, in one step. None where the type is no reference.
+/// Returns the type that the reference names, in one step. None if the type is not a reference.
 #[inline(always)]
 pub fn follow_reference<'a>(
     module: &'a Module,
@@ -20,7 +20,7 @@ pub fn follow_reference<'a>(
     }
 }
 
-/// The type that is meant: that to which the reference leads where the type is one, and so on.
+/// Returns the type itself, or if it is a reference, the type at the end of its chain of references.
 #[inline(always)]
 pub fn resolve<'a>(module: &'a Module, node: &'a Tree<TypeLabel>) -> &'a Tree<TypeLabel>
     ensures { result.now ≡ refs.resolve module.now node.now }

@@ -1,11 +1,11 @@
-//! What encoding instructions say, found once when they are put together.
+//! A summary of encoding instructions, found once when the list is built.
 ghost use Rattle.std.specs.Prelude.{◌≡◌};
 ghost use Rattle.asn_types.specs.Private.Saying as saying;
 
 use crate::marks::Instruction;
 use base_texts::WhiteSpace;
 
-/// What stands among encoding instructions.
+/// A summary of encoding instructions.
 #[derive(Drop)]
 pub(crate) struct Said {
     pub(crate) attribute: bool,
@@ -15,16 +15,16 @@ pub(crate) struct Said {
     pub(crate) use_order: bool,
     pub(crate) list: bool,
     pub(crate) use_union: bool,
-    // What the first WHITESPACE says, and to preserve where there is none.
+    // The treatment of the first WHITESPACE, or to preserve if there is none.
     pub(crate) white_space: WhiteSpace,
-    // The place of the first NAME, from 0, and behind all where there is none.
+    // The place of the first NAME, from 0. Without one it is at least the number of instructions.
     pub(crate) name_at: usize,
-    // The place of the first NAMESPACE, in the same way.
+    // The place of the first NAMESPACE, from 0. Without one it is at least the number of instructions.
     pub(crate) namespace_at: usize,
 }
 
 impl Said {
-    // With one more instruction, which stands at this place, before the others.
+    // Adds an instruction at this place, which precedes those added so far.
     fn put(&mut self, at: usize, mark: &Instruction)
         ensures { self.new ≡ saying.with_mark self.old at mark.now }
     {
@@ -44,7 +44,8 @@ impl Said {
         }
     }
 
-    /// What these say. It goes through them once, from the last to the first, so that the first of a kind counts.
+    /// Returns the summary of these instructions. It visits each once, from the last to the first, so that the first of a kind
+    /// counts.
     pub(crate) fn of(marks: &[Instruction]) -> Said
         ensures { saying.IsSaid marks.now 0 result }
     {

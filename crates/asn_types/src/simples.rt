@@ -166,6 +166,13 @@ fn union_at(
     }
 }
 
+// The least and the greatest number of items of a SEQUENCE OF.
+#[derive(Clone, Copy)]
+struct Bounds {
+    min: u32,
+    max: Option<u32>,
+}
+
 // The simple type of a SEQUENCE OF.
 #[cycle(simples)]
 fn list_at(
@@ -173,11 +180,10 @@ fn list_at(
     module: &Module,
     node: &Tree<TypeLabel>,
     part: &Component,
-    min: u32,
-    max: Option<u32>,
+    bounds: Bounds,
 ) -> Result<Option<Simple>, Memory>
     requires sound { AreWellFormed module.now node.now }
-    requires list { (label_of node.now).form ≡ Form.SequenceOf part.now min max }
+    requires list { (label_of node.now).form ≡ Form.SequenceOf part.now bounds.min bounds.max }
     ensures { IfOk result (λ found. Finds found node.now) }
 {
     if !node.label().marks.tell_list() || !is_always_there(part) {
@@ -193,7 +199,11 @@ fn list_at(
         return Ok(None);
     }
     let item = Box::new(alloc, item)?;
-    Ok(Some(Simple::List { item, min, max }))
+    Ok(Some(Simple::List {
+        item,
+        min: bounds.min,
+        max: bounds.max,
+    }))
 }
 
 // The simple type that is mapped to the type, which is no reference.
@@ -208,7 +218,13 @@ fn find_simple(
 {
     let label = node.label();
     match &label.form {
-        Form::SequenceOf { part, min, max } => list_at(alloc, module, node, part, *min, *max),
+        Form::SequenceOf { part, min, max } => {
+            let bounds = Bounds {
+                min: *min,
+                max: *max,
+            };
+            list_at(alloc, module, node, part, bounds)
+        }
         Form::Choice { parts } => union_at(alloc, module, node, parts.items()),
         _ => leaf_at(alloc, module, label),
     }

@@ -9,20 +9,20 @@ use simple_types::{Class, NumberList, Standard, TextList};
 use std::alloc::Global;
 use std::marker::Model;
 
-/// A component of a SEQUENCE, an alternative of a CHOICE or the item of a SEQUENCE OF, but for its type.
+/// A component of a SEQUENCE, an alternative of a CHOICE or the item of a SEQUENCE OF, without its type.
 #[derive(Drop)]
 pub struct Component {
     /// Empty for an item of a LIST, for a text between child elements, and for an item of the order of elements.
     pub identifier: Text,
     /// Whether it may be absent from a SEQUENCE.
     pub optional: bool,
-    /// Its default or fixed value, where it stands for an attribute that has one (X.680, clause 25).
+    /// Its default or fixed value, if it represents an attribute that has one (X.680, clause 25).
     pub standard: Standard,
     pub marks: Marks,
 }
 
 impl Component {
-    /// An equal component.
+    /// Returns an equal component.
     pub fn copy(&self, alloc: Global) -> Result<Component, Memory>
         ensures { IfOk result (λ component. component ≡ self.now) }
     {
@@ -67,7 +67,7 @@ impl Components {
         &self.entries
     }
 
-    /// Equal components.
+    /// Returns equal components.
     pub fn copy(&self, alloc: Global) -> Result<Components, Memory>
         ensures { IfOk result (λ components. components ≡ self.now) }
     {
@@ -81,7 +81,7 @@ impl Components {
     }
 }
 
-/// What a type is, but for the types of its components (X.680).
+/// A type without the types of its components (X.680).
 #[derive(Drop)]
 pub enum Form {
     /// BOOLEAN.
@@ -95,12 +95,12 @@ pub enum Form {
     Numbers {
         numbers: NumberList,
     },
-    /// ENUMERATED of items with these identifiers, which stand for these texts.
+    /// ENUMERATED of items with these identifiers, each for the text of the same number.
     Words {
         identifiers: TextList,
         words: TextList,
     },
-    /// ENUMERATED of items with these identifiers, in this order: the parts that USE-ORDER tells the order of.
+    /// ENUMERATED of items with these identifiers, in this order: the parts that USE-ORDER orders.
     Order {
         identifiers: TextList,
     },
@@ -131,7 +131,7 @@ pub enum Form {
 }
 
 impl Form {
-    /// An equal form.
+    /// Returns an equal form.
     pub fn copy(&self, alloc: Global) -> Result<Form, Memory>
         ensures { IfOk result (λ form. form ≡ self.now) }
     {
@@ -176,7 +176,7 @@ impl Form {
         }
     }
 
-    /// How many components, alternatives or items there are.
+    /// Returns the number of components, alternatives or items.
     #[inline(always)]
     pub fn part_count(&self) -> usize
         ensures { result ≡ length (parts_of self.now) }
@@ -190,7 +190,7 @@ impl Form {
     }
 }
 
-/// A type with its encoding instructions, but for the types of its components, which are the kids.
+/// A type with its encoding instructions, without the types of its components, which are its children.
 #[derive(Drop)]
 pub struct TypeLabel {
     pub form: Form,

@@ -1,8 +1,8 @@
--- The order that numbers tell (USE-ORDER of X.693): each takes what stands in the slot of its number.
+-- The order that numbers give (USE-ORDER of X.693): each number selects the content of its slot.
 use Rattle.std.specs.Prelude.{ℕ, zero, suc, ◌-◌, Bool, true, false, Option, Some, None, List, [], ◌∷◌, ◌++◌, length, take, drop}
 use Rattle.simple_types.specs.Labels.{count_set}
 
--- a slot for each flag, in which something stands where the flag is set
+-- A slot for each flag, which is filled if the flag is set.
 abbrev pub slots : {A : Type 0} → List Bool → List A → List (Option A)
 slots (true ∷ flags) (x ∷ xs) = Some x ∷ slots flags xs
 slots (false ∷ flags) xs = None ∷ slots flags xs
@@ -26,7 +26,7 @@ abbrev pub taken : {A : Type 0} → List (Option A) → List ℕ → List A
 taken slots [] = []
 taken slots (i ∷ numbers) = put_some (slot_at slots i) (taken (emptied slots i) numbers)
 
--- The last, as many as flags are set, stand in the order of these numbers. Those before them stay.
+-- The last elements, one for each flag that is set, are in the order of these numbers. Those before them stay.
 abbrev pub in_order : {A : Type 0} → List Bool → List ℕ → List A → List A
 in_order flags numbers xs =
     let front = length xs - count_set flags in

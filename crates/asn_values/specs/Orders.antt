@@ -1,4 +1,4 @@
--- Numbers that are just those of set flags, as a test that computes: each takes its flag, and at last none is left.
+-- A computable test that numbers are exactly those of the flags that are set: each clears its flag, and at the end none is set.
 use Rattle.std.specs.Prelude.{ℕ, zero, suc, Bool, false, ◌&&◌, not, List, [], ◌∷◌}
 use Rattle.std.specs.List.{list_any}
 
@@ -7,7 +7,7 @@ is_set [] i = false
 is_set (flag ∷ flags) zero = flag
 is_set (flag ∷ flags) (suc i) = is_set flags i
 
--- without the flag of this number
+-- The flags with that of this number cleared.
 abbrev pub cleared : List Bool → ℕ → List Bool
 cleared [] i = []
 cleared (flag ∷ flags) zero = false ∷ flags

@@ -1,4 +1,4 @@
--- What is a value of a type (X.680), and the rules that keep out values that no document has.
+-- The values of a type (X.680), and the rules that exclude values that no document has.
 use Rattle.std.specs.Prelude.{◌≡◌, ◌↔◌, ◌==◌, ℕ, suc, ◌+◌, ◌-◌, ◌≤◌, ◌&&◌, ◌||◌, Bool, true, false, not, nat_lt, nat_le, Option, Some, None, List, [], ◌∷◌, length, map, slice_get, replicate, if◌then◌else◌, MatchBool, IsUtf8}
 use Rattle.std.specs.List.{Contains, IsDistinct}
 use Rattle.std.specs.Option.{option_map}
@@ -27,7 +27,7 @@ use Rattle.asn_types.specs.Roles.{role_of}
 use Rattle.asn_types.specs.Simples.{MapsTo}
 use Rattle.asn_types.specs.Spaces.{spelling}
 
--- where a kid of a value stands: the part, its role, and its type
+-- The place of a child of a value: the part, its role, and its type.
 pub record ComponentPlace : Type 0 where
   pub role : Role
   pub part : Component
@@ -48,7 +48,7 @@ present_from l i (part ∷ parts) (t ∷ ts) (true ∷ flags) = put_first (place
 present_from l i (part ∷ parts) (t ∷ ts) (false ∷ flags) = if part.optional then present_from l (i + 1) parts ts flags else None
 present_from _ _ _ _ _ = None
 
--- the place of the alternative, or of the items
+-- The place of the alternative, or of the items.
 abbrev pub place_at : TypeLabel → ℕ → Option Component → Option (Rose TypeLabel) → Option ComponentPlace
 place_at l i (Some part) (Some t) = Some (place_of l i part t)
 place_at _ _ _ _ = None
@@ -64,8 +64,8 @@ repeated n (Some place) = Some (replicate n place)
 abbrev pub none_if : Bool → Option (List ComponentPlace)
 none_if holds = if holds then Some [] else None
 
--- The places of the kids of a value with this label and so many kids, where it is of a type with this form: its number,
--- index and size are within bounds (X.680, clauses 18 to 29 and 41).
+-- The places of the children of a value with this label and n children, if it is of a type with this form: its number, index and
+-- size are within bounds (X.680, clauses 18 to 29 and 41).
 abbrev pub places_in : TypeLabel → List (Rose TypeLabel) → Form → ValueLabel → ℕ → Option (List ComponentPlace)
 places_in l ts form.Bool (value.Bool b) n = Some []
 places_in l ts (form.Int least greatest) (value.Int z) n = none_if (is_128_bits z && is_from least z && is_to greatest z)
@@ -82,7 +82,8 @@ places_in _ _ _ _ _ = None
 abbrev pub places : Rose TypeLabel → ValueLabel → ℕ → Option (List ComponentPlace)
 places t v n = places_in (label_of t) (kids_of t) (label_of t).form v n
 
--- how many child elements a part gives to the element that it stands in: itself, or those of its value
+-- The number of child elements that a part contributes to the element that contains it: one for an element, or those of its
+-- value.
 abbrev pub counted : Role → ℕ → ℕ
 counted Element inner = 1
 counted Group inner = inner
@@ -91,7 +92,7 @@ counted _ inner = 0
 
 module _ (M : List Assignment) where
   unfoldable mutual
-    -- how many child elements a value gives to the element that it stands in
+    -- The number of child elements that a value contributes to the element that contains it.
     pub child_count : Rose TypeLabel → Rose ValueLabel → ℕ
     child_count t (node v vs) = elim (places (resolve M t) v (length_all vs)) [ None ↦ 0 | Some ps ↦ count_in ps vs ]
 
@@ -99,17 +100,17 @@ module _ (M : List Assignment) where
     count_in ps none = 0
     count_in ps (more v vs) = elim ps [ [] ↦ 0 | p ∷ others ↦ counted p.role (child_count p.type v) + count_in others vs ]
 
--- a text has XML characters alone, its WHITESPACE leaves it as it is, and it is within the size and the class
+-- A text consists of XML characters, its WHITESPACE leaves it unchanged, and it is within the size and the class.
 abbrev pub IsTextOf : Form → List Instruction → ValueLabel → Type 0
 IsTextOf (form.Utf8 least most class) marks (value.Utf8 text) =
     IsUtf8 text × (has_characters least most class text ≡ true) × IsTreated (white_space_of marks) text
 IsTextOf _ _ _ = Unit {0}
 
--- the value is the one that its own spelling gives, read by the simple type that is mapped to the type
+-- The value is the one that its own spelling gives, read by the simple type that is mapped to the type.
 abbrev pub IsSpelled : Rose TypeLabel → Rose ValueLabel → Type 0
 IsSpelled t v = (s : Space) × Sound s × MapsTo s t × Holds s v
 
--- how many items the first part has, where it is present
+-- The number of items of the first part, if it is present.
 abbrev pub first_count : ValueLabel → List (Rose ValueLabel) → ℕ
 first_count (value.Sequence (true ∷ flags)) (v ∷ vs) = length (kids_of v)
 first_count _ _ = 0
@@ -118,29 +119,30 @@ abbrev pub is_unset : Option Bool → Bool
 is_unset None = false
 is_unset (Some flag) = not flag
 
--- the last part of a SEQUENCE is absent
+-- The last part of a SEQUENCE is absent.
 abbrev pub is_last_absent : ValueLabel → Bool
 is_last_absent (value.Sequence present) = is_unset (slice_get present (length present - 1))
 is_last_absent _ = false
 
--- one text more than child elements, and none where the element is nil
+-- One text more than child elements, and none if the element is nil.
 abbrev pub text_count : Bool → ℕ → ℕ
 text_count nil children = if nil then 0 else children + 1
 
 -- ---- USE-ORDER: the order of the child elements (X.693)
 
--- the flags of the parts of role Element from the one with number i on, in their order
+-- The flags of the parts of role Element, from the one with number i on, in their order.
 abbrev pub flags_from : TypeLabel → ℕ → List Component → List Bool → List Bool
 flags_from l i (part ∷ parts) (flag ∷ flags) =
     if is_element (role_of l i part) then flag ∷ flags_from l (i + 1) parts flags else flags_from l (i + 1) parts flags
 flags_from _ _ _ _ = []
 
--- which element parts of a SEQUENCE are present
+-- The flags of the element parts of a SEQUENCE: those that are set are present.
 abbrev pub element_flags : TypeLabel → ValueLabel → List Bool
 element_flags l (value.Sequence present) = flags_from l 0 (parts_of l.form) present
 element_flags _ _ = []
 
--- what has the elements that are in an order: the content of a USE-NIL type, where it is present, each other value itself
+-- The value that has the elements that are in an order: the content of a USE-NIL type, if it is present, and each other value
+-- itself.
 abbrev pub ordered_value : TypeLabel → Rose ValueLabel → Option ValueLabel
 ordered_value l v =
     if has_use_nil l.marks
@@ -151,12 +153,12 @@ abbrev pub is_order_role : Role → Bool
 is_order_role Order = true
 is_order_role _ = false
 
--- the number of an item of an ENUMERATED
+-- The number of an item of an ENUMERATED.
 abbrev pub item_number : Rose ValueLabel → ℕ
 item_number (node (value.Enum i) vs) = i
 item_number _ = 0
 
--- the numbers that the part `order` has, in their order
+-- The numbers of the part `order`, in their order.
 abbrev pub numbers_in : List ComponentPlace → List (Rose ValueLabel) → List ℕ
 numbers_in (p ∷ ps) (v ∷ vs) = if is_order_role p.role then map item_number (kids_of v) else numbers_in ps vs
 numbers_in _ _ = []
@@ -164,12 +166,12 @@ numbers_in _ _ = []
 abbrev pub order_of : Rose TypeLabel → Rose ValueLabel → List ℕ
 order_of t v = elim (places t (label_of v) (length (kids_of v))) [ None ↦ [] | Some ps ↦ numbers_in ps (kids_of v) ]
 
--- numbers that differ, and are just those of the flags that are set
+-- The numbers are distinct, and are exactly those of the flags that are set.
 abbrev pub AreJustSet : List ℕ → List Bool → Type 0
 AreJustSet numbers flags = IsDistinct ◌==◌ numbers × ((i : ℕ) → Contains numbers i ↔ (slice_get flags i ≡ Some true))
 
 module _ (M : List Assignment) where
-  -- which of the elements in an order are present: none where the content is absent
+  -- The flags of the elements in an order: none if the content is absent.
   abbrev pub ordered_flags : TypeLabel → Rose TypeLabel → Rose ValueLabel → List Bool
   ordered_flags l t v =
       elim (ordered M l (roses_of (kids_of t))) [
@@ -186,7 +188,7 @@ module _ (M : List Assignment) where
   HasTextCount l t v =
       first_count (label_of v) (kids_of v) ≡ text_count (has_use_nil l.marks && is_last_absent (label_of v)) (child_count M t v)
 
-  -- the rule of one node, whose type is found
+  -- The rule of one node, whose type is already resolved.
   abbrev pub OwnAt : TypeLabel → Rose TypeLabel → Rose ValueLabel → Type 0
   OwnAt l t v =
       IsTextOf l.form l.marks (label_of v)
@@ -199,9 +201,9 @@ module _ (M : List Assignment) where
 
 -- ---- default and fixed values
 
--- A part that may be absent never has its default or fixed value where it is present (canonical encodings leave out what
--- the type says anyway; X.691, clause 19.5), and no value but its fixed one. So a part with a fixed value is present just
--- where it may not be absent, and has that value.
+-- A part that may be absent is never present with its default or fixed value, since canonical encodings omit what the type states
+-- (X.691, clause 19.5). A part with a fixed value has no other value. So a part with a fixed value is present if and only if it
+-- may not be absent, and has that value.
 abbrev pub Kept : List Assignment → Component → Rose TypeLabel → Rose ValueLabel → Type 0
 Kept M part t v = elim part.standard [
   | Free ↦ Unit {0}
@@ -215,14 +217,14 @@ below _ depth = depth
 
 module _ (M : List Assignment) where
   unfoldable mutual
-    -- The value is of the type, where so many elements stand in one another down to it, at most 64.
+    -- The value is of the type, at this nesting depth of elements, which is at most 64.
     pub FitsAt : ℕ → Rose TypeLabel → Rose ValueLabel → Type 0
     FitsAt depth t (node v vs) =
         (depth ≤ 64)
         × elim (places (resolve M t) v (length_all vs)) [ None ↦ ⊥ | Some ps ↦ FitEach depth ps vs ]
         × Own M t (node v vs)
 
-    -- the parts that are present
+    -- The values fit the parts that are present.
     pub FitEach : ℕ → List ComponentPlace → Roses ValueLabel → Type 0
     FitEach depth ps none = elim ps [ [] ↦ Unit {0} | p ∷ others ↦ ⊥ ]
     FitEach depth ps (more v vs) =
@@ -231,10 +233,10 @@ module _ (M : List Assignment) where
   abbrev pub IfAssigned : ℕ → (Rose TypeLabel → Type 0) → Type 0
   IfAssigned t P = elim (slice_get M t) [ None ↦ ⊥ | Some a ↦ P a.body ]
 
--- The value is one of the type of the assignment with this number: the root stands for an element.
+-- The value is one of the type of the assignment with this number, whose root is an element.
 abbrev pub Fits : List Assignment → ℕ → Rose ValueLabel → Type 0
 Fits M t v = IfAssigned M t (λ body. FitsAt M 1 body v)
 
--- and it has at most 1,048,576 nodes
+-- The value fits, and it has at most 1,048,576 nodes.
 abbrev pub In : List Assignment → ℕ → Rose ValueLabel → Type 0
 In M t v = Fits M t v × (node_count v ≤ 1048576)

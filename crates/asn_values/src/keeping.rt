@@ -1,4 +1,4 @@
-//! Values beside the default or fixed values of their parts.
+//! Values compared with the default or fixed values of their parts.
 ghost use Rattle.std.specs.Prelude.{◌≡◌, ◌↔◌, IfOk, IsTrue};
 ghost use Rattle.asn_types.specs.Refs.{IsOf};
 ghost use Rattle.asn_types.specs.Spaces as types;
@@ -12,7 +12,7 @@ use base_trees::Tree;
 use simple_types::{Standard, ValueLabel};
 use std::alloc::Global;
 
-// Whether the canonical spelling of a value is this text.
+// Returns whether the canonical spelling of a value is this text.
 fn has_spelling(
     alloc: Global,
     module: &Module,
@@ -23,17 +23,17 @@ fn has_spelling(
     requires { IsOf module.now node.now }
     ensures { IfOk result (λ b. IsTrue b ↔ (types.spelling module.now node.now value.now ≡ text.now)) }
 {
-    // What each module keeps is known once one of its readers was called.
+    // Calling one of the module's readers makes its invariant known.
     let _ = module.count();
     let spelled = spelling(alloc, resolve(module, node), value)?;
     Ok(spelled == *text)
 }
 
-/// Whether a part may be present with this value, beside its default or fixed value (X.691, clause 19.5): a value that is
-/// the default value is left out, and so is one that is fixed where the part may be absent; where it may not, it is the
-/// fixed value. Values are told apart by their canonical spellings.
+/// Returns whether a part may be present with this value, given its default or fixed value (X.691, clause 19.5). A default value
+/// is omitted, and so is a fixed value if the part may be absent. If the part may not be absent, its value is the fixed one.
+/// Values are compared by their canonical spellings.
 ///
-/// Without a default or fixed value the answer takes no time. Else it takes as long as the spelling.
+/// Without a default or fixed value the time is constant. Otherwise it is that of the spelling.
 pub fn kept(
     alloc: Global,
     module: &Module,

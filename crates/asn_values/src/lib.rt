@@ -1,6 +1,6 @@
 //! Defines the values of an ASN.1 type, and the rules that exclude values that no document has.
 //!
-//! Read first: docs/VALUES.md, `specs/Values` (`Own`, `Kept`, `Fits`, `In`), then `src/rules.rt`.
+//! Read first: docs/reference/VALUES.md, `specs/Values` (`Own`, `Kept`, `Fits`, `In`), then `src/rules.rt`.
 #![tactic(auto)]
 
 mod keeping;

@@ -19,7 +19,7 @@ use simple_types::ValueLabel;
 use std::alloc::Global;
 use std::iter::Iterator;
 
-// The type whose elements are in an order: of a USE-NIL type its content, of each other type the type itself.
+// Returns the type whose elements are in an order: the content of a USE-NIL type, and each other type itself.
 fn ordered_type<'a>(module: &'a Module, node: &'a Tree<TypeLabel>) -> Option<&'a TypeLabel>
     ensures { MatchOption result
         (ordered module.now (label_of node.now) (roses_of (kids_of node.now)) ≡ None)
@@ -35,7 +35,7 @@ fn ordered_type<'a>(module: &'a Module, node: &'a Tree<TypeLabel>) -> Option<&'a
     }
 }
 
-// The value that has these elements: of a USE-NIL type that of its content, where it is present.
+// Returns the value that has these elements: that of the content of a USE-NIL type, if it is present.
 fn ordered_value<'a>(label: &TypeLabel, value: &Node<'a, ValueLabel>) -> Option<&'a ValueLabel>
     ensures { MatchOption result
         (rule.ordered_value label.now value.now ≡ None)
@@ -57,7 +57,7 @@ fn is_element(role: Role) -> bool
     matches!(role, Role::Element)
 }
 
-// Which of the components that are elements are present.
+// Returns which of the components that are elements are present.
 fn element_flags(
     alloc: Global,
     label: &TypeLabel,
@@ -79,7 +79,7 @@ fn element_flags(
     Ok(flags)
 }
 
-/// Which of the elements that a USE-ORDER type has an order of are present: none where the content of a USE-NIL type is absent.
+/// Returns which of the elements that a USE-ORDER type orders are present: none if the content of a USE-NIL type is absent.
 pub fn ordered_flags(
     alloc: Global,
     module: &Module,
@@ -106,7 +106,7 @@ pub fn ordered_flags(
     }
 }
 
-// The value of the part that has the order.
+// Returns the value of the part that has the order.
 fn order_in<'a>(
     places: &[ComponentPlace<'_>],
     values: &Kids<'a, ValueLabel>,
@@ -127,7 +127,7 @@ fn order_in<'a>(
     None
 }
 
-// The value of the part that has the order, where there is a value for each part that needs one.
+// Returns the value of the part that has the order, if there is a value for each part that needs one.
 fn order_of<'a>(
     alloc: Global,
     node: &Tree<TypeLabel>,
@@ -180,7 +180,7 @@ fn is_none_set(flags: &[bool]) -> bool
     true
 }
 
-// Whether each item takes a flag that is set, and none is left. The first item that takes none ends it.
+// Returns whether each item clears a flag that is set, and none is left set. The first item without such a flag ends the test.
 fn are_just_set(flags: Vec<bool>, items: &Kids<'_, ValueLabel>) -> bool
     ensures { result ≡ computed.are_just_set flags.items (map rule.item_number items.now) }
 {
@@ -195,8 +195,8 @@ fn are_just_set(flags: Vec<bool>, items: &Kids<'_, ValueLabel>) -> bool
     is_none_set(&left)
 }
 
-/// Whether the order of the child elements names each that is present once, by its number among all that may be, and no
-/// other. It takes a flag for each component.
+/// Returns whether the order of the child elements names each that is present once, by its number among all that may be, and no
+/// other. It allocates a flag for each component.
 pub(crate) fn has_order(
     alloc: Global,
     module: &Module,

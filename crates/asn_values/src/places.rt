@@ -1,5 +1,5 @@
-//! The places of a value's kids in its type.
-ghost use Rattle.std.specs.Prelude.{◌≡◌, ◌<◌, ◌∷◌, [], ℕ, ◌&&◌, IfOk, MatchOption, Some, None, length, map, slice_get};
+//! The places of a value's children in its type.
+ghost use Rattle.std.specs.Prelude.{◌≡◌, ◌<◌, ◌∷◌, [], ℕ, ◌&&◌, if◌then◌else◌, IfOk, MatchOption, Some, None, length, map, slice_get};
 ghost use Rattle.simple_types.specs.Lexical.{is_128_bits, is_from, is_to};
 ghost use Rattle.asn_types.specs.Parts.{parts_of};
 ghost use Rattle.asn_values.specs.Private.Placing.{place_seen, Found};
@@ -11,7 +11,7 @@ use base_trees::Tree;
 use simple_types::{ValueLabel, is_at_most};
 use std::alloc::Global;
 
-/// Where a kid of a value stands: the part, its role, and its type.
+/// The place of a child of a value: the part, its role, and its type.
 #[derive(Drop)]
 pub(crate) struct ComponentPlace<'a> {
     pub(crate) role: Role,
@@ -19,16 +19,16 @@ pub(crate) struct ComponentPlace<'a> {
     pub(crate) node: &'a Tree<TypeLabel>,
 }
 
-/// Where the kids of a value stand.
+/// The places of the children of a value.
 #[derive(Drop)]
 pub(crate) enum Places<'a> {
-    /// One after the other.
+    /// A place for each child.
     Each(Vec<ComponentPlace<'a>>),
-    /// All of them.
+    /// One place for all children.
     All(ComponentPlace<'a>),
 }
 
-// Whether a number is within the bounds of its type.
+// Returns whether a number is within the bounds of its type.
 fn is_within(lo: Option<i128>, hi: Option<i128>, n: i128) -> bool
     ensures { result ≡ (is_128_bits n && is_from lo n && is_to hi n) }
 {
@@ -59,7 +59,7 @@ fn place_of<'a>(
     }
 }
 
-// The components of a SEQUENCE that are present.
+// Returns the places of the components of a SEQUENCE that are present.
 pub(crate) fn present_places<'a>(
     alloc: Global,
     label: &TypeLabel,
@@ -86,7 +86,7 @@ pub(crate) fn present_places<'a>(
     Ok(Some(places))
 }
 
-// Where an alternative or the items stand.
+// Returns the place of an alternative or of the items.
 fn place_at<'a>(
     label: &TypeLabel,
     i: usize,
@@ -104,7 +104,7 @@ fn place_at<'a>(
     }
 }
 
-// The places below a value that is one of a type without parts.
+// Returns the places of the children of a value of a type without parts.
 fn no_places<'a>(alloc: Global, holds: bool) -> Option<Places<'a>>
     ensures { (n : ℕ) → Found n result (rule.none_if holds) }
 {
@@ -112,6 +112,62 @@ fn no_places<'a>(alloc: Global, holds: bool) -> Option<Places<'a>>
         Some(Places::Each(Vec::new(alloc)))
     } else {
         None
+    }
+}
+
+// The places of the components of a SEQUENCE that are present.
+fn sequence_places<'a>(
+    alloc: Global,
+    label: &TypeLabel,
+    parts: &'a [Component],
+    kids: &'a [Tree<TypeLabel>],
+    present: &[bool],
+) -> Result<Option<Places<'a>>, Memory>
+    requires { parts.now ≡ parts_of label.now.form }
+    ensures { IfOk result (λ found. (n : ℕ) → Found n found (rule.present_from label.now 0 parts.now kids.now present.now)) }
+{
+    match present_places(alloc, label, parts, kids, present)? {
+        Some(places) => Ok(Some(Places::Each(places))),
+        None => Ok(None),
+    }
+}
+
+// The place of the alternative with this number, from 0.
+fn choice_place<'a>(
+    alloc: Global,
+    label: &TypeLabel,
+    parts: &'a [Component],
+    kids: &'a [Tree<TypeLabel>],
+    i: usize,
+) -> Result<Option<Places<'a>>, Memory>
+    requires { parts.now ≡ parts_of label.now.form }
+    ensures { IfOk result (λ found. (n : ℕ) → Found n found (rule.alone (rule.place_at label.now i (slice_get parts.now i) (slice_get kids.now i)))) }
+{
+    match parts.get(i) {
+        Some(part) => match place_at(label, i, part, kids) {
+            Some(place) => one_place(alloc, place),
+            None => Ok(None),
+        },
+        None => Ok(None),
+    }
+}
+
+// The place of the items of a SEQUENCE OF, if their number is within its bounds.
+fn items_place<'a>(
+    label: &TypeLabel,
+    part: &'a Component,
+    kids: &'a [Tree<TypeLabel>],
+    holds: bool,
+) -> Option<Places<'a>>
+    requires { 0 < length (parts_of label.now.form) }
+    ensures { (n : ℕ) → Found n result (if holds then rule.repeated n (rule.place_at label.now 0 (Some part.now) (slice_get kids.now 0)) else None) }
+{
+    if !holds {
+        return None;
+    }
+    match place_at(label, 0, part, kids) {
+        Some(place) => Some(Places::All(place)),
+        None => None,
     }
 }
 
@@ -145,33 +201,18 @@ fn places_by_form<'a>(
         Form::Utf8 { .. } => Ok(no_places(alloc, matches!(value, ValueLabel::Utf8(_)))),
         Form::Sequence { parts } => match value {
             ValueLabel::Sequence { present } => {
-                match present_places(alloc, label, parts.items(), kids, present.items())? {
-                    Some(places) => Ok(Some(Places::Each(places))),
-                    None => Ok(None),
-                }
+                sequence_places(alloc, label, parts.items(), kids, present.items())
             }
             _ => Ok(None),
         },
         Form::Choice { parts } => match value {
-            ValueLabel::Choice(i) => match parts.items().get(*i as usize) {
-                Some(part) => match place_at(label, *i as usize, part, kids) {
-                    Some(place) => one_place(alloc, place),
-                    None => Ok(None),
-                },
-                None => Ok(None),
-            },
+            ValueLabel::Choice(i) => choice_place(alloc, label, parts.items(), kids, *i as usize),
             _ => Ok(None),
         },
         Form::SequenceOf { part, min, max } => match value {
             ValueLabel::SequenceOf => {
-                if *min as usize <= n && is_at_most(n, *max) {
-                    match place_at(label, 0, part, kids) {
-                        Some(place) => Ok(Some(Places::All(place))),
-                        None => Ok(None),
-                    }
-                } else {
-                    Ok(None)
-                }
+                let holds = *min as usize <= n && is_at_most(n, *max);
+                Ok(items_place(label, part, kids, holds))
             }
             _ => Ok(None),
         },
@@ -186,7 +227,7 @@ fn one_place<'a>(alloc: Global, place: ComponentPlace<'a>) -> Result<Option<Plac
     Ok(Some(Places::Each(places)))
 }
 
-/// The places of the kids of a value with this label and so many kids. None where it is no value of the type.
+/// Returns the places of the children of a value with this label and `n` children. None if it is not a value of the type.
 pub(crate) fn find_places<'a>(
     alloc: Global,
     node: &'a Tree<TypeLabel>,

@@ -18,7 +18,7 @@ use simple_types::{ValueLabel, has_characters, holds};
 use std::alloc::Global;
 use std::iter::Iterator;
 
-// Whether a text keeps the rules of its type.
+// Returns whether a text follows the rules of its type.
 fn is_text_of(label: &TypeLabel, value: &ValueLabel) -> bool
     ensures { IsTrue result ↔ rule.IsTextOf label.now.form label.now.marks value.now }
 {
@@ -34,7 +34,7 @@ fn is_text_of(label: &TypeLabel, value: &ValueLabel) -> bool
     }
 }
 
-// Whether a value is the one that its own spelling gives.
+// Returns whether a value is the one that its own spelling gives.
 fn is_spelled(
     alloc: Global,
     node: &Tree<TypeLabel>,
@@ -47,7 +47,7 @@ fn is_spelled(
     holds(alloc, &simple, value)
 }
 
-// How many child elements a part gives; 2^64 - 1 stands for that number and every greater one.
+// Returns the number of child elements that a part contributes; 2^64 - 1 means that number or a greater one.
 #[cycle(counting)]
 fn count_at(
     alloc: Global,
@@ -101,7 +101,7 @@ fn count_all(
     Ok(count)
 }
 
-// How many child elements a value gives to the element that it stands in; 2^64 - 1 stands for that number and every
+// Returns the number of child elements that a value contributes to the element that contains it; 2^64 - 1 means that number or a
 // greater one.
 #[cycle(counting)]
 fn child_count(
@@ -120,7 +120,7 @@ fn child_count(
     }
 }
 
-// How many items the first part has, where it is present.
+// Returns the number of items of the first part, if it is present.
 fn first_count(label: &ValueLabel, values: &Kids<'_, ValueLabel>) -> usize
     ensures { result ≡ rule.first_count label.now values.now }
 {
@@ -136,7 +136,7 @@ fn first_count(label: &ValueLabel, values: &Kids<'_, ValueLabel>) -> usize
     }
 }
 
-// Whether the last part of a SEQUENCE is absent.
+// Returns whether the last part of a SEQUENCE is absent.
 pub(crate) fn is_last_absent(label: &ValueLabel) -> bool
     ensures { result ≡ rule.is_last_absent label.now }
 {
@@ -149,7 +149,7 @@ pub(crate) fn is_last_absent(label: &ValueLabel) -> bool
     }
 }
 
-// Whether there are as many texts as stand around the child elements.
+// Returns whether the number of texts is that required around the child elements.
 fn has_texts(
     alloc: Global,
     module: &Module,
@@ -166,7 +166,7 @@ fn has_texts(
     Ok(children < texts && texts - children == 1)
 }
 
-// Whether a value of a SEQUENCE has the texts between its child elements and their order, where its type asks for them.
+// Returns whether a value of a SEQUENCE has the texts between its child elements and their order, if its type requires them.
 fn has_texts_and_order(
     alloc: Global,
     module: &Module,
@@ -188,9 +188,9 @@ fn has_texts_and_order(
     Ok(true)
 }
 
-// Whether a value keeps the rules of its first node, where that is of this type, which is no reference. LIST stands on a
-// SEQUENCE OF alone, USE-UNION on a CHOICE, EMBED-VALUES and USE-ORDER on a SEQUENCE, so the instructions of other types, as
-// the many TEXT of an ENUMERATED, are not looked at.
+// Returns whether a value follows the rules of its first node, whose type is this one, not a reference. Only a SEQUENCE OF has
+// LIST, only a CHOICE USE-UNION, and only a SEQUENCE EMBED-VALUES and USE-ORDER. So the instructions of other types, such as the
+// many TEXT of an ENUMERATED, are not visited.
 pub(crate) fn own_at(
     alloc: Global,
     module: &Module,
@@ -210,16 +210,16 @@ pub(crate) fn own_at(
     }
 }
 
-/// Whether a value keeps the rules of its first node. A text has XML characters alone, its WHITESPACE leaves it as it
-/// is, and it is within its size and class. A value of a LIST or USE-UNION type is the one that its own spelling gives.
-/// A value of an EMBED-VALUES type has one text more than child elements, and none where its content is absent. The order
-/// of a value of a USE-ORDER type names each child element that is present once, by its number among all that may be, and
-/// no other, and it is empty where its content is absent.
+/// Returns whether a value follows the rules of its first node. A text consists of XML characters, its WHITESPACE leaves it
+/// unchanged, and it is within its size and class. A value of a LIST or USE-UNION type is the one that its own spelling gives. A
+/// value of an EMBED-VALUES type has one text more than child elements, and none if its content is absent. The order of a value
+/// of a USE-ORDER type names each child element that is present once, by its number among all that may be, and no other. It is
+/// empty if the content is absent.
 ///
-/// The time grows with the value, and for LIST and USE-UNION with the number of types that the simple type is made of; how
-/// many numbers and words an ENUMERATED has hardly counts. For EMBED-VALUES the groups of the value are gone through, and
-/// no child element. For USE-ORDER it grows with the number of components: of the order no more items are looked at than
-/// there may be child elements, and one.
+/// The time grows with the value, and for LIST and USE-UNION with the number of types that the simple type is made of. The number
+/// of numbers or words of an ENUMERATED hardly matters. For EMBED-VALUES the groups of the value are visited, but no child
+/// element. For USE-ORDER the time grows with the number of components: at most one item more of the order is visited than there
+/// may be child elements.
 pub fn own(
     alloc: Global,
     module: &Module,
@@ -229,7 +229,7 @@ pub fn own(
     requires { IsOf module.now node.now }
     ensures { IfOk result (λ b. IsTrue b ↔ rule.Own module.now node.now value.now) }
 {
-    // What each module keeps is known once one of its readers was called.
+    // Calling one of the module's readers makes its invariant known.
     let _ = module.count();
     own_at(alloc, module, resolve(module, node), value)
 }

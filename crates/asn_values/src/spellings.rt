@@ -19,7 +19,7 @@ use simple_types::{
 use std::alloc::Global;
 use std::iter::Iterator;
 
-// The digits of a whole number.
+// Returns the digits of a whole number.
 fn whole_text(alloc: Global, label: &ValueLabel) -> Result<Text, Memory>
     ensures { IfOk result (λ text. text ≡ spelled_whole label.now) }
 {
@@ -29,7 +29,7 @@ fn whole_text(alloc: Global, label: &ValueLabel) -> Result<Text, Memory>
     }
 }
 
-// The text of a UTF8String.
+// Returns the text of a UTF8String.
 fn text_of(alloc: Global, label: &ValueLabel) -> Result<Text, Memory>
     ensures { IfOk result (λ text. text ≡ spelled_text label.now) }
 {
@@ -39,7 +39,7 @@ fn text_of(alloc: Global, label: &ValueLabel) -> Result<Text, Memory>
     }
 }
 
-// The items' spellings with a space between each two.
+// Appends the spellings of the items, with a space between each two.
 #[cycle(spelling)]
 fn write_items(
     out: &mut String,
@@ -79,7 +79,7 @@ fn write_chosen(
     }
 }
 
-// Appends the canonical spelling. A type that stands for no simple type spells its values like those of BOOLEAN.
+// Appends the canonical spelling. A type that is not that of a simple type spells its values like those of BOOLEAN.
 #[cycle(spelling)]
 fn write_spelling(
     out: &mut String,
@@ -104,9 +104,9 @@ fn write_spelling(
     }
 }
 
-/// The canonical spelling of a value of the type, which is no reference: of a list the spellings of its items with one
-/// space between each two. It goes by the type alone, whatever the value is: what isn't of the type spells nothing, and
-/// so does all but a truth value where the type stands for no simple type. Texts and words are shared.
+/// Returns the canonical spelling of a value of the type, which is not a reference; of a list the spellings of its items with one
+/// space between each two. The type alone determines the form of the spelling: a value of another form is spelled empty. If the
+/// type is not that of a simple type, all values except truth values are spelled empty. Texts and words are shared.
 pub fn spelling(
     alloc: Global,
     node: &Tree<TypeLabel>,

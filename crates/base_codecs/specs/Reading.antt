@@ -1,4 +1,5 @@
--- Reading a list from left to right, up to the first stop. E is what the list is of: bits, or octets. S is what a stop tells.
+-- Reading a list from left to right, up to the first stop. E is the type of the list's elements: bits, or octets. S is the type
+-- of a stop.
 use Rattle.std.specs.Prelude.{ℕ, ◌+◌, Bool, List, ◌++◌, length, take, drop, Result, Ok, Err, nat_lt, if◌then◌else◌}
 use Rattle.base_codecs.specs.declared.spots.Spot.{Spot}
 
@@ -7,43 +8,43 @@ abbrev pub ◌>>=◌ : {S A B : Type 0} → Result A S → (A → Result B S) �
 (Ok x) >>= f = f x
 (Err e) >>= f = Err e
 
--- of this list, from this spot on: what is read and the spot behind it, or the first stop
+-- From a list and a spot in it: the value read and the spot after it, or the first stop.
 abbrev pub Reader : Type 0 → Type 0 → Type 0 → Type 0
 Reader E S A = List E → Spot → Result (A × Spot) S
 
--- what writes a list at a position
+-- The list that is written at a position.
 abbrev pub Writer : Type 0 → Type 0
 Writer E = ℕ → List E
 
 abbrev pub then_write : {E : Type 0} → List E → Writer E → Writer E
 then_write front others p = front ++ others (p + length front)
 
--- so far and so many nodes further
+-- The spot moved by this distance and this number of nodes.
 abbrev pub moved : Spot → ℕ → ℕ → Spot
 moved s far nodes = record { at = s.at + far; nodes = s.nodes + nodes }
 
--- what was read, unless a test finds a fault in it
+-- The result, unless a test finds a fault in it.
 abbrev pub stop_if : {S A : Type 0} → Bool → S → Result A S → Result A S
 stop_if holds stop others = if holds then Err stop else others
 
 abbrev pub with_spot : {S A : Type 0} → A → Spot → Result (A × Spot) S
 with_spot a s = Ok (a, s)
 
--- A BOUNDED WINDOW: the next n elements alone. Places are still those of the whole list, and the list ends where the window does. It
--- stops where the list ends inside the window.
+-- A BOUNDED WINDOW: only the next n elements. Places are still those of the complete list, and the list ends where the window
+-- does. It stops where the list ends inside the window.
 unfoldable pub window_at : {E S A : Type 0} → S → ℕ → Reader E S A → Reader E S A
 window_at stop n read X s = stop_if (nat_lt (length X) (s.at + n)) stop (read (take (s.at + n) X) s)
 
--- what was read, unless something stands behind it
+-- The value read, unless something follows it.
 unfoldable pub ended_at : {E S A : Type 0} → (Spot → S) → Reader E S A → Reader E S A
 ended_at stop read X s = do
   a ← read X s
   stop_if (nat_lt a.1.at (length X)) (stop a.1) (Ok a)
 
--- all that is left
+-- The rest of the list.
 unfoldable pub left_at : {E S : Type 0} → Reader E S (List E)
 left_at X s = Ok (drop s.at X, moved s (length (drop s.at X)) 0)
 
--- one node more, where there may be one
+-- One more node, if the limit allows it.
 unfoldable pub entered_at : {E S A : Type 0} → (Spot → Bool) → (Spot → S) → Reader E S A → Reader E S A
 entered_at is_over stop read X s = stop_if (is_over s) (stop s) (read X (moved s 0 1))

@@ -1,10 +1,11 @@
--- Reading several: so many, as many as fill a window, those of a list of parts of which some may be absent, and one of several.
+-- Reading several values: a given number, as many as fill a window, a list of parts some of which may be absent, or one of
+-- several.
 use Rattle.std.specs.Prelude.{◌≡◌, ℕ, zero, suc, ◌+◌, Bool, true, false, Option, Some, None, List, [], ◌∷◌, ◌++◌, length, drop, Ok, Err, nat_lt, if◌then◌else◌}
 use Rattle.base_codecs.specs.declared.spots.Spot.{Spot}
 use Rattle.base_codecs.specs.Reading.{◌>>=◌, Reader, Writer, then_write, stop_if, with_spot}
 use Rattle.base_codecs.specs.Codec.{CodecBefore}
 
--- one after the other
+-- The values of all readers, one after the other.
 unfoldable pub each_at : {E S A B : Type 0} → (A → Reader E S B) → List A → Reader E S (List B)
 each_at read [] X s = Ok ([], s)
 each_at read (a ∷ as') X s = do
@@ -12,21 +13,22 @@ each_at read (a ∷ as') X s = do
   bs ← each_at read as' X b.1
   Ok (b.0 ∷ bs.0, bs.1)
 
--- up to the end, at most so many
+-- Values up to the end, at most this number.
 unfoldable pub at_most_at : {E S A : Type 0} → (Spot → S) → ℕ → Reader E S A → Reader E S (List A)
 at_most_at stop zero read X s = stop_if (nat_lt s.at (length X)) (stop s) (Ok ([], s))
 at_most_at stop (suc n) read X s =
     if nat_lt s.at (length X) then (read X s >>= λ a. at_most_at stop n read X a.1 >>= λ as'. with_spot (a.0 ∷ as'.0) as'.1)
     else Ok ([], s)
 
--- up to the end. Each takes something, so there are no more than the length of the list, and `stop` is never told.
+-- Values up to the end. Each consumes something, so there are at most as many as the list has elements, and `stop` is never
+-- reported.
 abbrev pub items_at : {E S A : Type 0} → (Spot → S) → Reader E S A → Reader E S (List A)
 items_at stop read X s = at_most_at stop (length X) read X s
 
--- EXPECTED HEADS. `starts` tells whether what stands here begins as a part does.
+-- EXPECTED HEADS. `starts` holds if the input here begins as a part does.
 module _ {E S P A : Type 0} (starts : P → List E → Bool) (is_optional : P → Bool) (stop : List E → Spot → S) (kid : P → Reader E S A) where
-  -- the parts that are present: what stands here is the next part, or one behind it up to the first that isn't optional; behind
-  -- the last part nothing does
+  -- The parts that are present. The input here begins the next part or one after it, up to the first that isn't optional; after
+  -- the last part nothing may follow.
   unfoldable pub parts_at : List P → Reader E S (List (Option A))
   parts_at [] X s = stop_if (nat_lt s.at (length X)) (stop X s) (Ok ([], s))
   parts_at (p ∷ ps) X s =
@@ -34,14 +36,14 @@ module _ {E S P A : Type 0} (starts : P → List E → Bool) (is_optional : P �
       else if is_optional p then (parts_at ps X s >>= λ as'. with_spot (None ∷ as'.0) as'.1)
       else Err (stop X s)
 
-  -- one of these, by its number
+  -- The value of one of these, with its number.
   unfoldable pub alternative_at : List P → Reader E S (ℕ × A)
   alternative_at [] X s = Err (stop X s)
   alternative_at (p ∷ ps) X s =
       if starts p (drop s.at X) then (kid p X s >>= λ a. with_spot (0, a.0) a.1)
       else (alternative_at ps X s >>= λ a. with_spot (suc a.0.0, a.0.1) a.1)
 
--- WHAT IS WRITTEN OF THEM
+-- THE WRITERS OF THEM
 abbrev pub AllFit : {A : Type 0} → (A → Type 0) → List A → Type 0
 AllFit V [] = Unit {0}
 AllFit V (a ∷ as') = V a × AllFit V as'
@@ -93,13 +95,13 @@ module _ {P A : Type 0} (V : P → A → Type 0) where
   AlternativeFits (p ∷ ps) zero a = V p a
   AlternativeFits (p ∷ ps) (suc i) a = AlternativeFits ps i a
 
--- WHAT HEADS HAVE TO BE
+-- CONDITIONS ON HEADS
 module _ {E P A : Type 0} (starts : P → List E → Bool) (V : P → A → Type 0) (write : P → A → Writer E) where
-  -- what is written of a part begins as it does, and nothing does not
+  -- Everything written of a part begins as the part does, and an empty input doesn't.
   abbrev pub HasHead : P → Type 0
   HasHead p = (starts p [] ≡ false) × ((a : A) (n : ℕ) (rest : List E) → V p a → starts p (write p a n ++ rest) ≡ true)
 
-  -- what is written of the others never begins as this does
+  -- Nothing written of the others begins as this one does.
   abbrev pub IsApart : P → List P → Type 0
   IsApart p [] = Unit {0}
   IsApart p (q ∷ qs) = ((a : A) (n : ℕ) (rest : List E) → V q a → starts p (write q a n ++ rest) ≡ false) × IsApart p qs

@@ -1,4 +1,4 @@
-//! Bits out to octets.
+//! Writes bits to octets.
 ghost use Rattle.std.specs.Prelude.{◌≡◌, ◌<◌, ◌≤◌, ◌+◌, ◌-◌, ◌*◌, ◌^◌, ◌/◌, ◌%◌, ◌++◌, [], OnOk, OnErr, IsOk, length, vec_len, vec_capacity};
 ghost use Rattle.base_codecs.specs.Bits.{bits, octet_bits, padding};
 
@@ -6,7 +6,7 @@ use base_texts::Memory;
 use std::alloc::{AllocError, Global};
 use std::marker::Model;
 
-/// Bits that are written, seen as the list of them.
+/// A sink of bits, seen as the list of bits written.
 #[derive(Drop)]
 pub struct BitSink {
     octets: Vec<u8>,
@@ -22,7 +22,7 @@ impl Model for BitSink {
 
     ghost view = { λ s. octet_bits s.octets.items ++ bits s.used s.part };
 
-    // There is room for the octet that is written in part, so that no memory is needed to close it.
+    // There is room for the octet that is partly written, so closing it allocates nothing.
     ghost invariant = { λ s. (s.used ≤ 7) × (s.part < 2 ^ s.used) × (0 < s.used → vec_len s.octets < vec_capacity s.octets) };
 }
 
@@ -37,7 +37,7 @@ fn append_octets(octets: &mut Vec<u8>, number: u64, count: usize) -> Result<(), 
     octets.extend_from_slice(&number.to_be_bytes()[8 - count..])
 }
 
-// Appends the octets that are whole of the bits of a number, one by one, and leaves the bits behind them.
+// Appends the complete octets of a number's bits, one by one, and leaves the bits after them.
 #[inline(always)]
 fn append_whole(octets: &mut Vec<u8>, number: u64, width: u32)
     requires few { width < 64 }
@@ -53,7 +53,7 @@ fn append_whole(octets: &mut Vec<u8>, number: u64, width: u32)
     }
 }
 
-// Appends octets behind the bits of a part, each of them across two octets, and gives the bits that are left of the last.
+// Appends octets after the bits of a part, each of them across two octets, and returns the remaining bits of the last.
 fn append_across(octets: &mut Vec<u8>, part: u8, used: u32, more: &[u8]) -> u8
     requires few { used ≤ 7 }
     requires fits { part < 2 ^ used }
@@ -73,7 +73,7 @@ fn append_across(octets: &mut Vec<u8>, part: u8, used: u32, more: &[u8]) -> u8
 }
 
 impl BitSink {
-    /// No bits yet.
+    /// Returns a sink without bits.
     pub fn new(alloc: Global) -> BitSink
         ensures { result ≡ [] }
     {
@@ -92,7 +92,7 @@ impl BitSink {
         ensures memory { OnErr result (self.new ≡ self.old) }
     {
         let width = self.used + n;
-        // Seven octets are whole at most, and one more is kept for a part.
+        // At most seven octets become complete, and one more is reserved for a part.
         if 64 <= width || self.octets.capacity() - self.octets.len() < 8 {
             return self.put_many(number, n);
         }
@@ -115,7 +115,7 @@ impl BitSink {
         ensures ok { OnOk result (self.new ≡ self.old ++ bits n number) }
         ensures memory { OnErr result (self.new ≡ self.old) }
     {
-        // Eight octets are whole at most, and one more is kept for a part.
+        // At most eight octets become complete, and one more is reserved for a part.
         self.octets.reserve(9)?;
         let all = self.part as u128 * (1u128 << n) + number as u128 % (1u128 << n);
         let used = (self.used + n) % 8;
@@ -129,7 +129,7 @@ impl BitSink {
         Ok(())
     }
 
-    /// Appends zero bits up to the next octet. The sink always has room for them, so no memory is needed.
+    /// Appends zero bits up to the next octet. The sink always has room for them, so nothing is allocated.
     #[inline(always)]
     pub fn align(&mut self) -> Result<(), Memory>
         ensures sure { IsOk result }
@@ -143,7 +143,7 @@ impl BitSink {
         Ok(())
     }
 
-    /// Appends the octets, at any bit. At the end of an octet they are only copied.
+    /// Appends the octets, at any bit position. At the end of an octet they are only copied.
     #[inline(always)]
     pub fn put_octets(&mut self, octets: &[u8]) -> Result<(), Memory>
         ensures ok { OnOk result (self.new ≡ self.old ++ octet_bits octets.now) }
@@ -162,14 +162,14 @@ impl BitSink {
         ensures ok { OnOk result (self.new ≡ self.old ++ octet_bits octets.now) }
         ensures memory { OnErr result (self.new ≡ self.old) }
     {
-        // One more is kept for the part.
+        // One more is reserved for the part.
         self.octets.reserve(octets.len() + 1)?;
         let part = append_across(&mut self.octets, self.part, self.used, octets);
         self.part = part;
         Ok(())
     }
 
-    /// The octets, with zero bits behind the last bit.
+    /// Returns the octets, with zero bits after the last bit.
     pub fn finish(mut self) -> Vec<u8>
         ensures { octet_bits result.items ≡ self ++ padding (length self) }
     {

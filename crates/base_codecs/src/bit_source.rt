@@ -1,4 +1,4 @@
-//! Bits in from a source of octets.
+//! Reads bits from a source of octets.
 ghost use Rattle.std.specs.Prelude.{◌≡◌, ◌<◌, ◌≤◌, ◌-◌, ◌*◌, ◌^◌};
 
 use crate::fetch::{CursorError, fetch};
@@ -6,12 +6,12 @@ use crate::gather::{carry, gather, gather_octet};
 use base_texts::Source;
 use std::alloc::Global;
 
-/// Takes bits from a source of octets, the highest bit of an octet first, and no octet before a bit of it is needed.
+/// Reads bits from a source of octets, the highest bit of an octet first. It reads no octet before a bit of it is needed.
 #[derive(Drop)]
 pub struct BitSource<'a, S: Source> {
     source: &'a mut S,
-    // The limit stands between the two counts, which change apart: side by side they would be read as one word of 16 bytes,
-    // and that waits for both to be written.
+    // The limit separates the two counts, which change independently. Next to each other they would be read as one word of 16
+    // bytes, and that load waits until both are written.
     position: u64,
     limit: u64,
     taken: u64,
@@ -30,7 +30,7 @@ impl<'a, S: Source> BitSource<'a, S> {
     ghost use Rattle.base_codecs.specs.Cursors.{IsInStep, LosesFirst, ahead};
     ghost use Rattle.base_texts.specs.Faults.{Counts};
 
-    /// Takes the bits of the source from its next octet on, and at most `limit` octets.
+    /// Returns a reader of the source's bits from its next octet on, of at most `limit` octets.
     pub fn new(source: &'a mut S, limit: u64) -> BitSource<'a, S>
         requires { limit ≤ 2 ^ 32 }
         ensures same_reference { result.source.ghost_name ≡ source.entry.ghost_name }
@@ -46,14 +46,14 @@ impl<'a, S: Source> BitSource<'a, S> {
         }
     }
 
-    /// How many bits were taken or skipped.
+    /// Returns the number of bits taken or skipped so far.
     pub fn position(&self) -> u64
         ensures { result ≡ self.now.position }
     {
         self.position
     }
 
-    /// The number of the next `n` bits, the highest first.
+    /// Reads the next `n` bits, and returns their number, the highest bit first.
     #[inline(always)]
     pub fn take_bits(&mut self, n: u32) -> Result<u64, CursorError>
         requires few { n ≤ 64 }
@@ -76,7 +76,22 @@ impl<'a, S: Source> BitSource<'a, S> {
     {
         let unread = (8 * self.taken - self.position) as u32;
         if n <= 8 {
-            return self.take_few(n, unread);
+            if n <= unread {
+                let left = unread - n;
+                let number = self.held >> left;
+                self.position += n as u64;
+                self.held %= 1u8 << left;
+                return Ok(number as u64);
+            }
+            let mut octet = [0u8; 1];
+            let (count, end) = fetch(self.source, self.limit - self.taken, &mut octet);
+            self.taken += count as u64;
+            end?;
+            let all = gather_octet(self.held, unread, octet[0]);
+            let left = unread + 8 - n;
+            self.position += n as u64;
+            self.held = (all % (1u32 << left)) as u8;
+            return Ok((all >> left) as u64);
         }
         let need = (n.saturating_sub(unread) as usize + 7) / 8;
         let mut buf = [0u8; 8];
@@ -90,47 +105,7 @@ impl<'a, S: Source> BitSource<'a, S> {
         Ok((all >> left) as u64)
     }
 
-    // Takes at most 8 bits. `unread` is the number of bits of the last octet that are not taken yet.
-    #[inline(always)]
-    fn take_few(&mut self, n: u32, unread: u32) -> Result<u64, CursorError>
-        requires few { n ≤ 8 }
-        requires in_step { IsInStep self.old.position self.old.taken }
-        requires unread { unread ≡ 8 * self.old.taken - self.old.position }
-        ensures same_reference { self.new.source.ghost_name ≡ self.old.source.ghost_name }
-        ensures limit { self.new.limit ≡ self.old.limit }
-        ensures moved { OnOk result ((self.new.position ≡ self.old.position + n) × IsInStep self.new.position self.new.taken) }
-        ensures below { IfOk result (λ x. x < 2 ^ n) }
-        ensures bits { (left : List ℕ) → S.left self.old.source.now ≡ Some left → IfOk result (λ x.
-            ahead self.old.position self.old.taken self.old.held self.old.limit left
-            ≡ bits n x ++ ahead self.new.position self.new.taken self.new.held self.new.limit (drop (self.new.taken - self.old.taken) left)) }
-        ensures took { LosesFirst (S.left self.old.source.now) (S.left self.new.source.now) (self.new.taken - self.old.taken) }
-        ensures most { (self.old.taken ≤ self.new.taken) × (8 * self.new.taken ≤ self.old.position + n + 7) }
-        ensures stays { OnErr result ((self.new.position ≡ self.old.position) × (self.new.held ≡ self.old.held)) }
-        ensures missing { OnErr result (8 * self.new.taken < self.old.position + n) }
-        ensures short { IsErrOf result CursorError.Short → (self.new.taken < self.old.limit) × IsAtEnd (S.left self.new.source.now) }
-        ensures too_long { IsErrOf result CursorError.TooLong → self.new.taken ≡ self.old.limit }
-        ensures cause { Counts (S.faults self.old.source.now) (S.faults self.new.source.now) (IsErrOf result CursorError.Failed) }
-        ensures kinds { ¬ IsErrOf result CursorError.Padding × ¬ IsErrOf result CursorError.Memory }
-    {
-        if n <= unread {
-            let left = unread - n;
-            let number = self.held >> left;
-            self.position += n as u64;
-            self.held %= 1u8 << left;
-            return Ok(number as u64);
-        }
-        let mut octet = [0u8; 1];
-        let (count, end) = fetch(self.source, self.limit - self.taken, &mut octet);
-        self.taken += count as u64;
-        end?;
-        let all = gather_octet(self.held, unread, octet[0]);
-        let left = unread + 8 - n;
-        self.position += n as u64;
-        self.held = (all % (1u32 << left)) as u8;
-        Ok((all >> left) as u64)
-    }
-
-    /// Skips the bits up to the next octet, which are to be 0. It takes no octet.
+    /// Skips the bits up to the next octet, which must be 0. It reads no octet.
     pub fn align(&mut self) -> Result<(), CursorError>
         requires in_step { IsInStep self.old.position self.old.taken }
         ensures same_reference { self.new.source.ghost_name ≡ self.old.source.ghost_name }
@@ -148,7 +123,7 @@ impl<'a, S: Source> BitSource<'a, S> {
         Ok(())
     }
 
-    /// The next `n` octets, at the end of an octet.
+    /// Reads the next `n` octets, at the end of an octet.
     pub fn take_octets(&mut self, alloc: Global, n: u32) -> Result<Vec<u8>, CursorError>
         requires few { n ≤ 65536 }
         requires in_step { IsInStep self.old.position self.old.taken }
@@ -201,7 +176,7 @@ impl<'a, S: Source> BitSource<'a, S> {
         Ok(())
     }
 
-    /// Fills the buffer with the next octets, at any bit: each stands across two octets of the source.
+    /// Fills the buffer with the next octets from any bit position: each lies across two octets of the source.
     pub fn fill_across(&mut self, octets: &mut [u8]) -> Result<(), CursorError>
         requires few { length octets.old ≤ 65536 }
         requires in_step { IsInStep self.old.position self.old.taken }

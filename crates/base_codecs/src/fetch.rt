@@ -1,4 +1,4 @@
-//! Octets of a source, into a buffer.
+//! Reads octets of a source into a buffer.
 ghost use Rattle.std.specs.Prelude.{◌≡◌, ◌<◌, ◌≤◌, length, take, IsErrOf, OnOk};
 ghost use Rattle.std.specs.Io.KnownBytes.{Consumes, IsAtEnd};
 ghost use Rattle.base_texts.specs.Faults.{Counts};
@@ -8,7 +8,7 @@ use base_texts::{Failed, Source};
 use std::alloc::AllocError;
 use thiserror::Error;
 
-/// Why bits couldn't be taken.
+/// The reasons why bits couldn't be read.
 #[derive(Clone, Copy, Debug, PartialEq, Eq, Error)]
 pub enum CursorError {
     #[error("the source ends before the bits that are needed")]
@@ -31,8 +31,8 @@ impl From<AllocError> for CursorError {
     }
 }
 
-/// Fills the buffer from the source, which is asked for at most `room` octets, and tells how many came. One read does
-/// where the source gives what it is asked for.
+/// Fills the buffer from the source with at most `room` octets, and returns how many came. One read suffices where the source
+/// gives all that is requested.
 #[inline(always)]
 pub(crate) fn fetch<S: Source>(
     source: &mut S,

@@ -2,7 +2,7 @@
 ghost use Rattle.std.specs.Prelude.{◌≡◌, ℕ, ◌<◌, ◌≤◌, ◌+◌, ◌*◌, ◌^◌, ◌++◌, length, [], ◌∷◌};
 ghost use Rattle.base_codecs.specs.Bits.{bits, octet_bits};
 
-/// The number whose bits are those of `held` and of the octets.
+/// Returns the number whose bits are those of `held` and of the octets.
 pub(crate) fn gather(held: u8, unread: u32, buf: &[u8]) -> u128
     requires part { unread ≤ 7 }
     requires fits { held < 2 ^ unread }
@@ -17,7 +17,7 @@ pub(crate) fn gather(held: u8, unread: u32, buf: &[u8]) -> u128
     all
 }
 
-/// The number whose bits are those of `held` and of one octet.
+/// Returns the number whose bits are those of `held` and of one octet.
 #[inline(always)]
 pub(crate) fn gather_octet(held: u8, unread: u32, octet: u8) -> u32
     requires part { unread ≤ 7 }
@@ -28,7 +28,7 @@ pub(crate) fn gather_octet(held: u8, unread: u32, octet: u8) -> u32
     held as u32 * 256 + octet as u32
 }
 
-/// Puts the bits of `held` before the octets, which move by as many bits, and gives those that come out behind them.
+/// Prepends the bits of `held` to the octets, which shift by that number of bits, and returns the bits shifted out at the end.
 pub(crate) fn carry(octets: &mut [u8], held: u8, unread: u32) -> u8
     requires part { unread ≤ 7 }
     requires fits { held < 2 ^ unread }

@@ -1,6 +1,6 @@
-//! How far reading has come.
+//! A position in a list that is read.
 
-/// The next element of the list, and how many nodes were begun before it.
+/// The index of the next element of the list, and the number of nodes begun before it.
 #[derive(Clone, Copy, Debug)]
 pub struct Spot {
     pub at: u64,

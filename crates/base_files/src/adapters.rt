@@ -1,5 +1,6 @@
-//! Files and streams with a count of their faults. A library over files tells nothing of its contents, and a sink over a writer
-//! not what was written; a source over a reader tells what the reader tells, which of a file is nothing.
+//! Files and streams with a count of their faults. The clauses of a library over files say nothing of its contents, and those of
+//! a sink over a writer nothing of the bytes written. A source over a reader has the bytes that the reader states, which is
+//! nothing for a file.
 ghost use Rattle.std.specs.Prelude.{◌≡◌, None, false};
 
 use base_texts::{Failed, Library, LoadError, ReadError, Sink, Source, Text, read_all};
@@ -40,7 +41,7 @@ impl<R: Read> Source for Reading<R> {
     }
 }
 
-/// A sink over a writer, flushed behind each write.
+/// A sink over a writer, flushed after each write.
 #[derive(Drop)]
 pub struct Writing<W> {
     inner: W,
@@ -56,7 +57,7 @@ impl<W> Writing<W> {
     }
 }
 
-// Writes a front of the piece, and flushes. None where that failed, or where nothing of a piece was taken.
+// Writes a prefix of the piece, and flushes. `None` if that failed, or if no byte of a piece was accepted.
 fn write_front<W: Write>(inner: &mut W, piece: &[u8]) -> Option<usize>
     ensures most { IfSome result (λ n. n ≤ length piece.now) }
     ensures some { IfSome result (λ n. 0 < length piece.now → 0 < n) }

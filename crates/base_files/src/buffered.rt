@@ -6,11 +6,11 @@ use base_texts::{Failed, Memory, Source};
 use std::alloc::Global;
 use std::io::{BufRead, BufReader, Read};
 
-// How many bytes of the reader are read at once at most.
+// The greatest number of bytes of the reader in one read.
 const BLOCK: usize = 65_536;
 
-/// A source over a reader that is read in blocks of at most 65,536 bytes. A byte that lies in the block costs no call of the
-/// reader's `read`, as it is for decoding, which asks for a byte or a few at a time.
+/// A source over a reader that is read in blocks of at most 65,536 bytes. A byte of the current block costs no call of the
+/// reader's `read`, which suits decoding, where one or a few bytes are requested at a time.
 #[derive(Drop)]
 pub struct Buffered<R> {
     inner: BufReader<R>,
@@ -36,7 +36,7 @@ impl<R: Read> Buffered<R> {
     ghost use Rattle.std.specs.Io.KnownBytes.{ReadConsumes};
     ghost use Rattle.base_texts.specs.Faults.{Counts};
 
-    // Reads where the block has fewer bytes than are asked for.
+    // Reads when the block has fewer bytes than are requested.
     #[inline(never)]
     fn read_on(&mut self, buf: &mut [u8]) -> Result<usize, Failed>
         ensures bound { ReadsAtMost result buf.new }
@@ -53,7 +53,7 @@ impl<R: Read> Buffered<R> {
     }
 }
 
-// Fills the buffer with the first bytes. A single byte isn't worth a call.
+// Fills the buffer with the first bytes. A single byte is stored directly, since a call costs more.
 #[inline(always)]
 fn fill(buf: &mut [u8], from: &[u8])
     requires { length buf.old ≤ length from.now }

@@ -1,4 +1,4 @@
--- The one tree of a list that has one.
+-- The tree of a list that has exactly one.
 use Rattle.std.specs.Prelude.{◌≡◌, ℕ, List, [], ◌∷◌, length, refl}
 use Rattle.std.proofs.Common.{arith}
 use Rattle.base_trees.specs.Rose.{Rose}

@@ -1,14 +1,14 @@
--- Trees while they are built, as one value.
+-- Trees under construction, as one value.
 use Rattle.std.specs.Prelude.{ℕ, suc, ◌+◌, List, [], ◌∷◌, ◌++◌, Option, Some, None, refl}
 use Rattle.std.specs.Coded.{Coded, code_by, coded×, coded_list}
 use Rattle.base_trees.specs.Rose.{Rose, node, roses_of, count_all, coded_rose}
 
--- an open node, with the trees before it beside it
+-- An open node, with the trees that precede it at its level.
 pub record Above (L : Type 0) : Type 0 where
   pub label : L
   pub before : List (Rose L)
 
--- the open nodes, the innermost first, and the trees so far in the innermost, or outside
+-- The open nodes, the innermost first, and the trees so far in the innermost one, or at the top if none is open.
 pub record Zip (L : Type 0) : Type 0 where
   pub above : List (Above L)
   pub kids : List (Rose L)
@@ -16,15 +16,15 @@ pub record Zip (L : Type 0) : Type 0 where
 abbrev pub nothing : {L : Type 0} → Zip L
 nothing = record { above = []; kids = [] }
 
--- another node is open
+-- One more node is open.
 abbrev pub opened : {L : Type 0} → L → Zip L → Zip L
 opened l z = record { above = record { label = l; before = z.kids } ∷ z.above; kids = [] }
 
--- another tree is there
+-- One more tree is there.
 abbrev pub added : {L : Type 0} → Rose L → Zip L → Zip L
 added t z = record { above = z.above; kids = z.kids ++ t ∷ [] }
 
--- more trees are there
+-- More trees are there.
 abbrev pub added_all : {L : Type 0} → List (Rose L) → Zip L → Zip L
 added_all ts z = record { above = z.above; kids = z.kids ++ ts }
 
@@ -40,7 +40,7 @@ abbrev pub canceled_in : {L : Type 0} → List (Above L) → List (Rose L) → Z
 canceled_in [] ts = record { above = []; kids = ts }
 canceled_in (a ∷ up) ts = record { above = up; kids = a.before }
 
--- the innermost open node is taken away, with all that is in it
+-- The innermost open node is removed, with everything in it.
 abbrev pub canceled : {L : Type 0} → Zip L → Zip L
 canceled z = canceled_in z.above z.kids
 
@@ -52,7 +52,7 @@ relabeled_in l (a ∷ up) = record { label = l; before = a.before } ∷ up
 abbrev pub relabeled : {L : Type 0} → L → Zip L → Zip L
 relabeled l z = record { above = relabeled_in l z.above; kids = z.kids }
 
--- how many nodes there are, open and closed
+-- The number of nodes, open and closed.
 abbrev pub above_count : {L : Type 0} → List (Above L) → ℕ
 above_count [] = 0
 above_count (a ∷ up) = suc (above_count up + count_all (roses_of a.before))
@@ -60,7 +60,7 @@ above_count (a ∷ up) = suc (above_count up + count_all (roses_of a.before))
 abbrev pub zip_count : {L : Type 0} → Zip L → ℕ
 zip_count z = above_count z.above + count_all (roses_of z.kids)
 
--- the label of the innermost
+-- The label of the innermost open node.
 abbrev pub first_label : {L : Type 0} → List (Above L) → Option L
 first_label [] = None
 first_label (a ∷ up) = Some a.label

@@ -1,4 +1,4 @@
-//! Trees while they are built.
+//! Trees under construction.
 ghost use Rattle.std.specs.Prelude.{◌≡◌, ◌<◌, ◌∷◌, [], length, Some, IsTrue, ◌↔◌, IfOk, OnOk, OnErr};
 ghost use Rattle.std.specs.Borrow.{sem};
 ghost use Rattle.std.specs.Option.{option_copied};
@@ -10,14 +10,14 @@ use crate::owned::{Flat, Forest};
 use std::alloc::{AllocError, Global};
 use std::marker::Model;
 
-/// Trees side by side, the last of which may still be open: its innermost open node has kids so far, and so has
-/// each open node round it. It has room for 2^32 - 1 nodes, and answers as if memory ran out for one more.
+/// A list of trees, the last of which may still be open: the innermost open node has the children added so far, and so has each
+/// open node around it. It has room for 2^32 - 1 nodes, and reports one more as an allocation failure.
 #[derive(Drop)]
 pub struct Builder<L> {
     pub(crate) entries: Vec<Entry<L>>,
-    // The place behind the innermost open node, or 0.
+    // The place after the innermost open node, or 0.
     inner: u32,
-    // How many nodes are open.
+    // The number of open nodes.
     level: u32,
 }
 
@@ -38,7 +38,7 @@ impl<L> Model for Builder<L> {
 impl<L> Builder<L> {
     ghost use Rattle.base_flat_trees.specs.Lends.{lends_innermost};
 
-    /// No trees, and no open node. It takes no memory.
+    /// Returns a builder with no trees and no open node. It allocates nothing.
     pub fn new(alloc: Global) -> Builder<L>
         ensures { result ≡ nothing }
     {
@@ -61,21 +61,21 @@ impl<L> Builder<L> {
         })
     }
 
-    /// How many nodes there are, open and closed, at once.
+    /// Returns the number of nodes, open and closed, in constant time.
     pub fn count(&self) -> usize
         ensures { result ≡ zip_count self.now }
     {
         self.entries.len()
     }
 
-    /// Whether no node is open.
+    /// Returns whether no node is open.
     pub fn is_outside(&self) -> bool
         ensures { IsTrue result ↔ (self.now.above ≡ []) }
     {
         self.level == 0
     }
 
-    /// The label of the innermost open node.
+    /// Returns the label of the innermost open node.
     pub fn innermost(&self) -> Option<&L>
         ensures { option_copied result ≡ first_label self.now.above }
     {
@@ -86,7 +86,7 @@ impl<L> Builder<L> {
         }
     }
 
-    /// The label of the innermost open node, to be changed in place.
+    /// Returns the label of the innermost open node, to be changed in place.
     #[inline(always)]
     pub fn innermost_mut(&mut self) -> &mut L
         requires { 0 < length self.old.above }
@@ -97,7 +97,7 @@ impl<L> Builder<L> {
         self.entries[at].label_mut()
     }
 
-    /// Gives the innermost open node another label, and hands back the label that it had.
+    /// Gives the innermost open node another label, and returns its previous label.
     pub fn relabel(&mut self, label: L) -> L
         requires { 0 < length self.old.above }
         ensures before { Some result ≡ first_label self.old.above }
@@ -121,7 +121,7 @@ impl<L> Builder<L> {
 }
 
 impl<L> Builder<L> {
-    /// The trees, where no node is open.
+    /// Returns the trees, where no node is open.
     pub fn finish(self) -> Forest<L>
         requires { self.above ≡ [] }
         ensures { result ≡ self.kids }
@@ -131,7 +131,7 @@ impl<L> Builder<L> {
         }
     }
 
-    /// The tree, where no node is open and there is one.
+    /// Returns the tree, where no node is open and exactly one tree was built.
     pub fn finish_one(self) -> Flat<L>
         requires closed { self.above ≡ [] }
         requires one { length self.kids ≡ 1 }
@@ -156,7 +156,7 @@ impl<L: Drop> Builder<L> {
         Ok(())
     }
 
-    /// Adds a node with no kids.
+    /// Adds a node with no children.
     #[inline(always)]
     pub fn leaf(&mut self, label: L) -> Result<(), AllocError>
         ensures ok { OnOk result (self.new ≡ added (node label none) self.old) }
@@ -166,7 +166,7 @@ impl<L: Drop> Builder<L> {
         Ok(())
     }
 
-    /// Takes the innermost open node away, with all that is in it.
+    /// Removes the innermost open node with everything in it.
     pub fn cancel(&mut self)
         requires { 0 < length self.old.above }
         ensures { self.new ≡ canceled self.old }
@@ -177,7 +177,7 @@ impl<L: Drop> Builder<L> {
         self.level -= 1;
     }
 
-    /// Moves trees behind those that are there.
+    /// Appends trees after those that are there.
     pub fn append(&mut self, trees: Forest<L>) -> Result<(), AllocError>
         ensures ok { OnOk result (self.new ≡ added_all trees self.old) }
         ensures err { OnErr result (self.new ≡ self.old) }

@@ -1,4 +1,4 @@
-//! Nodes as they are kept.
+//! Nodes as they are stored.
 ghost use Rattle.std.specs.Prelude.{◌≡◌, ◌<◌, ◌^◌, ◌++◌, ◌∷◌, [], length, vec_len, OnOk, OnErr};
 ghost use Rattle.std.specs.Borrow.{sem};
 ghost use Rattle.base_flat_trees.specs.Entries.{GetsBelow, GetsLabel};
@@ -6,8 +6,8 @@ ghost use Rattle.base_flat_trees.specs.Entries.{GetsBelow, GetsLabel};
 use std::alloc::AllocError;
 use std::mem;
 
-/// A node, and how many nodes are below it, which follow it. In a builder a node that is open has the place of the
-/// open node round it in place of that number.
+/// A node with the number of nodes below it, which follow it. In a builder an open node has the place of the open node around it
+/// instead of that number.
 #[derive(Clone, Copy, Drop)]
 pub(crate) struct Entry<L> {
     pub(crate) label: L,
@@ -27,7 +27,7 @@ impl<L> Entry<L> {
     }
 }
 
-/// Sets the number of nodes below an entry, and hands back what stood there.
+/// Sets the number of nodes below an entry, and returns the previous number.
 #[inline(always)]
 pub(crate) fn set_below<L>(entries: &mut Vec<Entry<L>>, at: usize, below: u32) -> u32
     requires { at < vec_len entries.old }
@@ -39,7 +39,7 @@ pub(crate) fn set_below<L>(entries: &mut Vec<Entry<L>>, at: usize, below: u32) -
     before
 }
 
-/// Sets the label of an entry, and hands back what stood there.
+/// Sets the label of an entry, and returns the previous label.
 pub(crate) fn set_label<L>(entries: &mut Vec<Entry<L>>, at: usize, label: L) -> L
     requires { at < vec_len entries.old }
     ensures { GetsLabel entries.old.items at label result entries.new.items }
@@ -66,7 +66,7 @@ pub(crate) fn push_entry<L: Drop>(
     Ok(())
 }
 
-/// Moves entries behind others, if there are fewer than 2^32 then.
+/// Moves entries to the end of others, if there are then fewer than 2^32.
 pub(crate) fn append_entries<L: Drop>(
     entries: &mut Vec<Entry<L>>,
     more: Vec<Entry<L>>,

@@ -1,4 +1,4 @@
-//! Nodes of trees that stand elsewhere, and their kids.
+//! Nodes of trees that are stored elsewhere, and their children.
 ghost use Rattle.std.specs.Prelude.{◌≡◌, ◌<◌, ◌+◌, ◌∷◌, IsTrue, MatchBool, ◌↔◌, [], Some, length, slice_get};
 ghost use Rattle.std.specs.Iterator.{YieldsFirst, item_count};
 ghost use Rattle.base_trees.specs.Rose.{Rose, label_of, kids_of, shown_count};
@@ -28,7 +28,7 @@ impl<'a, L> Model for Node<'a, L> {
     ghost invariant = { λ a. AreWhole a.below.now };
 }
 
-/// Trees side by side, of which the first comes next.
+/// A list of trees, read from the first on.
 #[derive(Drop)]
 pub struct Kids<'a, L> {
     pub(crate) left: &'a [Entry<L>],
@@ -51,7 +51,7 @@ impl<'a, L> Model for Kids<'a, L> {
 }
 
 impl<'a, L> Node<'a, L> {
-    /// The label of the node.
+    /// Returns the label of the node.
     #[inline(always)]
     pub fn label(&self) -> &'a L
         ensures { result.now ≡ label_of self.now }
@@ -59,7 +59,7 @@ impl<'a, L> Node<'a, L> {
         self.label
     }
 
-    /// The kids of the node.
+    /// Returns the children of the node.
     #[inline(always)]
     pub fn kids(&self) -> Kids<'a, L>
         ensures { result ≡ kids_of self.now }
@@ -77,7 +77,7 @@ impl<'a, L> Node<'a, L> {
         }
     }
 
-    /// The number of nodes, at once. 2^64 - 1 stands for that number and every greater one.
+    /// Returns the number of nodes, or 2^64 - 1 if there are more, in constant time.
     pub fn count(&self) -> u64
         ensures { result ≡ shown_count self.now }
     {
@@ -86,14 +86,14 @@ impl<'a, L> Node<'a, L> {
 }
 
 impl<'a, L> Node<'a, L> {
-    /// The number of kids, each of which it visits.
+    /// Returns the number of children. It visits each of them.
     pub fn kid_count(&self) -> usize
         ensures { result ≡ length (kids_of self.now) }
     {
         self.kids().len()
     }
 
-    /// The kid of the node with this number, for which it visits those before it. The first has the number 0.
+    /// Returns the child of the node with this number, counted from 0. It visits the children before it.
     pub fn kid(&self, i: usize) -> Node<'a, L>
         requires { i < length (kids_of self.now) }
         ensures { slice_get (kids_of self.now) i ≡ Some result }
@@ -117,7 +117,7 @@ impl<'a, L> Kids<'a, L> {
         Kids { left: self.left }
     }
 
-    // Passes the next tree, if it has so many nodes below its root.
+    // Passes the next tree, if it has this number of nodes below its root.
     #[inline(always)]
     fn pass(&mut self, below: usize) -> bool
         ensures { MatchBool result ((kid : Rose L) × (self.old ≡ kid ∷ self.new)) (self.new ≡ self.old) }
@@ -135,8 +135,8 @@ impl<'a, L> Kids<'a, L> {
         }
     }
 
-    // Passes the trees that come next, as long as each has so many nodes below its root, and tells how many they are. Where the
-    // next one stands is known before its number of nodes is read, so that memory is asked for several at once.
+    // Passes the next trees while each has this number of nodes below its root, and returns how many it passed. The place of the
+    // next tree is known before its number of nodes is read, so the processor can load several at once.
     fn pass_same(&mut self, below: usize) -> usize
         ensures { length self.old ≡ result + length self.new }
     {
@@ -148,7 +148,7 @@ impl<'a, L> Kids<'a, L> {
         count
     }
 
-    /// The number of trees, each of which it visits.
+    /// Returns the number of trees. It visits each of them.
     pub fn len(&self) -> usize
         ensures { result ≡ length self.now }
     {
@@ -162,7 +162,7 @@ impl<'a, L> Kids<'a, L> {
         count
     }
 
-    /// Whether no tree is left.
+    /// Returns whether no tree remains.
     pub fn is_empty(&self) -> bool
         ensures { IsTrue result ↔ (self.now ≡ []) }
     {

@@ -7,7 +7,7 @@ use crate::nodes::{Kids, Node};
 use std::iter::Iterator;
 use std::marker::Model;
 
-/// Trees side by side, in one vector. Dropping them takes no recursion.
+/// A list of trees, in one vector. They are dropped without recursion.
 #[derive(Drop)]
 pub struct Forest<L> {
     pub(crate) entries: Vec<Entry<L>>,
@@ -30,7 +30,7 @@ impl<L> Model for Forest<L> {
 }
 
 impl<L> Forest<L> {
-    /// The trees.
+    /// Returns the trees.
     pub fn trees(&self) -> Kids<'_, L>
         ensures { result ≡ self.now }
     {
@@ -39,7 +39,7 @@ impl<L> Forest<L> {
         }
     }
 
-    /// The number of nodes, at once.
+    /// Returns the number of nodes, in constant time.
     pub fn count(&self) -> usize
         ensures { result ≡ count_all (roses_of self.now) }
     {
@@ -47,7 +47,7 @@ impl<L> Forest<L> {
     }
 }
 
-/// A tree, in one vector. Dropping it takes no recursion.
+/// A tree, in one vector. It is dropped without recursion.
 #[derive(Drop)]
 pub struct Flat<L> {
     pub(crate) trees: Forest<L>,
@@ -67,7 +67,7 @@ impl<L> Model for Flat<L> {
 }
 
 impl<L> Flat<L> {
-    /// The root.
+    /// Returns the root.
     pub fn root(&self) -> Node<'_, L>
         ensures { result ≡ self.now }
     {
@@ -78,14 +78,14 @@ impl<L> Flat<L> {
         }
     }
 
-    /// The number of nodes, at once.
+    /// Returns the number of nodes, in constant time.
     pub fn count(&self) -> usize
         ensures { result ≡ node_count self.now }
     {
         self.trees.count()
     }
 
-    /// The tree, as one of several that there may be.
+    /// Returns the tree as a list of one tree.
     pub fn into_trees(self) -> Forest<L>
         ensures { result ≡ self ∷ [] }
     {

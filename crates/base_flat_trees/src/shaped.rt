@@ -7,7 +7,7 @@ use crate::owned::Flat;
 use base_trees::Shape;
 use std::marker::Model;
 
-/// A tree in which the label of each node allows its number of kids.
+/// A tree in which the label of each node allows its number of children.
 #[derive(Drop)]
 pub struct Whole<L: Shape> {
     tree: Flat<L>,
@@ -26,7 +26,7 @@ impl<L: Shape> Model for Whole<L> {
 }
 
 impl<L: Shape> Whole<L> {
-    /// The tree, of which the caller knows that it is allowed. It takes no time.
+    /// Returns the tree, which the caller knows to be allowed. It takes constant time.
     pub fn of(tree: Flat<L>) -> Whole<L>
         requires { Allowed L.allowed tree }
         ensures { result ≡ tree }
@@ -34,7 +34,7 @@ impl<L: Shape> Whole<L> {
         Whole { tree }
     }
 
-    /// The root.
+    /// Returns the root.
     pub fn root(&self) -> Node<'_, L>
         ensures root { result ≡ self.now }
         ensures allowed { Allowed L.allowed self.now }
@@ -42,7 +42,7 @@ impl<L: Shape> Whole<L> {
         self.tree.root()
     }
 
-    /// The number of nodes, at once.
+    /// Returns the number of nodes, in constant time.
     pub fn count(&self) -> usize
         ensures { result ≡ node_count self.now }
     {

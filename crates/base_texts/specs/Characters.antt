@@ -11,7 +11,7 @@ in_ranges (range ∷ ranges) c = (nat_le range.0 c && nat_le c range.1) || in_ra
 abbrev pub xml_chars : List (ℕ × ℕ)
 xml_chars = (0x9, 0xA) ∷ (0xD, 0xD) ∷ (0x20, 0xD7FF) ∷ (0xE000, 0xFFFD) ∷ (0x10000, 0x10FFFF) ∷ []
 
--- XML 1.0, production [4] NameStartChar: the colon, `A` to `Z`, `_`, `a` to `z`, and those behind ASCII
+-- XML 1.0, production [4] NameStartChar: the colon, `A` to `Z`, `_`, `a` to `z`, and those beyond ASCII
 abbrev pub name_starts : List (ℕ × ℕ)
 name_starts =
     (0x3A, 0x3A) ∷ (0x41, 0x5A) ∷ (0x5F, 0x5F) ∷ (0x61, 0x7A)
@@ -19,7 +19,7 @@ name_starts =
     ∷ (0x2070, 0x218F) ∷ (0x2C00, 0x2FEF) ∷ (0x3001, 0xD7FF) ∷ (0xF900, 0xFDCF) ∷ (0xFDF0, 0xFFFD) ∷ (0x10000, 0xEFFFF)
     ∷ []
 
--- XML 1.0, production [4a] NameChar, what it adds to NameStartChar: `-`, `.`, `0` to `9`, and those behind ASCII
+-- XML 1.0, production [4a] NameChar, the characters it adds to NameStartChar: `-`, `.`, `0` to `9`, and those beyond ASCII
 abbrev pub further_name_chars : List (ℕ × ℕ)
 further_name_chars = (0x2D, 0x2D) ∷ (0x2E, 0x2E) ∷ (0x30, 0x39) ∷ (0xB7, 0xB7) ∷ (0x300, 0x36F) ∷ (0x203F, 0x2040) ∷ []
 

@@ -30,11 +30,11 @@ is_short_space space = nat_le (length space) 1023
 abbrev pub is_name_part : List ℕ → Bool
 is_name_part part = spells_ncname part && is_short_part part
 
--- a namespace, empty where there is none
+-- a namespace, empty for no namespace
 abbrev pub is_namespace : List ℕ → Bool
 is_namespace space = has_xml_chars space && is_short_space space
 
--- `xmlns` without a namespace binds one, and names no attribute (Namespaces in XML 1.0, section 3; XML Schema Part 1,
--- section 3.2.6, 'xmlns Not Allowed')
+-- `xmlns` without a namespace declares a namespace, and is not the name of an attribute (Namespaces in XML 1.0, section 3; XML
+-- Schema Part 1, section 3.2.6, 'xmlns Not Allowed').
 abbrev pub is_xmlns : Name → Bool
 is_xmlns name = is_empty name.space && bytes_eq name.local xmlns_prefix

@@ -1,4 +1,4 @@
--- Names compared: by the bytes of the namespace, and then by those of the local name.
+-- The order of names: by the bytes of the namespace, and then by those of the local name.
 use Rattle.std.specs.Prelude.{Bool, ◌&&◌, bytes_eq}
 use Rattle.std.specs.Ordering.{nat_cmp, ordering_then}
 use Rattle.std.specs.Cmp.Lexicographic.{slice_cmp}

@@ -1,4 +1,4 @@
--- The namespaces that documents and schemas know, and the prefixes that are reserved.
+-- The namespaces that documents and schemas use, and the reserved prefixes.
 use Rattle.std.specs.Prelude.{ℕ, List, codes}
 
 -- Namespaces in XML 1.0, section 3

@@ -1,4 +1,4 @@
--- Texts as they are kept: in place, or shared.
+-- The storage of texts: in place, or shared.
 use Rattle.std.specs.Prelude.{List, ℕ}
 use Rattle.std.specs.Rc.{rc_str_bytes}
 use Rattle.base_texts.specs.declared.texts.Storage.{Storage}

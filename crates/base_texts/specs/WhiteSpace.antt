@@ -8,11 +8,11 @@ use Rattle.base_texts.specs.declared.white_space.WhiteSpace.TheVariants.{Preserv
 unfoldable pub is_white_space : ℕ → Bool
 is_white_space b = b == 0x20 || b == 0x9 || b == 0xA || b == 0xD
 
--- white space alone, or nothing
+-- Only white space, or nothing.
 abbrev pub is_blank : List ℕ → Bool
 is_blank bytes = list_all is_white_space bytes
 
--- `replace`, at one byte
+-- One byte under `replace`.
 abbrev pub spaced : ℕ → ℕ
 spaced b = if is_white_space b then 0x20 else b
 
@@ -29,12 +29,12 @@ pub record IsWord (word : List ℕ) : Type 0 where
   pub has : has_bytes word ≡ true
   pub plain : All (λ b. is_white_space b ≡ false) word
 
--- what a facet `whiteSpace` makes of a text
+-- The text after the facet `whiteSpace` is applied.
 unfoldable pub treated : WhiteSpace → List ℕ → List ℕ
 treated Preserve bytes = bytes
 treated Replace bytes = map spaced bytes
 treated Collapse bytes = join_with_byte 0x20 (words_of bytes)
 
--- its treatment leaves the text as it is
+-- The treatment leaves the text unchanged.
 abbrev pub IsTreated : WhiteSpace → List ℕ → Type 0
 IsTreated how bytes = treated how bytes ≡ bytes

@@ -5,7 +5,7 @@ ghost use Rattle.base_texts.specs.Characters as xml;
 
 use crate::texts::Text;
 
-/// Whether XML 1.0 allows the character in a document.
+/// Returns whether XML 1.0 allows the character in a document.
 #[tactic(auto, unfolding(crate::specs::Characters::is_xml_char))]
 pub fn is_xml_char(c: char) -> bool
     ensures { result ≡ xml.is_xml_char c }
@@ -13,7 +13,7 @@ pub fn is_xml_char(c: char) -> bool
     matches!(c, '\u{20}'..='\u{d7ff}' | '\t' | '\n' | '\r' | '\u{e000}'..='\u{fffd}' | '\u{10000}'..)
 }
 
-/// Whether a Name of XML 1.0 may begin with the character. The colon counts.
+/// Returns whether a Name of XML 1.0 may begin with the character. The colon counts.
 #[tactic(auto, unfolding(crate::specs::Characters::is_name_start))]
 pub fn is_name_start(c: char) -> bool
     ensures { result ≡ xml.is_name_start c }
@@ -39,7 +39,7 @@ pub fn is_name_start(c: char) -> bool
     )
 }
 
-/// Whether a Name of XML 1.0 may go on with the character. The colon counts.
+/// Returns whether the character may follow the first character of a Name of XML 1.0. The colon counts.
 #[tactic(auto, unfolding(crate::specs::Characters::is_name_start, crate::specs::Characters::is_name_char))]
 pub fn is_name_char(c: char) -> bool
     ensures { result ≡ xml.is_name_char c }
@@ -51,7 +51,7 @@ pub fn is_name_char(c: char) -> bool
         )
 }
 
-/// Whether the text is a Name of XML 1.0.
+/// Returns whether the text is a Name of XML 1.0.
 pub fn is_name_text(text: &str) -> bool
     ensures { result ≡ xml.is_name (chars text.now) }
 {
@@ -62,14 +62,14 @@ pub fn is_name_text(text: &str) -> bool
     }
 }
 
-/// Whether the text is an NCName of Namespaces in XML 1.0, a Name without a colon.
+/// Returns whether the text is an NCName of Namespaces in XML 1.0, a Name without a colon.
 pub fn is_ncname_text(text: &str) -> bool
     ensures { result ≡ xml.is_ncname (chars text.now) }
 {
     is_name_text(text) && text.chars().all(|c| c != ':')
 }
 
-/// Whether the text is an NCName of Namespaces in XML 1.0, a Name without a colon.
+/// Returns whether the text is an NCName of Namespaces in XML 1.0, a Name without a colon.
 pub fn is_ncname(text: &Text) -> bool
     ensures { result ≡ xml.is_ncname (chars text.now) }
 {

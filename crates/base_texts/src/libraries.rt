@@ -1,4 +1,4 @@
-//! Where named files come from.
+//! Libraries of named files.
 ghost use Rattle.std.specs.Prelude.{◌≡◌, ◌⊎◌, ℕ, Bool, true, false, ◌+◌, ◌-◌, ◌^◌, ◌<◌, ◌≤◌, ◌↔◌, ◌&&◌, min, List, [], ◌∷◌, length, map, bytes_eq, nat_lt, Option, Some, None, Ok, Err, MatchOption, MatchResult, IsErr, IsErrOf, IfOk, IfSome, IsTrue, IsSome, Contains, if◌then◌else◌};
 ghost use Rattle.base_texts.specs.Faults.{Counts, count_after, one_more};
 ghost use Rattle.base_texts.specs.Entries.{beside, HasEntry, HasLonger, Lacks, has_failed};
@@ -8,7 +8,7 @@ use std::alloc::Global;
 use std::marker::Model;
 use thiserror::Error;
 
-/// Why a load gives no contents.
+/// The reasons why a load returns no contents.
 #[derive(Clone, Copy, Debug, Error)]
 pub enum LoadError {
     #[error("the file can't be loaded")]
@@ -19,18 +19,18 @@ pub enum LoadError {
     Memory,
 }
 
-/// Named files. A real library doesn't tell them.
+/// Named files. The clauses of a real library say nothing of its entries.
 pub trait Library {
-    /// The names with their contents, where the library tells them.
+    /// The names with their contents. `None` for a library whose entries aren't known to proofs.
     ghost entries: { Self → Option (List (List ℕ × List ℕ)) };
 
-    /// Whether it fails on no name that is there.
+    /// Whether it fails only on names that it doesn't have.
     ghost is_sure: { Self → Bool };
 
-    /// How often it has failed. At 2^64 - 1 the count stands.
+    /// The number of failures so far. The count remains at 2^64 - 1 once it is reached.
     ghost faults: { Self → ℕ };
 
-    /// The contents of the first entry of that name, if they have at most `limit` bytes. The entries stay.
+    /// Returns the contents of the first entry of that name, if they have at most `limit` bytes. The entries are unchanged.
     fn load(&mut self, alloc: Global, name: &Text, limit: u64) -> Result<Vec<u8>, LoadError>
         requires { limit ≤ 2 ^ 32 }
         ensures most { IfOk result (λ bytes. length bytes.items ≤ limit) }
@@ -59,7 +59,7 @@ impl Model for Entry {
 }
 
 impl Entry {
-    /// A file of this name and these contents.
+    /// Returns a file with this name and these contents.
     pub fn of(name: Text, contents: Vec<u8>) -> Entry
         ensures { result ≡ (name, contents.items) }
     {
@@ -107,7 +107,7 @@ impl Model for SureLibrary {
 }
 
 impl SureLibrary {
-    /// A library of these files. Of two with one name the first counts.
+    /// Returns a library of these files. Of two with one name the first is used.
     pub fn new(entries: Vec<Entry>) -> SureLibrary
         ensures { result ≡ record { entries = entries.items; faults = 0 } }
     {
@@ -128,7 +128,7 @@ impl Library for SureLibrary {
         ensures too_long { IsErrOf result LoadError.TooLong ↔ HasLonger (Some self.old.entries) name.now limit }
         ensures kept { self.new.entries ≡ self.old.entries }
         ensures cause { Counts self.old.faults self.new.faults (IsErrOf result LoadError.Failed) }
-        // It fails just where the name isn't there, and counts each fault.
+        // It fails if and only if the name isn't there, and counts each fault.
         ensures missing { IsErrOf result LoadError.Failed ↔ (beside name.now self.old.entries ≡ None) }
         ensures faults { self.new.faults ≡ count_after (has_failed result) self.old.faults }
     {
@@ -164,8 +164,7 @@ impl Model for MemoryLibrary {
 }
 
 impl MemoryLibrary {
-    /// A library of these files that fails at the calls with these numbers. Of two files with one name the first
-    /// counts.
+    /// Returns a library of these files that fails at the calls with these numbers. Of two files with one name the first is used.
     pub fn new(entries: Vec<Entry>, fails: Vec<u64>) -> MemoryLibrary
         ensures { result ≡ record { entries = entries.items; fails = fails.items; calls = 0; faults = 0 } }
     {
@@ -192,7 +191,7 @@ impl Library for MemoryLibrary {
         ensures longer { HasLonger (Some self.old.entries) name.now limit → IsErrOf result LoadError.TooLong ⊎ IsErrOf result LoadError.Failed }
         ensures kept { self.new.entries ≡ self.old.entries }
         ensures cause { Counts self.old.faults self.new.faults (IsErrOf result LoadError.Failed) }
-        // It fails just at the calls with the numbers and where the name isn't there, and counts each fault.
+        // It fails exactly at the calls with these numbers and where the name isn't there, and counts each fault.
         ensures fails { IsErrOf result LoadError.Failed ↔ (Contains self.old.fails (one_more self.old.calls) ⊎ (beside name.now self.old.entries ≡ None)) }
         ensures faults { self.new.faults ≡ count_after (has_failed result) self.old.faults }
         ensures calls { (self.new.calls ≡ one_more self.old.calls) × (self.new.fails ≡ self.old.fails) }

@@ -1,4 +1,4 @@
-//! All of a source, and all of a piece.
+//! Reads all of a source, and writes all of a piece.
 ghost use Rattle.std.specs.Prelude.{◌≡◌, ℕ, ◌+◌, ◌^◌, ◌<◌, ◌≤◌, length, IsErrOf, IfOk, OnOk, OnErr, IsErr};
 ghost use Rattle.std.specs.Io.KnownBytes.{Consumes, Appends, IsAtEnd};
 ghost use Rattle.base_texts.specs.Faults.{Counts};
@@ -9,7 +9,7 @@ use crate::sources::{Failed, Source};
 use std::alloc::Global;
 use thiserror::Error;
 
-/// Why not all was read.
+/// The reasons why a source wasn't read completely.
 #[derive(Clone, Copy, Debug, Error)]
 pub enum ReadError {
     #[error("the source failed")]
@@ -20,16 +20,16 @@ pub enum ReadError {
     Memory,
 }
 
-// How many bytes one read asks for at most.
+// The greatest number of bytes that one read requests.
 const BLOCK: usize = 65_536;
 
-/// The bytes that a source has left, if they are at most `limit`. It asks for no byte behind number `limit + 1`.
+/// Reads all bytes that a source has left, if there are at most `limit`. It requests at most `limit + 1` bytes.
 pub fn read_all<S: Source>(alloc: Global, source: &mut S, limit: u64) -> Result<Vec<u8>, ReadError>
     requires { limit ≤ 2 ^ 32 }
     ensures most { IfOk result (λ bytes. length bytes.items ≤ limit) }
     ensures bytes { IfOk result (λ bytes. Consumes (S.left source.old) (S.left source.new) bytes.items) }
     ensures end { OnOk result (IsAtEnd (S.left source.new)) }
-    // It is too long just where more bytes are left than the limit.
+    // It is too long if and only if more bytes are left than the limit.
     ensures too_long { IsErrOf result ReadError.TooLong → TakesFirst (S.left source.old) (S.left source.new) (limit + 1) }
     ensures prefix { OnErr result (TakesSome (S.left source.old) (S.left source.new)) }
     ensures cause { Counts (S.faults source.old) (S.faults source.new) (IsErrOf result ReadError.Failed) }
@@ -52,12 +52,12 @@ pub fn read_all<S: Source>(alloc: Global, source: &mut S, limit: u64) -> Result<
     Err(ReadError::TooLong)
 }
 
-/// Writes the whole piece.
+/// Writes the entire piece.
 pub fn write_all<K: Sink>(sink: &mut K, piece: &[u8]) -> Result<(), Failed>
     ensures ok { OnOk result (Appends (K.written sink.old) (K.written sink.new) piece.now) }
     ensures prefix { OnErr result (AppendsFront (K.written sink.old) (K.written sink.new) piece.now) }
     ensures cause { Counts (K.faults sink.old) (K.faults sink.new) (IsErr result) }
-    // Where the room is told, it fails only where the piece is longer.
+    // Where the room is known, it fails only if the piece is longer.
     ensures leaves { OnOk result (LeavesRoom (K.free sink.old) (K.free sink.new) (length piece.now)) }
     ensures lacks { OnErr result (LacksRoom (K.free sink.old) (length piece.now)) }
 {

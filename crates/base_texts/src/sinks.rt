@@ -1,4 +1,4 @@
-//! Where bytes go.
+//! Sinks of bytes.
 ghost use Rattle.std.specs.Prelude.{◌≡◌, ◌⊎◌, ℕ, ◌+◌, ◌-◌, ◌^◌, ◌<◌, ◌≤◌, ◌↔◌, [], min, List, length, take, Option, Some, None, IsErr, is_err, IfOk, OnOk, OnErr, All, Contains};
 ghost use Rattle.std.specs.Io.KnownBytes.{WriteAppends};
 ghost use Rattle.base_texts.specs.Faults.{Counts, count_after, one_more};
@@ -10,19 +10,19 @@ use crate::texts::Memory;
 use std::alloc::Global;
 use std::marker::Model;
 
-/// A sink of bytes. A real one doesn't tell what it holds.
+/// A sink of bytes. The clauses of a real one say nothing of its contents.
 pub trait Sink {
-    /// The bytes written, where the sink tells them.
+    /// The bytes written. `None` for a sink whose contents aren't known to proofs.
     ghost written: { Self → Option (List ℕ) };
 
-    /// How often it has failed. At 2^64 - 1 the count stands.
+    /// The number of failures so far. The count remains at 2^64 - 1 once it is reached.
     ghost faults: { Self → ℕ };
 
-    /// How many bytes there is room for, where the sink tells it and fails only where it is full.
+    /// The number of bytes there is room for. `None` for a sink whose room isn't known, or that may fail before it is full.
     ghost free: { Self → Option ℕ };
 
-    /// Appends a front of the piece, and tells how many bytes: at least one where the piece has one. After a fault
-    /// the bytes written and the room are as before.
+    /// Appends a prefix of the piece and returns its length in bytes, which is at least 1 unless the piece is empty. After a
+    /// fault the bytes written and the room are unchanged.
     fn write(&mut self, piece: &[u8]) -> Result<usize, Failed>
         ensures most { IfOk result (λ n. n ≤ length piece.now) }
         ensures some { IfOk result (λ n. 0 < length piece.now → 0 < n) }
@@ -32,7 +32,7 @@ pub trait Sink {
         ensures full { OnErr result (IsFull (free self.old) × LeavesRoom (free self.old) (free self.new) 0) };
 }
 
-/// A sink in memory with a fixed room, that fails only where it is full.
+/// A sink in memory with a fixed room, which fails only when it is full.
 #[derive(Drop)]
 pub struct SureSink {
     bytes: Vec<u8>,
@@ -54,8 +54,8 @@ impl Model for SureSink {
 }
 
 impl SureSink {
-    /// A sink that holds nothing, has this room in bytes, which is taken at once, and takes pieces of these sizes.
-    /// Behind the last size a write takes as much as there is room for.
+    /// Returns an empty sink with this room in bytes, which is allocated here. Each write appends at most the next of these piece
+    /// sizes. After the last size a write appends as much as there is room for.
     pub fn new(alloc: Global, room: usize, pieces: Vec<u64>) -> Result<SureSink, Memory>
         requires { All (λ size. 0 < size) pieces.items }
         ensures { IfOk result (λ sink. sink ≡ record { written = []; room = room; pieces = pieces.items; faults = 0 }) }
@@ -70,7 +70,7 @@ impl SureSink {
         })
     }
 
-    /// The bytes written.
+    /// Returns the bytes written.
     pub fn written(&self) -> &[u8]
         ensures bytes { result.now ≡ self.now.written }
         ensures within { length self.now.written ≤ self.now.room }
@@ -79,7 +79,7 @@ impl SureSink {
         &self.bytes
     }
 
-    /// How many bytes there is room for in all.
+    /// Returns the room of the sink in bytes, including the bytes written.
     pub fn room(&self) -> usize
         ensures { result ≡ self.now.room }
     {
@@ -102,7 +102,7 @@ impl Sink for SureSink {
         ensures leaves { IfOk result (λ n. LeavesRoom (Some (self.old.room - length self.old.written)) (Some (self.new.room - length self.new.written)) n) }
         ensures full { OnErr result (IsFull (Some (self.old.room - length self.old.written))
             × LeavesRoom (Some (self.old.room - length self.old.written)) (Some (self.new.room - length self.new.written)) 0) }
-        // It fails just where it is full, and counts each fault.
+        // It fails if and only if it is full and the piece isn't empty, and counts each fault.
         ensures fails { IsErr result ↔ ((length self.old.written ≡ self.old.room) × (0 < length piece.now)) }
         ensures faults { self.new.faults ≡ count_after (is_err result) self.old.faults }
         ensures room { self.new.room ≡ self.old.room }
@@ -124,7 +124,7 @@ impl Sink for SureSink {
     }
 }
 
-/// A sink in memory with a fixed room, that also fails at the calls with these numbers, counted from 1.
+/// A sink in memory with a fixed room, which also fails at the calls with these numbers, counted from 1.
 #[derive(Drop)]
 pub struct MemorySink {
     tray: SureSink,
@@ -142,8 +142,8 @@ impl Model for MemorySink {
 }
 
 impl MemorySink {
-    /// A sink that holds nothing, has this room in bytes, which is taken at once, takes pieces of these sizes, and
-    /// fails at the calls with these numbers. A call that fails uses up no piece.
+    /// Returns an empty sink with this room in bytes, which is allocated here. Each write appends at most the next of these piece
+    /// sizes, and the calls with these numbers fail. A call that fails uses up no piece size.
     pub fn new(
         alloc: Global,
         room: usize,
@@ -161,7 +161,7 @@ impl MemorySink {
         })
     }
 
-    /// The bytes written.
+    /// Returns the bytes written.
     pub fn written(&self) -> &[u8]
         ensures bytes { result.now ≡ self.now.written }
         ensures within { length self.now.written ≤ self.now.room }
@@ -169,7 +169,7 @@ impl MemorySink {
         self.tray.written()
     }
 
-    /// How many bytes there is room for in all.
+    /// Returns the room of the sink in bytes, including the bytes written.
     pub fn room(&self) -> usize
         ensures { result ≡ self.now.room }
     {
@@ -192,7 +192,7 @@ impl Sink for MemorySink {
         ensures cause { Counts self.old.faults self.new.faults (IsErr result) }
         ensures leaves { IfOk result (λ n. LeavesRoom None None n) }
         ensures full { OnErr result (IsFull None × LeavesRoom None None 0) }
-        // It fails just at the calls with the numbers and where it is full, and counts each fault.
+        // It fails exactly at the calls with these numbers and where it is full, and counts each fault.
         ensures fails { IsErr result ↔ (Contains self.old.fails (one_more self.old.calls) ⊎ ((length self.old.written ≡ self.old.room) × (0 < length piece.now))) }
         ensures faults { self.new.faults ≡ count_after (is_err result) self.old.faults }
         ensures calls { (self.new.calls ≡ one_more self.old.calls) × (self.new.fails ≡ self.old.fails) }

@@ -1,4 +1,4 @@
-//! Where bytes come from.
+//! Sources of bytes.
 ghost use Rattle.std.specs.Prelude.{◌≡◌, ◌≢◌, ℕ, ◌+◌, ◌-◌, ◌^◌, ◌<◌, ◌≤◌, ◌↔◌, min, List, ◌++◌, length, take, drop, Option, Some, Ok, IsOk, IsErr, is_err, OnOk, OnErr, IfOk, All, Contains};
 ghost use Rattle.std.specs.Io.{ReadsAtMost};
 ghost use Rattle.std.specs.Io.KnownBytes.{ReadConsumes};
@@ -8,28 +8,28 @@ ghost use Rattle.base_texts.specs.States.{piece_of, later_pieces};
 use std::marker::Model;
 use thiserror::Error;
 
-/// A fault of the outside.
+/// A failure of the environment.
 #[derive(Clone, Copy, Debug, Error)]
 #[error("the outside failed")]
 pub struct Failed;
 
-/// A source of bytes. A real one doesn't tell what it has left.
+/// A source of bytes. The clauses of a real one say nothing of the bytes left.
 pub trait Source {
-    /// The bytes left, where the source tells them.
+    /// The bytes left. `None` for a source whose bytes aren't known to proofs.
     ghost left: { Self → Option (List ℕ) };
 
-    /// How often it has failed. At 2^64 - 1 the count stands.
+    /// The number of failures so far. The count remains at 2^64 - 1 once it is reached.
     ghost faults: { Self → ℕ };
 
-    /// Moves the next bytes into the front of the buffer, and tells how many. None come only at the end, or where the
-    /// buffer is empty. After a fault the bytes left are as before.
+    /// Moves the next bytes to the start of the buffer and returns their number. It is 0 only at the end of the source, or where
+    /// the buffer is empty. After a fault the bytes left are unchanged.
     fn read(&mut self, buf: &mut [u8]) -> Result<usize, Failed>
         ensures bound { ReadsAtMost result buf.new }
         ensures bytes { ReadConsumes (left self.old) (left self.new) result buf.new }
         ensures cause { Counts (faults self.old) (faults self.new) (IsErr result) };
 }
 
-// How much a call moves: the size of the next piece, or all where no piece is left.
+// The number of bytes that a call moves: the next piece size, or `most` if no size is left.
 pub(crate) fn piece_at(pieces: &[u64], turn: usize, most: usize) -> usize
     requires { All (λ size. 0 < size) pieces.now }
     ensures exact { result ≡ piece_of (drop turn pieces.now) most }
@@ -42,7 +42,7 @@ pub(crate) fn piece_at(pieces: &[u64], turn: usize, most: usize) -> usize
     }
 }
 
-// Copies the first bytes to the front of the buffer.
+// Copies the first bytes to the start of the buffer.
 fn copy_front(from: &[u8], to: &mut [u8], count: usize)
     requires there { count ≤ length from.now }
     requires room { count ≤ length to.old }
@@ -72,7 +72,7 @@ impl Model for SureSource {
 }
 
 impl SureSource {
-    /// A source that has these contents left and moves them in pieces of these sizes, in bytes. Behind the last size
+    /// Returns a source with these contents. Each read moves at most the next of these piece sizes, in bytes. After the last size
     /// a read moves as much as it can.
     pub fn new(contents: Vec<u8>, pieces: Vec<u64>) -> SureSource
         requires { All (λ size. 0 < size) pieces.items }
@@ -86,7 +86,7 @@ impl SureSource {
         }
     }
 
-    /// The bytes left.
+    /// Returns the bytes left.
     pub fn left(&self) -> &[u8]
         ensures { result.now ≡ self.now.left }
     {
@@ -135,8 +135,8 @@ impl Model for MemorySource {
 }
 
 impl MemorySource {
-    /// A source that has these contents left, moves them in pieces of these sizes, in bytes, and fails at the calls
-    /// with these numbers. A call that fails uses up no piece.
+    /// Returns a source with these contents. Each read moves at most the next of these piece sizes, in bytes, and the calls with
+    /// these numbers fail. A call that fails uses up no piece size.
     pub fn new(contents: Vec<u8>, fails: Vec<u64>, pieces: Vec<u64>) -> MemorySource
         requires { All (λ size. 0 < size) pieces.items }
         ensures { result ≡ record { left = contents.items; pieces = pieces.items; fails = fails.items; calls = 0; faults = 0 } }
@@ -149,7 +149,7 @@ impl MemorySource {
         }
     }
 
-    /// The bytes left.
+    /// Returns the bytes left.
     pub fn left(&self) -> &[u8]
         ensures { result.now ≡ self.now.left }
     {
@@ -166,7 +166,7 @@ impl Source for MemorySource {
         ensures bound { ReadsAtMost result buf.new }
         ensures bytes { ReadConsumes (Some self.old.left) (Some self.new.left) result buf.new }
         ensures cause { Counts self.old.faults self.new.faults (IsErr result) }
-        // It fails at just the calls with the numbers, and counts each fault.
+        // It fails exactly at the calls with these numbers, and counts each fault.
         ensures fails { IsErr result ↔ Contains self.old.fails (one_more self.old.calls) }
         ensures faults { self.new.faults ≡ count_after (is_err result) self.old.faults }
         ensures calls { (self.new.calls ≡ one_more self.old.calls) × (self.new.fails ≡ self.old.fails) }

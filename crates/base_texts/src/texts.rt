@@ -17,7 +17,7 @@ use std::rc::RcStr;
 use std::str;
 use thiserror::Error;
 
-/// Memory is missing.
+/// Out of memory.
 #[derive(Clone, Copy, Debug, PartialEq, Eq, Error)]
 #[error("out of memory")]
 pub struct Memory;
@@ -34,7 +34,7 @@ impl<T: Drop> From<AllocFailed<T>> for Memory {
     }
 }
 
-/// Why bytes make no text.
+/// The reasons why bytes make no text.
 #[derive(Clone, Copy, Debug, Error)]
 pub enum TextError {
     #[error("not valid UTF-8")]
@@ -43,7 +43,7 @@ pub enum TextError {
     Memory,
 }
 
-/// The text that these bytes spell. They aren't tested, since they are known to be UTF-8.
+/// Returns the bytes as a `str`. They aren't tested, since they are known to be UTF-8.
 pub fn utf8_text(bytes: &[u8]) -> &str
     requires { IsUtf8 bytes.now }
     ensures { result.now ≡ bytes.now }
@@ -51,8 +51,8 @@ pub fn utf8_text(bytes: &[u8]) -> &str
     unsafe { str::from_utf8_unchecked(bytes) }
 }
 
-/// How many bytes a text has at most that lies in its value: with the length and the tag of where it lies that is 24
-/// bytes, as many as a `String` takes.
+/// The greatest number of bytes of a text that is stored in place. With its length and the tag of its storage a text has 24
+/// bytes, as a `String` has.
 pub const ROOM: usize = 22;
 
 // Whether all bytes are ASCII characters.
@@ -81,7 +81,7 @@ fn eight_at(bytes: &[u8; ROOM], at: usize) -> [u8; 8]
     ]
 }
 
-// Whether eight of the bytes are the same in both. They are compared as one word.
+// Whether eight of the bytes are equal. They are compared as one word.
 #[inline(always)]
 fn is_word_same(one: &[u8; ROOM], other: &[u8; ROOM], at: usize) -> bool
     requires { at ≤ 14 }
@@ -90,7 +90,7 @@ fn is_word_same(one: &[u8; ROOM], other: &[u8; ROOM], at: usize) -> bool
     u64::from_le_bytes(eight_at(one, at)) == u64::from_le_bytes(eight_at(other, at))
 }
 
-// Whether all bytes are the same in both.
+// Whether all bytes are equal.
 #[inline(always)]
 fn are_bytes_same(one: &[u8; ROOM], other: &[u8; ROOM]) -> bool
     ensures { IsTrue result → one.now ≡ other.now }
@@ -129,7 +129,7 @@ impl Short {
         }
     }
 
-    // Whether all bytes in place are the same, those behind the texts too.
+    // Whether all stored bytes are equal, including the unused ones after the texts.
     #[inline(always)]
     fn is_alike(&self, other: &Short) -> bool
         ensures { IsTrue result → self.now ≡ other.now }
@@ -144,7 +144,7 @@ impl Short {
     }
 }
 
-// Where the bytes of a text lie. A long text is shared by its copies.
+// The storage of a text. Copies of a long text share its bytes.
 #[derive(Drop)]
 enum Storage {
     Here(Short),
@@ -152,7 +152,7 @@ enum Storage {
 }
 
 impl Storage {
-    // Whether both lie in place and are the same there.
+    // Whether both are stored in place and their bytes are equal.
     #[inline(always)]
     fn is_alike(&self, other: &Storage) -> bool
         ensures { IsTrue result → kept_bytes self.now ≡ kept_bytes other.now }
@@ -167,8 +167,7 @@ impl Storage {
     }
 }
 
-/// Valid UTF-8, seen as its bytes. Up to 22 bytes take no memory of their own, and a copy of a longer text takes none
-/// beside it.
+/// Valid UTF-8, seen as its bytes. A text of up to 22 bytes allocates nothing, nor does a copy of a longer text.
 #[derive(Drop)]
 pub struct Text {
     kept: Storage,
@@ -185,7 +184,7 @@ impl Model for Text {
 }
 
 impl Text {
-    /// The text without bytes.
+    /// Returns the empty text.
     pub fn empty() -> Text
         ensures { result ≡ [] }
     {
@@ -202,7 +201,7 @@ impl Text {
         }
     }
 
-    /// An equal text.
+    /// Returns an equal text.
     pub fn from_str(alloc: Global, text: &str) -> Result<Text, Memory>
         ensures { IfOk result (λ made. made ≡ text.now) }
     {
@@ -215,7 +214,7 @@ impl Text {
         })
     }
 
-    /// A text of these bytes, which are copied. They aren't tested, since they are known to be UTF-8.
+    /// Returns a text of these bytes, which are copied. They aren't tested, since they are known to be UTF-8.
     #[inline(never)]
     pub fn from_utf8(alloc: Global, bytes: &[u8]) -> Result<Text, Memory>
         requires { IsUtf8 bytes.now }
@@ -224,7 +223,7 @@ impl Text {
         Text::from_str(alloc, utf8_text(bytes))
     }
 
-    /// The text of the string.
+    /// Returns the text of the string.
     pub fn from_string(string: String) -> Result<Text, Memory>
         ensures { IfOk result (λ made. made ≡ string_bytes string) }
     {
@@ -237,7 +236,7 @@ impl Text {
         })
     }
 
-    /// A text of these bytes, which are copied.
+    /// Returns a text of these bytes, which are copied.
     pub fn of(alloc: Global, bytes: &[u8]) -> Result<Text, TextError>
         ensures ok { IfOk result (λ text. (text ≡ bytes.now) × IsUtf8 bytes.now) }
         ensures not_utf8 { IsErrOf result TextError.NotUtf8 → ¬ IsUtf8 bytes.now }
@@ -252,7 +251,7 @@ impl Text {
         }
     }
 
-    /// The text of so many bytes of an array, which stay in place, where they are ASCII characters.
+    /// Returns the text of the first `len` bytes of an array, stored in place, if they are ASCII characters.
     #[inline(always)]
     pub fn of_ascii(bytes: [u8; ROOM], len: usize) -> Option<Text>
         requires { len ≤ 22 }
@@ -269,8 +268,8 @@ impl Text {
         })
     }
 
-    /// The text of so many bytes that stand first, which are copied; if they are few, and more bytes stand there, then as many as
-    /// have room at once. They aren't tested, since they are known to be UTF-8.
+    /// Returns the text of the first `len` bytes, which are copied. A short text is copied as one block of `ROOM` bytes where the
+    /// slice has that many. The bytes aren't tested, since they are known to be UTF-8.
     #[inline(always)]
     pub fn of_front(alloc: Global, bytes: &[u8], len: usize) -> Result<Text, Memory>
         requires within { len ≤ length bytes.now }
@@ -290,7 +289,7 @@ impl Text {
         Text::from_utf8(alloc, &bytes[..len])
     }
 
-    /// An equal text. It takes no memory.
+    /// Returns an equal text. It allocates nothing.
     pub fn copy(&self, _alloc: Global) -> Result<Text, Memory>
         ensures { IfOk result (λ text. text ≡ self.now) }
     {
@@ -310,7 +309,7 @@ impl Text {
         }
     }
 
-    /// The bytes of the text.
+    /// Returns the bytes of the text.
     pub fn bytes(&self) -> &[u8]
         ensures bytes { result.now ≡ self.now }
         ensures utf8 { IsUtf8 self.now }
@@ -318,7 +317,7 @@ impl Text {
         self.as_str().as_bytes()
     }
 
-    /// The text as the language has it.
+    /// Returns the text as a `str`.
     pub fn as_str(&self) -> &str
         ensures { result.now ≡ self.now }
     {
@@ -349,7 +348,7 @@ impl Eq for Text {
     ghost laws = { Prim.search (comparing, rules) };
 }
 
-/// Texts are in the order of their bytes, which is that of their code points.
+/// Texts are ordered by their bytes, which is the order of their code points.
 impl Ord for Text {
     ghost cmp = { slice_cmp nat_cmp };
 
@@ -384,8 +383,8 @@ impl Hash for Text {
     }
 }
 
-/// A name in a namespace. The empty text stands for no namespace. Names are in the order of their namespaces, and in
-/// one namespace in that of their local names.
+/// A name in a namespace. The empty text means no namespace. Names are ordered by namespace, and within one namespace by local
+/// name.
 #[derive(PartialEq, Eq, PartialOrd, Ord, Hash, Drop)]
 pub struct Name {
     pub space: Text,
@@ -393,7 +392,7 @@ pub struct Name {
 }
 
 impl Name {
-    /// An equal name.
+    /// Returns an equal name.
     pub fn copy(&self, alloc: Global) -> Result<Name, Memory>
         ensures { IfOk result (λ name. name ≡ self.now) }
     {

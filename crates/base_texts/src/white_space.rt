@@ -7,18 +7,18 @@ ghost use Rattle.base_texts.specs.WhiteSpace.{is_white_space, spaced, words_of, 
 use crate::texts::{Memory, Text};
 use std::alloc::{AllocError, Global};
 
-/// What the facet `whiteSpace` of XML Schema Part 2, section 4.3.6, does to a text before it is read.
+/// The values of the facet `whiteSpace` (XML Schema Part 2, section 4.3.6): how a text is changed before it is read.
 #[derive(Clone, Copy, Debug, PartialEq, Eq)]
 pub enum WhiteSpace {
-    /// Nothing.
+    /// No change.
     Preserve,
     /// Each tab, line feed and carriage return becomes a space.
     Replace,
-    /// As `Replace`; then each run of spaces becomes one space, and none is left at the ends.
+    /// As `Replace`. Then each run of spaces becomes one space, and the spaces at both ends are removed.
     Collapse,
 }
 
-/// Whether the byte is white space (XML 1.0, production [3] S).
+/// Returns whether the byte is white space (XML 1.0, production [3] S).
 #[tactic(auto, unfolding(crate::specs::WhiteSpace::is_white_space))]
 pub fn is_white_space(b: u8) -> bool
     ensures { result ≡ is_white_space b }
@@ -26,14 +26,14 @@ pub fn is_white_space(b: u8) -> bool
     matches!(b, b' ' | b'\t' | b'\n' | b'\r')
 }
 
-/// Whether each byte is white space.
+/// Returns whether each byte is white space.
 pub fn is_blank(bytes: &[u8]) -> bool
     ensures { result ≡ rule.is_blank bytes.now }
 {
     bytes.iter().all(|b| is_white_space(*b))
 }
 
-// How many bytes of white space there are at the front.
+// The number of bytes of white space at the start.
 fn white_space_len(bytes: &[u8]) -> usize
     ensures { result ≡ position_or_len (λ b. not (is_white_space b)) bytes.now }
 {
@@ -43,7 +43,7 @@ fn white_space_len(bytes: &[u8]) -> usize
         .unwrap_or(bytes.len())
 }
 
-// How many bytes there are before the first white space.
+// The number of bytes before the first white space.
 fn word_len(bytes: &[u8]) -> usize
     ensures { result ≡ position_or_len is_white_space bytes.now }
 {
@@ -53,8 +53,7 @@ fn word_len(bytes: &[u8]) -> usize
         .unwrap_or(bytes.len())
 }
 
-/// The first word of the text and what stands behind it. A word is a run of bytes that aren't white space, as long as
-/// can be.
+/// Returns the first word of the text and the rest after it. A word is a longest run of bytes that aren't white space.
 pub fn first_word(text: &str) -> Option<(&str, &str)>
     ensures words { MatchOption result (words_of text.now ≡ []) (λ x. words_of text.now ≡ x.0.now ∷ words_of x.1.now) }
     ensures text { IfSome result (λ x. IsUtf8 x.0.now × IsUtf8 x.1.now) }
@@ -82,7 +81,7 @@ fn collapse(alloc: Global, text: &str) -> Result<String, AllocError>
     Ok(collapsed)
 }
 
-// Whether a byte is white space but no space.
+// Whether a byte is white space other than a space.
 #[tactic(auto, unfolding(crate::specs::WhiteSpace::is_white_space))]
 fn is_replaced(b: u8) -> bool
     ensures { result ≡ not (spaced b == b) }
@@ -97,7 +96,7 @@ fn first_replaced(bytes: &[u8]) -> Option<usize>
     bytes.iter().position(|b| is_replaced(*b))
 }
 
-// What stands before and behind the first byte that is replaced.
+// The parts of the text before and after the first byte that is replaced.
 fn split_at_replaced(text: &str) -> Option<(&str, &str)>
     ensures split { MatchOption result (map spaced text.now ≡ text.now) (λ x. map spaced text.now ≡ x.0.now ++ 32 ∷ map spaced x.1.now) }
     ensures text { IfSome result (λ x. IsUtf8 x.0.now × IsUtf8 x.1.now) }
@@ -126,7 +125,7 @@ fn replace(alloc: Global, text: &str) -> Result<String, AllocError>
 fn is_collapsed(bytes: &[u8]) -> bool
     ensures { IsTrue result ↔ IsTreated WhiteSpace.Collapse bytes.now }
 {
-    // No word is open at the start and behind a space.
+    // No word is open at the start and after a space.
     let mut is_apart = true;
     for b in bytes {
         let is_space = is_white_space(*b);
@@ -138,14 +137,14 @@ fn is_collapsed(bytes: &[u8]) -> bool
     bytes.is_empty() || !is_apart
 }
 
-/// Whether its treatment leaves the text as it is. It allocates nothing.
+/// Returns whether the treatment leaves the text unchanged. It allocates nothing.
 pub fn is_treated(how: WhiteSpace, text: &Text) -> bool
     ensures { IsTrue result ↔ IsTreated how text.now }
 {
     is_str_treated(how, text.as_str())
 }
 
-/// Returns whether a `str` is as `how` leaves it.
+/// Returns whether the treatment leaves a `str` unchanged.
 #[tactic(auto, unfolding(crate::specs::WhiteSpace::treated))]
 pub fn is_str_treated(how: WhiteSpace, text: &str) -> bool
     ensures { IsTrue result ↔ IsTreated how text.now }
@@ -157,7 +156,7 @@ pub fn is_str_treated(how: WhiteSpace, text: &str) -> bool
     }
 }
 
-/// What the facet makes of the text. Where that is the text itself, it is copied at once.
+/// Returns the text as the facet changes it. An unchanged text is copied without an allocation.
 #[tactic(auto, unfolding(crate::specs::WhiteSpace::treated))]
 pub fn treat(alloc: Global, how: WhiteSpace, text: &Text) -> Result<Text, Memory>
     ensures { IfOk result (λ made. made ≡ treated how text.now) }

@@ -1,4 +1,4 @@
--- Each kid is smaller than its tree.
+-- Each child is smaller than its tree.
 use Rattle.std.specs.Prelude.{◌+◌, ◌≤◌, List, [], ◌∷◌}
 use Rattle.std.proofs.Common.{arith}
 use denote.Param.Weighed.{most}

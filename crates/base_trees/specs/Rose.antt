@@ -11,7 +11,7 @@ mutual
     none : Roses L
     more : Rose L → Roses L → Roses L
 
--- trees as they stand below a label
+-- A list of trees as the children of a node.
 abbrev pub roses_of : {L : Type 0} → List (Rose L) → Roses L
 roses_of [] = none
 roses_of (t ∷ ts) = more t (roses_of ts)
@@ -26,7 +26,7 @@ label_of (node l ts) = l
 abbrev pub kids_of : {L : Type 0} → Rose L → List (Rose L)
 kids_of (node l ts) = list_of ts
 
--- how many nodes
+-- the number of nodes
 abbrev mutual
   pub node_count : {L : Type 0} → Rose L → ℕ
   node_count (node l ts) = suc (count_all ts)
@@ -35,7 +35,7 @@ abbrev mutual
   count_all none = 0
   count_all (more t ts) = node_count t + count_all ts
 
--- how many levels, one for a leaf
+-- the number of levels, which is 1 for a leaf
 abbrev mutual
   pub height : {L : Type 0} → Rose L → ℕ
   height (node l ts) = suc (depth_all ts)
@@ -44,20 +44,20 @@ abbrev mutual
   depth_all none = 0
   depth_all (more t ts) = max (height t) (depth_all ts)
 
--- how many kids
+-- the number of children
 abbrev pub length_all : {L : Type 0} → Roses L → ℕ
 length_all none = 0
 length_all (more t ts) = suc (length_all ts)
 
--- what a count of 64 bits shows of the nodes: its greatest number stands for that and every greater one
+-- The number of nodes as a 64-bit count: 2^64 - 1 if there are more.
 abbrev pub shown_count : {L : Type 0} → Rose L → ℕ
 shown_count t = min (node_count t) (2 ^ 64 - 1)
 
--- what a depth of 32 bits shows of the levels, likewise
+-- The number of levels as a 32-bit count: 2^32 - 1 if there are more.
 abbrev pub shown_depth : {L : Type 0} → Rose L → ℕ
 shown_depth t = min (height t) (2 ^ 32 - 1)
 
--- the label of each node allows its number of kids
+-- the label of each node allows its number of children
 abbrev mutual
   pub Allowed : {L : Type 0} → (L → ℕ → Type 0) → Rose L → Type 0
   Allowed P (node l ts) = P l (length_all ts) × AllowedAll P ts
@@ -66,7 +66,7 @@ abbrev mutual
   AllowedAll P none = Unit {0}
   AllowedAll P (more t ts) = Allowed P t × AllowedAll P ts
 
--- a tree is known by its code
+-- The codes of trees are different for different trees.
 module _ {L : Type 0} (c : Coded L) where
   abbrev mutual
     pub code_rose : Rose L → Gv

@@ -1,19 +1,19 @@
-//! What a label says of its node.
+//! The number of children that a label allows its node.
 ghost use Rattle.std.specs.Prelude.{◌≡◌, ℕ, IfOk, IsTrue, ◌↔◌};
 
 use base_texts::Memory;
 use std::alloc::Global;
 
-/// A label that says how many kids its node may have.
+/// A label that says how many children its node may have.
 pub trait Shape: Drop {
-    /// A node with this label may have so many kids.
+    /// Holds if a node with this label may have this number of children.
     ghost allowed: { Self → ℕ → Type 0 };
 
-    /// Whether a node with this label may have so many kids.
+    /// Returns whether a node with this label may have this number of children.
     fn allows(&self, kids: u64) -> bool
         ensures { IsTrue result ↔ allowed self.now kids };
 
-    /// An equal label.
+    /// Returns an equal label.
     fn copy(&self, alloc: Global) -> Result<Self, Memory>
         ensures { IfOk result (λ label. label ≡ self.now) };
 }

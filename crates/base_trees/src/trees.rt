@@ -7,12 +7,11 @@ use base_texts::Memory;
 use std::alloc::Global;
 use std::marker::Model;
 
-/// A node with its label and its kids, seen as just these two: equal trees may differ in the capacities of their
-/// lists.
+/// A node with its label and its children, seen as only these two: equal trees may differ in the capacities of their lists.
 ///
-/// A tree is dropped, copied and sealed by recursion, so the stack that these take grows with its depth, which the
-/// type doesn't bound. With a label of a few words, 8 MB of stack serve about 30,000 levels. Whoever builds a tree
-/// from input has to bound its depth.
+/// Dropping, copying and sealing a tree is recursive, so their stack use grows with its depth, which the type doesn't bound. With
+/// a label of a few words, 8 MB of stack suffice for about 30,000 levels. A caller that builds a tree from input must bound its
+/// depth.
 #[derive(Drop)]
 pub struct Tree<L> {
     label: L,
@@ -36,7 +35,7 @@ impl<L> Model for Tree<L> {
 }
 
 impl<L> Tree<L> {
-    /// A node with no kids. It takes no memory.
+    /// Returns a node with no children. It allocates nothing.
     pub fn leaf(alloc: Global, label: L) -> Tree<L>
         ensures { result ≡ node label (roses_of []) }
     {
@@ -46,28 +45,28 @@ impl<L> Tree<L> {
         }
     }
 
-    /// A node with these kids. It takes no memory.
+    /// Returns a node with these children. It allocates nothing.
     pub fn join(label: L, kids: Vec<Tree<L>>) -> Tree<L>
         ensures { result ≡ node label (roses_of kids.items) }
     {
         Tree { label, kids }
     }
 
-    /// The label of the root.
+    /// Returns the label of the root.
     pub fn label(&self) -> &L
         ensures { result.now ≡ label_of self.now }
     {
         &self.label
     }
 
-    /// The kids of the root.
+    /// Returns the children of the root.
     pub fn kids(&self) -> &[Tree<L>]
         ensures { result.now ≡ kids_of self.now }
     {
         &self.kids
     }
 
-    /// The kid of the root with this number. The first has the number 0.
+    /// Returns the child of the root with this number. The first has the number 0.
     pub fn kid(&self, i: usize) -> &Tree<L>
         requires { i < length (kids_of self.now) }
         ensures { slice_get (kids_of self.now) i ≡ Some result.now }
@@ -75,7 +74,7 @@ impl<L> Tree<L> {
         &self.kids()[i]
     }
 
-    /// The number of nodes, of which it visits each. 2^64 - 1 stands for that number and every greater one.
+    /// Returns the number of nodes, or 2^64 - 1 if there are more. It visits each node.
     pub fn count(&self) -> u64
         ensures { result ≡ shown_count self.now }
     {
@@ -87,8 +86,7 @@ impl<L> Tree<L> {
         count
     }
 
-    /// The number of levels, which is 1 for a leaf. 2^32 - 1 stands for that number and every greater one. It visits
-    /// each node.
+    /// Returns the number of levels, which is 1 for a leaf, or 2^32 - 1 if there are more. It visits each node.
     pub fn depth(&self) -> u32
         ensures { result ≡ shown_depth self.now }
     {
@@ -102,7 +100,7 @@ impl<L> Tree<L> {
 }
 
 impl<L: Shape> Tree<L> {
-    /// An equal tree.
+    /// Returns an equal tree.
     pub fn copy(&self, alloc: Global) -> Result<Tree<L>, Memory>
         ensures { IfOk result (λ tree. tree ≡ self.now) }
     {
@@ -119,7 +117,7 @@ impl<L: Shape> Tree<L> {
         })
     }
 
-    /// Whether the label of each node allows its number of kids.
+    /// Returns whether the label of each node allows its number of children.
     pub(crate) fn is_allowed(&self) -> bool
         ensures { IsTrue result ↔ Allowed L.allowed self.now }
     {

@@ -8,8 +8,7 @@ use base_texts::Memory;
 use std::alloc::Global;
 use std::marker::Model;
 
-/// A tree in which the label of each node allows its number of kids, with its count and its depth, which are
-/// counted when they are asked for.
+/// A tree in which the label of each node allows its number of children. Its count and its depth are computed on request.
 #[derive(Drop)]
 pub struct Whole<L: Shape> {
     tree: Tree<L>,
@@ -28,7 +27,7 @@ impl<L: Shape> Model for Whole<L> {
 }
 
 impl<L: Shape> Whole<L> {
-    /// The tree, of which the caller knows that it is allowed. It takes no time.
+    /// Returns the tree, which the caller knows to be allowed. It takes constant time.
     pub fn of(tree: Tree<L>) -> Whole<L>
         requires { Allowed L.allowed tree }
         ensures { result ≡ tree }
@@ -36,7 +35,7 @@ impl<L: Shape> Whole<L> {
         Whole { tree }
     }
 
-    /// Tests a tree. Hands it back exactly where some node's kids aren't allowed.
+    /// Tests a tree. Returns it as the error if some node's children aren't allowed.
     pub fn seal(tree: Tree<L>) -> Result<Whole<L>, Tree<L>>
         ensures { MatchResult result
             (λ whole. Allowed L.allowed tree × (whole ≡ tree))
@@ -49,7 +48,7 @@ impl<L: Shape> Whole<L> {
         }
     }
 
-    /// The tree.
+    /// Returns the tree.
     pub fn root(&self) -> &Tree<L>
         ensures root { result.now ≡ self.now }
         ensures allowed { Allowed L.allowed self.now }
@@ -57,21 +56,21 @@ impl<L: Shape> Whole<L> {
         &self.tree
     }
 
-    /// The number of nodes. 2^64 - 1 stands for that number and every greater one.
+    /// Returns the number of nodes, or 2^64 - 1 if there are more.
     pub fn count(&self) -> u64
         ensures { result ≡ shown_count self.now }
     {
         self.tree.count()
     }
 
-    /// The number of levels, which is 1 for a leaf. 2^32 - 1 stands for that number and every greater one.
+    /// Returns the number of levels, which is 1 for a leaf, or 2^32 - 1 if there are more.
     pub fn depth(&self) -> u32
         ensures { result ≡ shown_depth self.now }
     {
         self.tree.depth()
     }
 
-    /// An equal tree.
+    /// Returns an equal tree.
     pub fn copy(&self, alloc: Global) -> Result<Whole<L>, Memory>
         ensures { IfOk result (λ whole. whole ≡ self.now) }
     {

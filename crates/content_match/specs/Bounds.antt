@@ -3,7 +3,8 @@ use Rattle.content_models.specs.Particle.{Particle, occurs, Term, element, seque
 use Rattle.content_models.specs.Occurring.{AllowOne}
 
 abbrev mutual
-  -- neither the particle nor one below it has no occurrence at most, or more at least than at most
+  -- The bounds of the particle and of all below it allow an occurrence: the least is at most the greatest, and the greatest at
+  -- least 1.
   pub BoundsAllow : Particle → Type 0
   BoundsAllow (occurs t least most) = AllowOne least most × TermBoundsAllow t
 

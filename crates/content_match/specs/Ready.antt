@@ -5,7 +5,7 @@ use Rattle.content_models.specs.Particle.{Particle}
 use Rattle.content_match.specs.Taking.{levels}
 use Rattle.content_match.specs.declared.places.Lists.{Lists}
 
--- nothing is in them, and there is room for all levels of the content model
+-- The lists are empty, and have capacity for all levels of the content model.
 pub record AreReady (p : Particle) (lists : Lists) : Type 0 where
   pub turns : lists.turns.items ≡ []
   pub kids : lists.kids.items ≡ []

@@ -1,4 +1,4 @@
-//! A step in an all, whose kids take names in any order, each of them one at most.
+//! A step in an all, whose children match names in any order, each at most one.
 ghost use Rattle.std.specs.Prelude.{◌≡◌, ℕ, ◌+◌, ◌^◌, ◌<◌, ◌≤◌, None, length, IfOk, MatchOption};
 ghost use Rattle.std.specs.Vec.{vec_capacity};
 ghost use Rattle.content_models.specs.Clear.{AreSingle};
@@ -14,7 +14,7 @@ use base_trees::Tree;
 use std::alloc::Global;
 use std::sync::ledger::Ledger;
 
-// How many of these kids may not be empty.
+// The number of these children that may not be empty.
 pub(crate) fn count_needed(kids: &[Tree<PlanLabel>]) -> u32
     requires { length kids.now < 2 ^ 32 }
     ensures { result ≡ wanted_in (needed kids.now) }
@@ -28,7 +28,7 @@ pub(crate) fn count_needed(kids: &[Tree<PlanLabel>]) -> u32
     count
 }
 
-// A mark for each kid, on none.
+// A mark for each child, which is not set.
 #[inline(never)]
 pub(crate) fn unmarked(alloc: Global, all: &AllPlan) -> Result<Vec<bool>, Memory>
     ensures { IfOk result (λ marks. marks.items ≡ no_marks all.now.kids.items) }
@@ -37,7 +37,7 @@ pub(crate) fn unmarked(alloc: Global, all: &AllPlan) -> Result<Vec<bool>, Memory
     Ok(marks)
 }
 
-// The kid takes a name, where it has no mark.
+// Matches a name with the child, unless it has a mark.
 fn take_kid(all: &AllPlan, position: &mut Position, kid: u32) -> Option<Leaf>
     requires plan { IsAllPlan all.now }
     requires single { AreSingle (kids_in all.now) }
@@ -57,7 +57,7 @@ fn take_kid(all: &AllPlan, position: &mut Position, kid: u32) -> Option<Leaf>
     label.leaf()
 }
 
-// Goes on to the leaf of the kid that has the name, where it has no mark.
+// Moves to the leaf of the child that has the name, if it has no mark.
 #[inline(never)]
 pub(crate) fn take<L: Ledger>(
     all: &AllPlan,

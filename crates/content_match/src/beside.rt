@@ -1,4 +1,4 @@
-//! The next leaf where the last one is a kid of the top: mostly this kid once more, or the one behind it.
+//! The next leaf where the last one is a child of the top: mostly this child once more, or the child after it.
 ghost use Rattle.std.specs.Prelude.{◌≡◌, ℕ, ◌+◌, ◌-◌, ◌^◌, ◌<◌, ◌≤◌, MatchOption, IfSome, true, length, vec_len};
 ghost use Rattle.std.specs.Vec.{vec_capacity};
 ghost use Rattle.base_trees.specs.Rose.{height, kids_of};
@@ -15,7 +15,7 @@ use crate::ways::again_at;
 use base_texts::Name;
 use base_trees::Tree;
 
-// A leaf that is a kid of the top: the kid, and which of its occurrences.
+// A leaf that is a child of the top: the child, and which of its occurrences.
 #[derive(Clone, Copy)]
 pub(crate) struct Beside {
     pub(crate) kid: u32,
@@ -34,7 +34,7 @@ fn is_ordered(plan: &Tree<PlanLabel>) -> bool
     }
 }
 
-// The leaf of the kid at this place, if there is one, an element of this name.
+// The leaf of the child at this place, if there is one and it is an element of this name.
 #[inline(always)]
 fn named_kid(plan: &Tree<PlanLabel>, place: usize, name: &Name) -> Option<Leaf>
     ensures { IfSome result (λ leaf. IsNamedKid (kids_of plan.now) place name.now leaf) }
@@ -58,7 +58,7 @@ fn named_kid(plan: &Tree<PlanLabel>, place: usize, name: &Name) -> Option<Leaf>
     }
 }
 
-// The leaf behind this kid of a sequence, where it has the name.
+// The leaf after this child of a sequence, if it has the name.
 #[inline(always)]
 fn leaf_behind(plan: &Tree<PlanLabel>, kid: u32, name: &Name) -> Option<Beside>
     ensures { IfSome result (λ beside. LiesBehind plan.now kid name.now beside) }
@@ -76,7 +76,8 @@ fn leaf_behind(plan: &Tree<PlanLabel>, kid: u32, name: &Name) -> Option<Beside>
     }
 }
 
-// Where the last leaf is this kid at this turn: the same kid once more, or the leaf behind it, where the name leads there.
+// The next leaf where the last leaf is this child at this turn: the same child once more, or the leaf after it, if the name leads
+// there.
 #[inline(always)]
 pub(crate) fn leaf_beside(
     plan: &Tree<PlanLabel>,
@@ -114,7 +115,7 @@ pub(crate) fn leaf_beside(
     }
 }
 
-// Goes on to the leaf beside the last one, where that is a kid of the top and the name leads there.
+// Moves to the leaf next to the last one, if that is a child of the top and the name leads there.
 #[inline(always)]
 pub(crate) fn go_beside(
     plan: &Tree<PlanLabel>,
@@ -146,7 +147,7 @@ pub(crate) fn go_beside(
     }
 }
 
-// Enters the top at its first kid, where that is a leaf of this name: the turns and the kid go behind those in the lists.
+// Enters the top at its first child, if that is a leaf of this name. The turns and the child are appended to the lists.
 #[inline(always)]
 pub(crate) fn enter_first(
     plan: &Tree<PlanLabel>,

@@ -1,4 +1,4 @@
-//! The kid of a group that a name begins, which is mostly the first one that may come.
+//! The child of a group that a name begins, which is mostly the first one that may come.
 ghost use Rattle.std.specs.Prelude.{◌≡◌, ℕ, ◌<◌, ◌^◌, slice_get, true, false, IsTrue};
 ghost use Rattle.base_trees.specs.Rose.{label_of, kids_of};
 ghost use Rattle.content_models.specs.Particle.{Particle};
@@ -20,7 +20,7 @@ fn is_leaf_of(label: &PlanLabel, name: &Name) -> bool
     }
 }
 
-// Whether the kid at this place, if there is one, is an element of this name.
+// Whether the child at this place, if there is one, is an element of this name.
 fn is_kid_of(plan: &Tree<PlanLabel>, place: usize, name: &Name) -> bool
     ensures few { IsTrue result → place < 2 ^ 32 }
     ensures kid { IsTrue result → is_kid_of (slice_get (kids_of plan.now) place) name.now ≡ true }
@@ -34,8 +34,8 @@ fn is_kid_of(plan: &Tree<PlanLabel>, place: usize, name: &Name) -> bool
     }
 }
 
-// The kid of a group that the name begins, from this kid on, where those between may be empty. Most names are that of this kid, and
-// then no table is asked.
+// The child of a group that the name begins, from this child on, where those between may be empty. Most names are that of this
+// child, and then no table is looked up.
 pub(crate) fn find_kid(
     plan: &Tree<PlanLabel>,
     group: &Group,

@@ -15,7 +15,7 @@ use std::alloc::Global;
 use std::sync::ledger::Ledger;
 
 impl TopPlan {
-    // For each kid of an all, a mark, on none.
+    // For each child of an all a mark, which is not set.
     #[inline(always)]
     pub(crate) fn marks(&self, alloc: Global) -> Result<Vec<bool>, Memory>
         ensures { IfOk result (λ marks. marks.items ≡ marks_of self.now) }
@@ -26,7 +26,7 @@ impl TopPlan {
         }
     }
 
-    // How many kids of an all may not be empty.
+    // The number of children of an all that may not be empty.
     #[inline(always)]
     pub(crate) fn required(&self) -> u32
         ensures { result ≡ required_of self.now }
@@ -37,7 +37,7 @@ impl TopPlan {
         }
     }
 
-    // Goes on to the next leaf, where the name leads to one.
+    // Moves to the next leaf, if the name leads to one.
     #[inline(always)]
     pub(crate) fn advance<L: Ledger>(
         &self,

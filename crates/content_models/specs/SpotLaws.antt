@@ -1,4 +1,4 @@
--- What a matcher tells of a content model.
+-- The law of the steps that a matcher makes in a content model.
 use Rattle.std.specs.Prelude.{◌≡◌, ◌↔◌, List, [], ◌∷◌, ◌++◌, Option, Some, None, Bool, true}
 use Rattle.base_texts.specs.declared.texts.Name.{Name}
 use Rattle.content_models.specs.Particle.{Particle}
@@ -17,18 +17,18 @@ abbrev pub may_end : Particle → Option Spot → Bool
 may_end p None = empties p
 may_end p (Some s) = finishes p s
 
--- what may come then
+-- The list of leaves may come after this spot, or from the start.
 abbrev pub Onward : Particle → Option Spot → List Leaf → Type 0
 Onward p None w = Lang p 0 [] w
 Onward p (Some s) w = After p 0 [] s w
 
--- the last of the leaves is the one at the spot, and there is none before the first
+-- The last of the leaves is the one at the spot. At the start there are no leaves.
 abbrev pub EndsAt : Particle → Option Spot → List Leaf → Type 0
 EndsAt p None us = us ≡ []
 EndsAt p (Some s) us = (earlier : List Leaf) × (last : Leaf) × (us ≡ earlier ++ last ∷ []) × (leaf_of p 0 [] s ≡ Some last)
 
--- The leaves lead there: what may come then completes them to a list of the particle, and nothing else does; and
--- something does.
+-- The leaves lead to the spot: exactly the lists that may come after it complete them to a list of the particle, and there is
+-- such a list.
 pub record Leads (p : Particle) (o : Option Spot) (us : List Leaf) : Type 0 where
   pub ends : EndsAt p o us
   pub forth : (w : List Leaf) → Onward p o w → Lang p 0 [] (us ++ w)
@@ -40,13 +40,13 @@ pub record Leads (p : Particle) (o : Option Spot) (us : List Leaf) : Type 0 wher
 abbrev pub AreTheFirst : Particle → List Leaf → Type 0
 AreTheFirst p us = (w : List Leaf) (r : List Name) → Lang p 0 [] w → names w ≡ names us ++ r → (rest : List Leaf) × (w ≡ us ++ rest)
 
--- some list of the particle has just these names
+-- Some list of the particle has exactly these names.
 abbrev pub IsNamed : Particle → List Name → Type 0
 IsNamed p xs = (w : List Leaf) × Lang p 0 [] w × (names w ≡ xs)
 
--- Of a clear content model that may occur: no leaf leads to the start. From where some leaves lead, a name leads on
--- exactly where some list begins with the names of the leaves and it, by one leaf more; and nothing more is needed exactly
--- where some list has just the names of the leaves.
+-- For a clear content model that may occur: the empty list of leaves leads to the start. From a spot to which some leaves lead, a
+-- name leads one leaf further if and only if some list begins with the names of the leaves and this name. Nothing more is needed
+-- if and only if the names of the leaves are those of a complete list.
 pub record Matches (p : Particle) : Type 0 where
   pub start : Leads p None []
   pub first : (o : Option Spot) (us : List Leaf) → Leads p o us → Viable p (names us) × AreTheFirst p us

@@ -7,8 +7,7 @@ use Rattle.content_models.specs.Particle.{Particle, occurs, Term, element, seque
 use Rattle.content_models.specs.Language.{Turn, Leaf, leaf_at, turn_of, size_of, joined, Times, Within, Lang, Body, InOrder}
 use Rattle.content_models.specs.Clear.{is_zero, first, empties, all_empty}
 
--- a leaf, by the turn of each particle and the number of each kid; of an all also by a mark for each kid, on those that
--- were taken
+-- A leaf, by the turn of each particle and the number of each child. In an all each child that was matched has a mark.
 mutual
   pub data Spot : Type 0 where
     at : ℕ → Inner → Spot
@@ -34,7 +33,7 @@ next_kid here = here
 next_kid (inside j s) = inside (suc j) s
 next_kid (among j ms) = among j ms
 
--- whether one more occurrence is allowed, and whether no more is needed
+-- One more occurrence is allowed (`may_repeat`), and no more is needed (`may_stop`).
 abbrev pub may_repeat : Option ℕ → ℕ → Bool
 may_repeat None i = true
 may_repeat (Some most) i = nat_lt (suc i) most
@@ -42,7 +41,7 @@ may_repeat (Some most) i = nat_lt (suc i) most
 abbrev pub may_stop : ℕ → ℕ → Bool
 may_stop least i = nat_lt least (suc (suc i))
 
--- a mark for each kid, on none
+-- A mark for each child, which is not set.
 abbrev pub unmarked : Particles → List Bool
 unmarked none = []
 unmarked (more p ps) = false ∷ unmarked ps
@@ -51,7 +50,7 @@ unmarked (more p ps) = false ∷ unmarked ps
 abbrev pub is_named : Particle → Name → Bool
 is_named p a = list_any (name_eq a) (first p)
 
--- a kid of an all, and the marks with one on it
+-- A child of an all, and the marks with that of the child set.
 pub record Picked : Type 0 where
   pub kid : ℕ
   pub marks : List Bool
@@ -62,7 +61,7 @@ picked kid marks = record { kid = kid; marks = marks }
 abbrev pub picked_later : Bool → Picked → Picked
 picked_later m r = picked (suc r.kid) (m ∷ r.marks)
 
--- the kid of the name, where it has no mark
+-- The child of the name, if it has no mark.
 abbrev pub pick : Particles → List Bool → Name → Option Picked
 pick none ms a = None
 pick (more p ps) [] a = None
@@ -72,14 +71,14 @@ pick (more p ps) (false ∷ ms) a = cond (is_named p a) (Some (picked 0 (true �
 abbrev pub among_picked : Picked → Inner
 among_picked r = among r.kid r.marks
 
--- how many kids have no mark and may not be empty
+-- The number of children without a mark that may not be empty.
 abbrev pub missing : Particles → List Bool → ℕ
 missing none ms = 0
 missing (more p ps) [] = 1
 missing (more p ps) (true ∷ ms) = missing ps ms
 missing (more p ps) (false ∷ ms) = cond (empties p) (missing ps ms) (suc (missing ps ms))
 
--- the first leaf, where its name is a
+-- The first leaf, if its name is a.
 abbrev mutual
   pub enter : Particle → Name → Option Spot
   enter (occurs t least most) a = over (at 0) (enter_term t a)
@@ -135,7 +134,7 @@ next_all ps here a = None
 next_all ps (inside j s) a = None
 next_all ps (among j ms) a = over among_picked (pick ps ms a)
 
--- the leaf after this one, where its name is a
+-- The leaf after this one, if its name is a.
 abbrev mutual
   pub next : Particle → Spot → Name → Option Spot
   next (occurs t least most) (at i s) a =
@@ -162,7 +161,7 @@ abbrev mutual
   next_one (more p ps) (inside (suc j) s) a = over next_kid (next_one ps (inside j s) a)
   next_one (more p ps) (among j ms) a = None
 
--- the leaf of a kid of an all
+-- the leaf of a child of an all
 abbrev pub leaf_of_kid : Particle → ℕ → List Turn → Option Leaf
 leaf_of_kid (occurs (element d a) least most) n path = Some (leaf_at n d a (path ++ turn_of n 0 ∷ []))
 leaf_of_kid (occurs (sequence ps) least most) n path = None
@@ -199,7 +198,7 @@ abbrev mutual
   leaf_in (more p ps) n path (inside (suc j) s) = leaf_in ps (n + size_of p) path (inside j s)
   leaf_in (more p ps) n path (among j ms) = None
 
--- one list of each kid that has no mark, in any order
+-- one list of each child that has no mark, in any order
 abbrev pub Left : Particles → List Bool → ℕ → List Turn → List (List Leaf) → Type 0
 Left none ms n path xs = xs ≡ []
 Left (more p ps) [] n path xs = ⊥
@@ -213,7 +212,7 @@ AfterAll ps n path here w = ⊥
 AfterAll ps n path (inside j s) w = ⊥
 AfterAll ps n path (among j ms) w = (xs : List (List Leaf)) × (w ≡ joined xs) × Left ps ms n path xs
 
--- what may come after the leaf at a spot
+-- The lists of leaves that may come after the leaf at a spot.
 abbrev mutual
   pub After : Particle → ℕ → List Turn → Spot → List Leaf → Type 0
   After (occurs t least most) n path (at i s) w =

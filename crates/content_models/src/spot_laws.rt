@@ -1,8 +1,9 @@
 //! The law of matching.
 ghost use Rattle.content_models.specs.SpotLaws.{LawOfMatching};
 
-/// In a clear content model that may occur, a step finds the next leaf exactly where some list begins with the names so
-/// far and this one, and a spot needs nothing more exactly where some list has just the names so far.
+/// States the law of matching: in a clear content model that may occur, a step finds the next leaf if and only if some list
+/// begins with the names so far and this one, and a spot needs nothing more if and only if the names so far are those of a
+/// complete list.
 pub fn law_of_matching()
     ensures { LawOfMatching }
 {}

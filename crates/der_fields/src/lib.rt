@@ -1,6 +1,6 @@
 //! Defines DER (X.690): identifiers, lengths, contents, the octets of each value, how octets are read, and the first error.
 //!
-//! Read first: docs/DER.md, `specs/Octets`, `Encoding` (`der`, `distinguished`) and `Reading`, then `src/laws.rt`;
+//! Read first: docs/reference/DER.md, `specs/Octets`, `Encoding` (`der`, `distinguished`) and `Reading`, then `src/laws.rt`;
 //! `specs/Faults` and `specs/Stopping` (`DerStop`), then `src/stop_laws.rt`.
 #![tactic(auto)]
 

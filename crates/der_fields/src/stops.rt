@@ -98,7 +98,7 @@ impl Why {
             Why::NotAValue => Reason {
                 name: "NotAValue",
                 means: "the node was read completely, but it breaks a rule for values",
-                remedy: "docs/INTEROP.md has the rules; both ends need the same schemas",
+                remedy: "docs/guide/INTEROP.md has the rules; both ends need the same schemas",
             },
         }
     }

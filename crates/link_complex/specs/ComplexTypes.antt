@@ -13,7 +13,7 @@ use Rattle.link_names.specs.Parts.{What, Part, in_document}
 use Rattle.link_names.specs.declared.places.Place.{Place}
 use Rattle.link_names.specs.Order.{place}
 
--- a definition, without a name where it was written in place
+-- A definition, without a name if it is in place.
 pub record ComplexDefinition : Type 0 where
   pub name : Option Name
   pub place : Place
@@ -35,7 +35,7 @@ of_document d = flat_map of_part (in_document d)
 abbrev pub complex_types : List Document → List ComplexDefinition
 complex_types docs = flat_map of_document docs
 
--- the content model, where there is one
+-- The content model, if there is one.
 abbrev pub model_of : RawContent → Option (Rose ParticleLabel)
 model_of content.Empty = None
 model_of (content.Simple base at) = None

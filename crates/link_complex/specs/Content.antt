@@ -1,4 +1,4 @@
--- Content models that can't be read without looking ahead.
+-- Content models that can't be read without lookahead.
 use Rattle.std.specs.Prelude.{◌≡◌, List, [], Option, Some, None}
 use Rattle.std.specs.List.{Any}
 use Rattle.base_trees.specs.Rose.{Rose}
@@ -10,7 +10,7 @@ use Rattle.link_names.specs.declared.faults.LinkWhy.TheVariants.{NotClear}
 use Rattle.link_names.specs.Order.{place, OneHas}
 use Rattle.link_complex.specs.ComplexTypes.{ComplexDefinition, complex_types, model_of}
 
--- a particle that breaks a rule of clear content models stands there
+-- The fault is at a particle that breaks a rule of clear content models.
 abbrev pub BreaksIn : Option (Rose ParticleLabel) → LinkingFault → Type 0
 BreaksIn None f = ⊥
 BreaksIn (Some model) f =
@@ -19,6 +19,7 @@ BreaksIn (Some model) f =
 abbrev pub IsUnclearType : ComplexDefinition → LinkingFault → Type 0
 IsUnclearType c f = BreaksIn (model_of c.body.content) f
 
--- in place of XML Schema Part 1, section 3.8.6, 'Unique Particle Attribution'
+-- The fault is at an unclear particle of a complex type. This rule replaces XML Schema Part 1, section 3.8.6, 'Unique Particle
+-- Attribution'.
 abbrev pub IsUnclear : List Document → LinkingFault → Type 0
 IsUnclear docs f = OneHas IsUnclearType (complex_types docs) f

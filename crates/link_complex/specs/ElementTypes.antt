@@ -18,7 +18,7 @@ use Rattle.link_names.specs.declared.faults.LinkWhy.TheVariants.{TypesDiffer}
 use Rattle.link_names.specs.Order.{place, fault, is_before, OneHas}
 use Rattle.link_complex.specs.ComplexTypes.{ComplexDefinition, of_document}
 
--- which definition a type is: a built-in one, the one of this name, or one that was written in place
+-- The definition of a type: a built-in one, the one of this name, or one in place.
 pub data TypeIdentity : Type 0 where
   BuiltIn : Builtin → TypeIdentity
   ByName : Name → TypeIdentity
@@ -30,7 +30,7 @@ identity file (NamedKind (reference.Other name)) = ByName name
 identity file (SimpleKind s) = InPlace (place file s.at)
 identity file (ComplexKind c) = InPlace (place file c.at)
 
--- a global element with its type
+-- A global element with its type.
 pub record TypedElement : Type 0 where
   pub name : Name
   pub kind : TypeIdentity
@@ -41,12 +41,12 @@ typed_element file e = record { name = e.name; kind = identity file e.kind }
 abbrev pub typed_elements : List Document → List TypedElement
 typed_elements docs = flat_map (λ d. map (typed_element d.file) d.elements) docs
 
--- the type of the first that has the name
+-- The type of the first element that has the name.
 abbrev pub type_named : List TypedElement → Name → Option TypeIdentity
 type_named [] a = None
 type_named (e ∷ es) a = if name_eq e.name a then Some e.kind else type_named es a
 
--- a reference has the type of the global element
+-- The type of a local declaration. A reference has the type of the global element.
 abbrev pub type_of_local : (Name → Option TypeIdentity) → ℕ → Local → Option TypeIdentity
 type_of_local types file (Own e) = Some (identity file e.kind)
 type_of_local types file (Reference name at) = types name
@@ -55,11 +55,11 @@ abbrev pub type_of_found : (Name → Option TypeIdentity) → ℕ → Option Loc
 type_of_found types file None = None
 type_of_found types file (Some l) = type_of_local types file l
 
--- the type of the local declaration with this number
+-- The type of the local declaration with this number.
 abbrev pub type_at : (Name → Option TypeIdentity) → Document → ℕ → Option TypeIdentity
 type_at types d decl = type_of_found types d.file (slice_get d.locals decl)
 
--- an element particle with its type
+-- An element particle with its type.
 pub record TypedParticle : Type 0 where
   pub name : Name
   pub place : Place
@@ -68,7 +68,7 @@ pub record TypedParticle : Type 0 where
 abbrev pub typed_particle : Name → Place → Option TypeIdentity → TypedParticle
 typed_particle a p k = record { name = a; place = p; kind = k }
 
--- the particle, if it is an element
+-- The particle, if it is an element.
 abbrev pub of_label : (ℕ → Option TypeIdentity) → ParticleLabel → List TypedParticle
 of_label types l = elim l.kind [
   | particle.Element decl name ↦ typed_particle name (place l.file l.at) (types decl) ∷ []
@@ -82,11 +82,11 @@ of_part types (part.Particle l) = of_label types l
 of_part types (part.MixedGroup l) = of_label types l
 of_part types other = []
 
--- the element particles of the content of a complex type
+-- The element particles of the content of a complex type.
 abbrev pub typed_particles : (ℕ → Option TypeIdentity) → ComplexDefinition → List TypedParticle
 typed_particles types c = flat_map (λ p. of_part types p.what) (in_content c.place.file c.body.at c.body.content)
 
--- one of the same name stands before it and has another type
+-- One of the same name precedes it and has another type.
 abbrev pub IsOther : List TypedParticle → TypedParticle → Type 0
 IsOther ps p =
     (q : TypedParticle) × HasItem ps q × (q.name ≡ p.name) × (is_before q.place p.place ≡ true) × (q.kind ≡ p.kind → ⊥)

@@ -1,4 +1,4 @@
--- What the complex types of the code stand for.
+-- The complex types that values of the code represent.
 use Rattle.std.specs.Prelude.{List, map}
 use Rattle.std.specs.Borrow.{Bor}
 use Rattle.std.specs.Option.{option_map}

@@ -15,7 +15,7 @@ use_part file u = global u.name (place file u.at)
 abbrev pub uses_of_type : ComplexDefinition → List GlobalComponent
 uses_of_type c = map (use_part c.place.file) c.body.uses
 
--- those whose name one before them has
+-- The faults of the attributes whose name an earlier one has.
 abbrev pub double_uses_of : ComplexDefinition → List LinkingFault
 double_uses_of c = repeated DuplicateUse (uses_of_type c)
 

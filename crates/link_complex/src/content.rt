@@ -1,4 +1,4 @@
-//! Content models that can't be read without looking ahead.
+//! Finds content models that can't be read without lookahead.
 ghost use Rattle.std.specs.Prelude.{map, IfOk, Some};
 ghost use Rattle.schema_components.specs.Documents.{doc_of};
 ghost use Rattle.link_names.specs.Order.{IsFirstSuch};
@@ -12,7 +12,7 @@ use link_names::{LinkWhy, LinkingFault, Place, first_of};
 use schema_components::{RawContent, RawDoc};
 use std::alloc::Global;
 
-// The first particle of a content model that breaks a rule.
+// Returns the first particle of a content model that breaks a rule.
 fn first_in_model(alloc: Global, model: &Particle) -> Result<Option<LinkingFault>, Memory>
     ensures { IfOk result (λ found. IsFirstSuch (BreaksIn (Some model.now)) found) }
 {
@@ -40,7 +40,7 @@ fn first_in_content(alloc: Global, content: &RawContent) -> Result<Option<Linkin
     }
 }
 
-/// The first particle that breaks a rule of clear content models. The time grows as n log n with the number n of
+/// Returns the first particle that breaks a rule of clear content models. The time grows as n log n with the number n of
 /// particles, whatever their names are.
 pub fn first_unclear(alloc: Global, docs: &[RawDoc]) -> Result<Option<LinkingFault>, Memory>
     ensures { IfOk result (λ found. IsFirstSuch (IsUnclear (map doc_of docs.now)) found) }

@@ -11,8 +11,7 @@ use link_names::{Part, Place, What, document_parts};
 use schema_components::{RawComplex, RawDoc};
 use std::alloc::Global;
 
-/// A complex type definition of a document, at the place of its `complexType`. One that was written in place has no
-/// name.
+/// A complex type definition of a document, at the place of its `complexType`. A definition in place has no name.
 #[derive(Clone, Copy)]
 pub struct ComplexType<'a> {
     pub name: Option<&'a Name>,
@@ -67,7 +66,7 @@ fn push_document<'a>(
     push_parts(&parts, out)
 }
 
-/// The complex types of one document: those of its global elements, those with a name, and those of its local
+/// Returns the complex types of one document: those of its global elements, those with a name, and those of its local
 /// declarations.
 pub(crate) fn document_complex_types<'a>(
     alloc: Global,
@@ -80,7 +79,7 @@ pub(crate) fn document_complex_types<'a>(
     Ok(found)
 }
 
-/// The complex types of the documents: of each one those of its global elements, those with a name, and those of its
+/// Returns the complex types of the documents: for each one those of its global elements, those with a name, and those of its
 /// local declarations.
 pub fn complex_types<'a>(alloc: Global, docs: &'a [RawDoc]) -> Result<Vec<ComplexType<'a>>, Memory>
     ensures { IfOk result (λ found. definitions_of found.items ≡ told.complex_types (map doc_of docs.now)) }

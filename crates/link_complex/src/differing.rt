@@ -1,4 +1,4 @@
-//! Element particles of one name whose types differ.
+//! Finds element particles of one name whose types differ.
 ghost use Rattle.std.specs.Prelude.{map, IfOk};
 ghost use Rattle.schema_components.specs.Documents.{doc_of};
 ghost use Rattle.link_names.specs.Order.{IsFirstSuch};
@@ -29,7 +29,7 @@ fn first_in_type<'a>(
     first_other(alloc, &particles)
 }
 
-// The first in the complex types of one document.
+// Returns the first in the complex types of one document.
 fn first_in_document<'a>(
     alloc: Global,
     types: &BTreeMap<&'a Name, TypeIdentity<'a>>,
@@ -46,9 +46,9 @@ fn first_in_document<'a>(
     Ok(found)
 }
 
-/// The first element particle of a content model that one of the same name stands before whose type is another: not the
-/// same built-in type, nor the one of the same name, nor the one written at the same place. The time grows as n log n
-/// with the number of particles, whatever their names are.
+/// Returns the first element particle of a content model that one of the same name and of another type precedes. Types are the
+/// same if they are the same built-in type, have the same name, or are written at the same place. The time grows as n log n with
+/// the number of particles, whatever their names are.
 pub fn first_differing(alloc: Global, docs: &[RawDoc]) -> Result<Option<LinkingFault>, Memory>
     ensures { IfOk result (λ found. IsFirstSuch (Differs (map doc_of docs.now)) found) }
 {

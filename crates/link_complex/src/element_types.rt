@@ -40,7 +40,7 @@ fn typed_elements<'a>(alloc: Global, docs: &'a [RawDoc]) -> Result<Vec<TypedElem
     Ok(found)
 }
 
-// The type of the first element of each name.
+// Returns the type of the first element of each name.
 fn first_types<'a>(
     alloc: Global,
     elements: &[TypedElement<'a>],
@@ -57,7 +57,7 @@ fn first_types<'a>(
     Ok(types)
 }
 
-/// The types of the global elements of the documents, by their names.
+/// Returns the types of the global elements of the documents, by their names.
 pub(crate) fn element_types<'a>(
     alloc: Global,
     docs: &'a [RawDoc],

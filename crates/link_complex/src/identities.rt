@@ -1,4 +1,4 @@
-//! Which definition a type is.
+//! The identity of types.
 ghost use Rattle.std.specs.Prelude.{◌≡◌, ◌↔◌, IsTrue};
 ghost use Rattle.schema_components.specs.Seen.{kind_of};
 ghost use Rattle.link_complex.specs.ElementTypes.{identity, BuiltIn, ByName, InPlace};
@@ -9,7 +9,7 @@ use link_names::Place;
 use schema_components::{RawKind, RawRef};
 use simple_types::Builtin;
 
-/// A type by its definition: a built-in one, the one of this name, or one that was written in place.
+/// A type by its definition: a built-in one, the one of this name, or one in place.
 #[derive(Clone, Copy)]
 pub(crate) enum TypeIdentity<'a> {
     Builtin(Builtin),
@@ -18,7 +18,7 @@ pub(crate) enum TypeIdentity<'a> {
 }
 
 impl<'a> TypeIdentity<'a> {
-    /// That of the type of an element of the file.
+    /// Returns the identity of the type of an element of the file.
     pub(crate) fn of(file: u32, kind: &'a RawKind) -> TypeIdentity<'a>
         ensures { identity_of result ≡ identity file (kind_of kind.now) }
     {
@@ -60,7 +60,7 @@ impl<'a> TypeIdentity<'a> {
         }
     }
 
-    /// Whether both are one definition.
+    /// Returns whether both are one definition.
     fn is(self, other: TypeIdentity<'a>) -> bool
         ensures { IsTrue result ↔ (identity_of self.entry ≡ identity_of other.entry) }
     {
@@ -72,7 +72,7 @@ impl<'a> TypeIdentity<'a> {
     }
 }
 
-/// Whether both are one definition, or neither is there.
+/// Returns whether both are one definition, or both are absent.
 pub(crate) fn is_same<'a>(one: Option<TypeIdentity<'a>>, other: Option<TypeIdentity<'a>>) -> bool
     ensures { IsTrue result ↔ (type_of one.entry ≡ type_of other.entry) }
 {

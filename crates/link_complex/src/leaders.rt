@@ -1,4 +1,4 @@
-//! Of the element particles of each name, the first one and the first that has another type.
+//! For the element particles of each name, the first one and the first that has another type.
 ghost use Rattle.std.specs.Prelude.{◌≡◌, IfOk};
 ghost use Rattle.link_names.specs.Order.{IsFirstSuch};
 ghost use Rattle.link_complex.specs.ElementTypes.{HasOther};
@@ -13,7 +13,7 @@ use link_names::{LinkWhy, LinkingFault, Place, earlier};
 use std::alloc::Global;
 use std::collections::BTreeMap;
 
-/// The place and the type of the first particle of a name, and the place of the first whose type is another.
+/// The place and the type of the first particle of a name, and the place of the first particle with another type.
 #[derive(Clone, Copy)]
 pub(crate) struct Leader<'a> {
     place: Place,
@@ -41,7 +41,7 @@ impl<'a> Leader<'a> {
         }
     }
 
-    // With one more, whose type is that of the first or another.
+    // Adds a particle. `same` is whether its type is that of the first.
     fn joined(self, particle: TypedParticle<'a>, same: bool) -> Leader<'a>
         ensures { leader_of result ≡ told.joined same (leader_of self.entry) (particle_of particle.entry) }
     {
@@ -64,7 +64,7 @@ impl<'a> Leader<'a> {
         }
     }
 
-    // Whether one of another type stands before the place.
+    // Returns whether a particle of another type precedes the place.
     fn has_other(self, place: Place, same: bool) -> bool
         ensures { result ≡ told.has_other same (leader_of self.entry) place }
     {
@@ -78,7 +78,7 @@ impl<'a> Leader<'a> {
     }
 }
 
-// The leader of the particle's name, with the particle.
+// Returns the leader of the particle's name, with the particle added.
 fn with_particle<'a>(
     leaders: &BTreeMap<&'a Name, Leader<'a>>,
     particle: TypedParticle<'a>,
@@ -91,7 +91,7 @@ fn with_particle<'a>(
     }
 }
 
-// Whether a particle of the same name and another type stands before this one.
+// Returns whether a particle of the same name and another type precedes this one.
 fn is_behind_other<'a>(
     leaders: &BTreeMap<&'a Name, Leader<'a>>,
     particle: TypedParticle<'a>,
@@ -104,8 +104,8 @@ fn is_behind_other<'a>(
     }
 }
 
-/// The first element particle that one of the same name and of another type stands before. The time grows as n log n
-/// with their number, whatever their names are.
+/// Returns the first element particle that one of the same name and of another type precedes. The time grows as n log n with
+/// their number, whatever their names are.
 pub(crate) fn first_other(
     alloc: Global,
     particles: &[TypedParticle<'_>],

@@ -16,7 +16,7 @@ use schema_components::{RawDoc, RawLocal};
 use std::alloc::Global;
 use std::collections::BTreeMap;
 
-/// An element particle, where it was written, and its type. A reference that names nothing has none.
+/// An element particle, its place and its type. A reference that names nothing has no type.
 #[derive(Clone, Copy)]
 pub(crate) struct TypedParticle<'a> {
     pub name: &'a Name,
@@ -24,7 +24,7 @@ pub(crate) struct TypedParticle<'a> {
     pub kind: Option<TypeIdentity<'a>>,
 }
 
-// The type of the global element of this name.
+// Returns the type of the global element of this name.
 fn type_of_global<'a>(
     types: &BTreeMap<&'a Name, TypeIdentity<'a>>,
     name: &'a Name,
@@ -50,7 +50,7 @@ fn type_of_local<'a>(
     }
 }
 
-// The type of the local declaration with this number.
+// Returns the type of the local declaration with this number.
 fn type_at<'a>(
     types: &BTreeMap<&'a Name, TypeIdentity<'a>>,
     doc: &'a RawDoc,
@@ -126,7 +126,7 @@ fn push_parts<'a>(
     Ok(())
 }
 
-/// The element particles of the content of a complex type in the document.
+/// Returns the element particles of the content of a complex type in the document.
 pub(crate) fn typed_particles<'a>(
     alloc: Global,
     types: &BTreeMap<&'a Name, TypeIdentity<'a>>,

@@ -1,4 +1,4 @@
-//! Attributes of one name in a complex type.
+//! Finds attributes of one name in a complex type.
 ghost use Rattle.std.specs.Prelude.{◌≡◌, ◌++◌, List, map, IfOk};
 ghost use Rattle.schema_components.specs.Documents.{doc_of};
 ghost use Rattle.link_names.specs.declared.faults.LinkingFault.{LinkingFault};
@@ -30,7 +30,7 @@ fn uses<'a>(alloc: Global, complex: ComplexType<'a>) -> Result<Vec<NamedPart<'a>
     Ok(found)
 }
 
-// The first of what was found before and of the attributes whose name one before them has.
+// Returns the first of the fault found before and those of the attributes whose name an earlier one has.
 fn first_in_type(
     alloc: Global,
     complex: ComplexType<'_>,
@@ -42,7 +42,7 @@ fn first_in_type(
     first_repeated(alloc, &uses, LinkWhy::DuplicateUse, found)
 }
 
-/// The first attribute of a complex type whose name one before it has. The time grows as n log n with the number of
+/// Returns the first attribute of a complex type whose name an earlier one has. The time grows as n log n with the number of
 /// attributes, whatever their names are.
 pub fn first_double_use(alloc: Global, docs: &[RawDoc]) -> Result<Option<LinkingFault>, Memory>
     ensures { IfOk result (λ found. IsFirstOf (double_uses (map doc_of docs.now)) found) }

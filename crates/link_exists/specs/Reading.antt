@@ -1,4 +1,4 @@
--- Documents that are read: of each, the components of items that are sound and a schema.
+-- Documents that are read: each has the components of items that are sound and form a schema.
 use Rattle.std.specs.Prelude.{◌≡◌, ◌≤◌, ℕ, true, List}
 use Rattle.base_texts.specs.Lists.{HasItem}
 use Rattle.base_trees.specs.Rose.{Rose}
@@ -9,7 +9,7 @@ use Rattle.schema_faults.specs.Shown.{IsSchema}
 use Rattle.schema_components.specs.Raw.{Document}
 use Rattle.schema_read.specs.Raw.{raw_of}
 
--- the items are those of a document that is no longer than a file may be
+-- The items are those of a document within the greatest size of a file.
 pub record IsReadAs (d : Document) (root : Rose ItemLabel) : Type 0 where
   pub file : ℕ
   pub raw : d ≡ raw_of file root

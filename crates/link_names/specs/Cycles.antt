@@ -20,7 +20,7 @@ is_named a d = elim d.name [ None ↦ false | Some b ↦ name_eq b a ]
 abbrev pub stands_at : Place → SimpleDefinition → Bool
 stands_at p d = nat_eq d.place.file p.file && nat_eq d.place.at p.at
 
--- the numbers of simple types, by their names and by the places where they were written
+-- The numbers of simple types, by their names and by the places where they were written.
 pub record SimpleNumbers : Type 0 where
   pub named : Name → Option ℕ
   pub placed : Place → Option ℕ
@@ -32,7 +32,7 @@ abbrev pub one_of : Option ℕ → List ℕ
 one_of None = []
 one_of (Some n) = n ∷ []
 
--- the simple types that one is made from, by their numbers; a built-in one has none
+-- The simple types that one is made from, by their numbers; a built-in one has none.
 abbrev pub named_part : SimpleNumbers → RawRef → List ℕ
 named_part ns (reference.Builtin which) = []
 named_part ns (reference.Other name) = one_of (ns.named name)
@@ -53,14 +53,14 @@ parts_of ns file (UnionOf members) = parts_of_bases ns file members
 abbrev pub parts_in : SimpleNumbers → SimpleDefinition → List ℕ
 parts_in ns d = parts_of ns d.place.file d.how
 
--- from each simple type to those that it is made from
+-- The edges from each simple type to those that it is made from.
 abbrev pub edges : List SimpleDefinition → List (List ℕ)
 edges ds = map (parts_in (numbers_in ds)) ds
 
 abbrev pub IsCircularAt : List SimpleDefinition → ℕ → LinkingFault → Type 0
 IsCircularAt ds n f = (d : SimpleDefinition) × (slice_get ds n ≡ Some d) × (f ≡ fault CircularType d.place) × IsOnCycle (edges ds) n
 
--- one of the first n
+-- The fault is that of one of the first n types.
 abbrev pub IsCircularBelow : List SimpleDefinition → ℕ → LinkingFault → Type 0
 IsCircularBelow ds n f = (m : ℕ) × (m < n) × IsCircularAt ds m f
 

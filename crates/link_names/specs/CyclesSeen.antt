@@ -1,4 +1,4 @@
--- What the simple types of the code stand for.
+-- The simple type definitions that values of the code represent.
 use Rattle.std.specs.Prelude.{List, map}
 use Rattle.std.specs.Borrow.{Bor}
 use Rattle.std.specs.Option.{option_map}

@@ -14,7 +14,7 @@ use Rattle.link_names.specs.declared.faults.LinkWhy.{LinkWhy}
 use Rattle.link_names.specs.declared.faults.LinkWhy.TheVariants.{Duplicate}
 use Rattle.link_names.specs.Order.{place, fault, is_before}
 
--- a component, and where it was written
+-- A component, and its place.
 pub record GlobalComponent : Type 0 where
   pub name : Name
   pub place : Place
@@ -54,7 +54,7 @@ named_at (Some a) p = global a p ∷ []
 abbrev pub of_part : NameKind → Part → List GlobalComponent
 of_part k p = named_at (name_in k p.what) (place p.file p.at)
 
--- the global components of a kind among these parts
+-- The global components of a kind among these parts.
 abbrev pub globals_among : NameKind → List Part → List GlobalComponent
 globals_among k ps = flat_map (of_part k) ps
 
@@ -69,22 +69,22 @@ attributes docs = globals_among kind.Attribute (parts docs)
 abbrev pub types : List Document → List GlobalComponent
 types docs = globals_among kind.Type (parts docs)
 
--- the complex types with a name
+-- The complex types with a name.
 abbrev pub complexes : List Document → List GlobalComponent
 complexes docs = globals_among kind.ComplexType (parts docs)
 
--- one of the same name stands before it
+-- One of the same name precedes it.
 abbrev pub is_repeated : List GlobalComponent → GlobalComponent → Bool
 is_repeated gs g = list_any (λ h. name_eq h.name g.name && is_before h.place g.place) gs
 
--- the faults, for this reason, of those whose name one before them has
+-- The faults, for this reason, of the components that one of the same name precedes.
 abbrev pub repeated : LinkWhy → List GlobalComponent → List LinkingFault
 repeated why gs = map (λ g. fault why g.place) (filter (is_repeated gs) gs)
 
--- the components whose name an earlier one of their kind has
+-- The faults of the components whose name an earlier one of their kind has.
 abbrev pub duplicates : List Document → List LinkingFault
 duplicates docs = repeated Duplicate (elements docs) ++ repeated Duplicate (attributes docs) ++ repeated Duplicate (types docs)
 
--- one of them has the name
+-- One of them has the name.
 abbrev pub is_there : List GlobalComponent → Name → Bool
 is_there gs a = list_any (λ g. name_eq a g.name) gs

@@ -22,24 +22,24 @@ abbrev pub NonePrecedes : List LinkingFault → LinkingFault → Type 0
 NonePrecedes [] f = Unit {0}
 NonePrecedes (g ∷ gs) f = (precedes g f ≡ false) × NonePrecedes gs f
 
--- one of the faults, which none precedes
+-- It is one of the faults, and none precedes it.
 abbrev pub IsFirst : List LinkingFault → LinkingFault → Type 0
 IsFirst fs f = HasItem fs f × NonePrecedes fs f
 
--- the first of them, or none where there is none
+-- It is the first of the faults, or none if there are none.
 abbrev pub IsFirstOf : List LinkingFault → Option LinkingFault → Type 0
 IsFirstOf fs found = MatchOption found (fs ≡ []) (IsFirst fs)
 
--- a fault of this kind, which no other of the kind precedes; none where there is none of the kind
+-- It is a fault of this kind that no other of the kind precedes, or none if there is none of the kind.
 abbrev pub IsFirstSuch : (LinkingFault → Type 0) → Option LinkingFault → Type 0
 IsFirstSuch P found = MatchOption found ((f : LinkingFault) → P f → ⊥) (λ f. P f × ((g : LinkingFault) → P g → precedes g f ≡ false))
 
--- a fault that one of these has
+-- It is a fault of one of these.
 abbrev pub OneHas : {A : Type 0} → (A → LinkingFault → Type 0) → List A → LinkingFault → Type 0
 OneHas has [] f = ⊥
 OneHas has (x ∷ xs) f = has x f ⊎ OneHas has xs f
 
--- the first of those found and one more
+-- The first of the fault found and one more.
 abbrev pub earlier : Option LinkingFault → LinkingFault → Option LinkingFault
 earlier None g = Some g
 earlier (Some f) g = if precedes g f then Some g else Some f

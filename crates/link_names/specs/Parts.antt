@@ -1,4 +1,4 @@
--- The parts of schema documents (XML Schema Part 1, sections 3.2 to 3.14), each behind the part that it stands in: of each
+-- The parts of schema documents (XML Schema Part 1, sections 3.2 to 3.14), each after the part that contains it: for each
 -- document those of its global elements, its global attributes, its types with a name and its local elements.
 use Rattle.std.specs.Prelude.{ℕ, List, [], ◌∷◌, ◌++◌, Option, Some, None}
 use Rattle.std.specs.List.{flat_map}
@@ -19,17 +19,17 @@ pub data What : Type 0 where
   ElementReference : Name → What
   GlobalAttribute : Attribute → What
   AttributeUse : Use → What
-  -- without a name where it was written in place
+  -- A definition in place has no name.
   SimpleDefinition : Option Name → Simple → What
   ComplexDefinition : Option Name → Complex → What
-  -- a group, or an element particle
+  -- A group, or an element particle.
   Particle : ParticleLabel → What
-  -- the group of mixed content without elements
+  -- The group of mixed content without elements.
   MixedGroup : ParticleLabel → What
-  -- the name of a type, at the place of the element that has it
+  -- The name of a type, at the place of the element that has it.
   TypeReference : TypeRole → RawRef → What
 
--- a part with its place, and the place of the part that it stands in
+-- A part with its place, and the place of the part that contains it.
 pub record Part : Type 0 where
   pub file : ℕ
   pub within : Option ℕ
@@ -44,7 +44,7 @@ part file within at what = record { file = file; within = within; at = at; what 
 abbrev pub simple : ℕ → ℕ → How → Simple
 simple at body_at how = record { at = at; body_at = body_at; how = how }
 
--- a type that is named, or written in place; a base, an item or a member stands in the `restriction`, `list` or `union`
+-- A type that is named, or defined in place. A base, an item or a member is in the `restriction`, `list` or `union`.
 abbrev mutual
   pub in_base : ℕ → ℕ → TypeRole → Base → List Part
   in_base file at r (Named reference) = part file (Some at) at (TypeReference r reference) ∷ []
@@ -82,7 +82,7 @@ in_content file within (content.Simple base at) = part file (Some within) at (Ty
 in_content file within (content.ElementOnly model) = in_model file within model
 in_content file within (content.Mixed model) = in_mixed file within model
 
--- a reference has no type of its own
+-- A reference has no type of its own.
 abbrev pub in_use_type : ℕ → ℕ → Option Base → List Part
 in_use_type file at None = []
 in_use_type file at (Some base) = in_base file at role.Attribute base

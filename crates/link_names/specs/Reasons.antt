@@ -6,7 +6,7 @@ use Rattle.simple_facets.specs.Reasons.{facet_reason}
 use Rattle.link_names.specs.declared.faults.LinkWhy.{LinkWhy}
 use Rattle.link_names.specs.declared.faults.LinkWhy.TheVariants as link
 
--- the name of a reason against several files as one set
+-- The name of a reason against several files as one set.
 abbrev pub link_reason : LinkWhy → List ℕ
 link_reason link.Limit = codes "Limit"
 link_reason link.Duplicate = codes "Duplicate"
@@ -21,12 +21,12 @@ link_reason link.DuplicateUse = codes "DuplicateUse"
 link_reason link.TypesDiffer = codes "TypesDiffer"
 link_reason link.NotClear = codes "NotClear"
 
--- the name by itself, without the word that precedes it where it is that of a facet's reason
+-- The name without its first word, if it is that of a facet's reason; else the name.
 abbrev pub own_name : LinkWhy → List ℕ
 own_name (link.Facet reason) = facet_reason reason
 own_name why = link_reason why
 
--- each reason has a rank of its own, so of two faults that differ one precedes the other
+-- The ranks of reasons are distinct, so of two faults that differ one precedes the other.
 abbrev pub rank_of_facet : FacetWhy → ℕ
 rank_of_facet facet.Misplaced = 5
 rank_of_facet facet.Widens = 6

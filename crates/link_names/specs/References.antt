@@ -15,7 +15,7 @@ use Rattle.link_names.specs.declared.references.Need.{Need}
 use Rattle.link_names.specs.declared.references.Need.TheVariants as need
 use Rattle.link_names.specs.Order.{place}
 
--- a name, and what it has to name
+-- A name, and the kind of component that it must name.
 pub record Mention : Type 0 where
   pub place : Place
   pub need : Need
@@ -24,14 +24,14 @@ pub record Mention : Type 0 where
 abbrev pub mention : Need → Place → Name → Mention
 mention n p name = record { place = p; need = n; name = name }
 
--- the type of an element may be complex; that of an attribute or of a text, a base, an item and a member are simple
+-- The type of an element may be complex. The type of an attribute or of a text, a base, an item and a member are simple.
 abbrev pub need_of : TypeRole → Need
 need_of role.Element = need.Type
 need_of role.Attribute = need.Simple
 need_of role.Content = need.Simple
 need_of role.SimpleType = need.Simple
 
--- a built-in type needs no definition
+-- A built-in type needs no definition.
 abbrev pub of_type : Need → Place → RawRef → List Mention
 of_type n p (reference.Builtin which) = []
 of_type n p (reference.Other name) = mention n p name ∷ []

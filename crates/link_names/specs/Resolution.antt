@@ -1,4 +1,4 @@
--- Which references name what they need (XML Schema Part 1, sections 3.15.3 and 3.14.6).
+-- The references that name what they need (XML Schema Part 1, sections 3.15.3 and 3.14.6).
 use Rattle.std.specs.Prelude.{Bool, List, Option, Some, None, if◌then◌else◌}
 use Rattle.std.specs.List.{filter_map}
 use Rattle.std.specs.Option.{option_map}
@@ -15,7 +15,7 @@ use Rattle.link_names.specs.declared.global_names.NameKind.TheVariants as kind
 use Rattle.link_names.specs.Globals.{globals_among, is_there}
 use Rattle.link_names.specs.References.{Mention, mentions}
 
--- the names of the global components of each kind, as tests
+-- The names of the global components of each kind, as tests.
 pub record Names : Type 0 where
   pub elements : Name → Bool
   pub attributes : Name → Bool
@@ -37,7 +37,7 @@ names_in docs = names_among (parts docs)
 abbrev pub unless_there : Bool → Option LinkWhy
 unless_there there = if there then None else Some Unresolved
 
--- what is wrong with a reference
+-- What is wrong with a reference, if anything is.
 abbrev pub wrong : Names → Need → Name → Option LinkWhy
 wrong names need.Element a = unless_there (names.elements a)
 wrong names need.Attribute a = unless_there (names.attributes a)

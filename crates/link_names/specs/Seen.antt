@@ -1,4 +1,4 @@
--- What the tables of the code stand for.
+-- The global components that values of the code represent.
 use Rattle.std.specs.Prelude.{List, map}
 use Rattle.link_names.specs.Globals.{GlobalComponent, global}
 use Rattle.link_names.specs.declared.global_names.NamedPart.{NamedPart}

@@ -9,7 +9,7 @@ use Rattle.link_names.specs.Parts.{What, Part, parts}
 use Rattle.link_names.specs.declared.places.Place.{Place}
 use Rattle.link_names.specs.Order.{place}
 
--- a definition, without a name where it was written in place
+-- A definition, without a name if it is in place.
 pub record SimpleDefinition : Type 0 where
   pub name : Option Name
   pub place : Place

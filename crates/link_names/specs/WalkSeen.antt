@@ -1,4 +1,4 @@
--- What the parts of the code stand for.
+-- The parts that values of the code represent.
 use Rattle.std.specs.Prelude.{List, map, Option}
 use Rattle.std.specs.Borrow.{Bor}
 use Rattle.std.specs.Option.{option_map}

@@ -16,7 +16,7 @@ use base_texts::Memory;
 use schema_components::RawDoc;
 use std::alloc::Global;
 
-// Whether what was found stays the first beside one more.
+// Returns whether something was found that this fault does not precede.
 fn is_kept(found: Option<LinkingFault>, fault: LinkingFault) -> bool
     ensures { result ≡ true → Keeps found fault }
 {
@@ -32,13 +32,13 @@ struct RankedGraph<'g> {
     alloc: Global,
     graph: &'g [Vec<usize>],
     ranks: &'g [usize],
-    /// Whether no edge leads to a greater rank.
+    /// Whether every edge leads to the same or a lesser rank.
     falling: bool,
 }
 
 impl RankedGraph<'_> {
-    // Whether a cycle goes through the node. Ranks that fall along edges rule most nodes out; a search is needed for those
-    // that are left.
+    // Returns whether a cycle goes through the node. Ranks that fall along edges rule out most nodes; only the others need a
+    // search.
     fn is_circular(self, n: usize) -> Result<bool, Memory>
         requires within { n < length self.graph.now }
         requires falls { self.falling ≡ true → (a b : ℕ) → IsEdge (rows_of self.graph.now) a b → slice_index self.ranks.now b ≤ slice_index self.ranks.now a }
@@ -52,8 +52,8 @@ impl RankedGraph<'_> {
         is_on_cycle(self.alloc, self.graph, n)
     }
 
-    // The first of what was found and of the fault of this node, which it has if a cycle goes through it. It is not
-    // searched for where it would come later.
+    // Returns the first of what was found and the fault of this node, which it has if a cycle goes through it. No cycle is
+    // searched for if that fault would not be the first.
     fn next_found(
         self,
         n: usize,
@@ -102,9 +102,9 @@ fn first_of_graph(
     Ok(found)
 }
 
-/// The first simple type that is made of itself. The time grows with the number of parts of simple types, and as
-/// n log n with that of names and places, where each list of a document stands in the order written; one search more is
-/// made each time that a type on a cycle stands before all found so far.
+/// Returns the first simple type that is made of itself. The time grows with the number n of parts of simple types, and as n log
+/// n with that of names and places, if each list of a document is in the order written. It makes one more search each time a type
+/// on a cycle precedes all found so far.
 pub fn first_circular(alloc: Global, docs: &[RawDoc]) -> Result<Option<LinkingFault>, Memory>
     ensures { IfOk result (λ found. IsFirstSuch (IsCircular (map doc_of docs.now)) found) }
 {

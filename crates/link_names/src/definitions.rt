@@ -13,8 +13,8 @@ use base_texts::{Memory, Name};
 use schema_components::{RawDoc, RawHow};
 use std::alloc::Global;
 
-/// A simple type definition of a document, at the place of its `simpleType`. `body` is the place of its `restriction`,
-/// `list` or `union`. One that was written in place has no name.
+/// A simple type definition of a document, at the place of its `simpleType`. `body` is the place of its `restriction`, `list` or
+/// `union`. A definition in place has no name.
 #[derive(Clone, Copy)]
 pub struct SimpleType<'a> {
     pub name: Option<&'a Name>,
@@ -61,8 +61,8 @@ fn push_parts<'a>(parts: &[Part<'a>], out: &mut Vec<SimpleType<'a>>) -> Result<(
     Ok(())
 }
 
-/// The simple types of the documents: of each document those of its global elements, its attributes, its types and its
-/// local declarations, each with those that stand in it behind it.
+/// Returns the simple types of the documents: for each document those of its global elements, its attributes, its types and its
+/// local declarations, each followed by those that it contains.
 pub fn simple_types<'a>(alloc: Global, docs: &'a [RawDoc]) -> Result<Vec<SimpleType<'a>>, Memory>
     ensures { IfOk result (λ found. definitions_of found.items ≡ told.simple_types (map doc_of docs.now)) }
 {

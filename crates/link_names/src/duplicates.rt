@@ -20,7 +20,7 @@ use schema_components::RawDoc;
 use std::alloc::Global;
 use std::collections::BTreeMap;
 
-// The place, or that of a component of the name further on, if it is before.
+// Returns the lesser of the place and that which the table has for the name.
 fn lesser<'a>(table: &BTreeMap<&'a Name, Place>, name: &'a Name, place: Place) -> Place
     ensures { result ≡ lesser place (place_in table.now name.now) }
 {
@@ -30,7 +30,7 @@ fn lesser<'a>(table: &BTreeMap<&'a Name, Place>, name: &'a Name, place: Place) -
     }
 }
 
-// Where the first component of each name stands.
+// Returns the place of the first component of each name.
 fn first_places<'a>(
     alloc: Global,
     globals: &[NamedPart<'a>],
@@ -48,7 +48,7 @@ fn first_places<'a>(
     Ok(places)
 }
 
-// Whether a component of the name stands before this one.
+// Returns whether a component of the name precedes this one.
 fn is_repeated<'a>(places: &BTreeMap<&'a Name, Place>, global: NamedPart<'a>) -> bool
     ensures { result ≡ stands_before (place_in places.now global.entry.name.now) global.entry.place }
 {
@@ -58,8 +58,8 @@ fn is_repeated<'a>(places: &BTreeMap<&'a Name, Place>, global: NamedPart<'a>) ->
     }
 }
 
-/// The first of what was found before and of those whose name another one has that stands before them, for this reason.
-/// The time grows as n log n with their number.
+/// Returns the first fault, for this reason, of what was found before and of the components that another one of the same name
+/// precedes. The time grows as n log n with their number.
 pub fn first_repeated<'a>(
     alloc: Global,
     globals: &[NamedPart<'a>],
@@ -94,7 +94,7 @@ fn first_of_kind(
     first_repeated(alloc, &globals, LinkWhy::Duplicate, found)
 }
 
-/// The first global element, attribute or type whose name an earlier one of its kind has. Simple and complex types are
+/// Returns the first global element, attribute or type whose name an earlier one of its kind has. Simple and complex types are
 /// one kind. The time grows as n log n with their number, whatever their names are.
 pub fn first_duplicate(alloc: Global, docs: &[RawDoc]) -> Result<Option<LinkingFault>, Memory>
     ensures { IfOk result (λ found. IsFirstOf (duplicates (map doc_of docs.now)) found) }

@@ -7,8 +7,7 @@ use crate::places::Place;
 use base_texts::Reason;
 use simple_facets::FacetWhy;
 
-/// Why documents can't be linked. At one place the reasons come in this order,
-/// and those of facets in the order of `FacetWhy`.
+/// Why documents can't be linked. At one place the reasons come in this order, and those of facets in the order of `FacetWhy`.
 #[derive(Clone, Copy, Debug, PartialEq, Eq)]
 pub enum LinkWhy {
     /// More than 10,000 components in the set, or a union over its own limits.
@@ -19,7 +18,7 @@ pub enum LinkWhy {
     Unresolved,
     /// A reference to a complex type where a simple one is needed.
     ComplexBase,
-    /// A simple type that is made of itself.
+    /// A simple type that is made of itself, directly or not.
     CircularType,
     /// A restriction whose facets don't fit its base.
     Facet(FacetWhy),
@@ -33,7 +32,7 @@ pub enum LinkWhy {
     DuplicateUse,
     /// A second element of one name in a content model, with another type.
     TypesDiffer,
-    /// A particle that can't be told apart without looking ahead.
+    /// A particle that can't be distinguished without lookahead.
     NotClear,
 }
 
@@ -57,7 +56,7 @@ impl LinkWhy {
             LinkWhy::Unresolved => Reason {
                 name: "Unresolved",
                 means: "a reference names nothing",
-                remedy: "pass all files of the set",
+                remedy: "pass all files of the set; ruvkhiska-narrow finds those that are included",
             },
             LinkWhy::ComplexBase => Reason {
                 name: "ComplexBase",
@@ -97,7 +96,7 @@ impl LinkWhy {
             LinkWhy::NotClear => Reason {
                 name: "NotClear",
                 means: "a document could have two values under this particle, or one element of lookahead doesn't decide",
-                remedy: "docs/CONTENT-MODELS.md has recipes",
+                remedy: "docs/reference/CONTENT-MODELS.md has recipes; ruvkhiska-narrow can do it",
             },
         }
     }
@@ -145,7 +144,7 @@ fn rank(why: LinkWhy) -> u8
 }
 
 impl LinkingFault {
-    /// Whether it stands at a lesser place than the other one, or at the same place with an earlier reason.
+    /// Returns whether it is at a lesser place than the other fault, or at the same place with an earlier reason.
     pub fn precedes(self, other: LinkingFault) -> bool
         ensures { result ≡ precedes self other }
     {
@@ -154,7 +153,7 @@ impl LinkingFault {
     }
 }
 
-/// The first of the faults found and one more.
+/// Returns the first of the fault found and one more.
 pub fn earlier(found: Option<LinkingFault>, fault: LinkingFault) -> Option<LinkingFault>
     ensures { result ≡ earlier found fault }
 {
@@ -164,7 +163,7 @@ pub fn earlier(found: Option<LinkingFault>, fault: LinkingFault) -> Option<Linki
     }
 }
 
-/// The first of two faults, or the one that there is.
+/// Returns the first of two faults, or the only one.
 pub fn first_of(found: Option<LinkingFault>, other: Option<LinkingFault>) -> Option<LinkingFault>
     ensures { result ≡ first_of found other }
 {

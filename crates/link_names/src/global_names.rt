@@ -9,7 +9,7 @@ use crate::places::Place;
 use base_texts::{Memory, Name};
 use std::alloc::Global;
 
-/// Global components whose names are looked up together.
+/// The kinds of global components whose names are looked up together.
 #[derive(Clone, Copy)]
 pub(crate) enum NameKind {
     Element,
@@ -19,7 +19,7 @@ pub(crate) enum NameKind {
     ComplexType,
 }
 
-/// A component by its name, and where it was written.
+/// A component with its name and its place.
 #[derive(Clone, Copy)]
 pub struct NamedPart<'a> {
     /// Its expanded name.
@@ -28,7 +28,7 @@ pub struct NamedPart<'a> {
     pub place: Place,
 }
 
-// The name of a part, if it is a global component of the kind.
+// Returns the name of a part, if it is a global component of the kind.
 fn name_in<'a>(kind: NameKind, what: What<'a>) -> Option<&'a Name>
     ensures { name_of result ≡ told.name_in kind (what_of what.entry) }
 {
@@ -68,7 +68,7 @@ fn push_part<'a>(kind: NameKind, part: Part<'a>, out: &mut Vec<NamedPart<'a>>) -
     Ok(())
 }
 
-/// The global components of the kind among these parts.
+/// Returns the global components of the kind among these parts.
 pub(crate) fn globals_among<'a>(
     alloc: Global,
     kind: NameKind,

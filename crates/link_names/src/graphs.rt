@@ -1,4 +1,4 @@
-//! Which nodes of a graph a walk leads back to.
+//! Finds whether a path along the edges of a graph leads from a node back to itself.
 ghost use Rattle.std.specs.Prelude.{◌≡◌, ◌<◌, ◌≤◌, ◌↔◌, IsTrue, ℕ, Bool, List, [], ◌∷◌, ◌++◌, length, IfOk, OnOk, true, slice_index};
 ghost use Rattle.link_names.specs.Graphs.{rows_of, IsEdge, IsOnCycle};
 ghost use Rattle.base_texts.specs.Lists.{HasItem};
@@ -7,7 +7,7 @@ ghost use Rattle.link_names.specs.Private.Searching.{Opened};
 use base_texts::Memory;
 use std::alloc::Global;
 
-// Marks the node and puts it among those that wait, unless it is marked. A number that is no node is left out.
+// Marks the node and adds it to the waiting ones, unless it is marked. A number that is no node is ignored.
 fn meet(n: usize, seen: &mut Vec<bool>, waiting: &mut Vec<usize>) -> Result<(), Memory>
     ensures { (s : List Bool) (w ns : List ℕ) → Opened s w seen.old.items waiting.old.items ns
         → OnOk result (Opened s w seen.new.items waiting.new.items (ns ++ n ∷ [])) }
@@ -32,7 +32,7 @@ fn meet_all(nodes: &[usize], seen: &mut Vec<bool>, waiting: &mut Vec<usize>) -> 
     Ok(())
 }
 
-/// Whether a walk along edges leads from the node to itself. The time grows with the number of edges.
+/// Returns whether a path along edges leads from the node to itself. The time grows with the number of edges.
 pub(crate) fn is_on_cycle(alloc: Global, graph: &[Vec<usize>], node: usize) -> Result<bool, Memory>
     requires { node < length graph.now }
     ensures { IfOk result (λ cycle. IsTrue cycle ↔ IsOnCycle (rows_of graph.now) node) }
@@ -55,7 +55,7 @@ fn rank_of(ranks: &[usize], node: usize) -> usize
     }
 }
 
-// Whether none of the nodes has a greater rank.
+// Returns whether none of the nodes has a greater rank than this.
 fn none_above(nodes: &[usize], ranks: &[usize], rank: usize) -> bool
     ensures { result ≡ true → (b : ℕ) → HasItem nodes.now b → slice_index ranks.now b ≤ rank }
 {
@@ -67,7 +67,7 @@ fn none_above(nodes: &[usize], ranks: &[usize], rank: usize) -> bool
     true
 }
 
-/// Whether no edge leads to a node of a greater rank.
+/// Returns whether no edge leads to a node of a greater rank.
 pub(crate) fn is_falling(graph: &[Vec<usize>], ranks: &[usize]) -> bool
     ensures { result ≡ true → (a b : ℕ) → IsEdge (rows_of graph.now) a b → slice_index ranks.now b ≤ slice_index ranks.now a }
 {
@@ -79,7 +79,7 @@ pub(crate) fn is_falling(graph: &[Vec<usize>], ranks: &[usize]) -> bool
     true
 }
 
-/// Whether each edge of the node leads to one of a lesser rank.
+/// Returns whether each edge of the node leads to one of a lesser rank.
 pub(crate) fn falls_from(graph: &[Vec<usize>], ranks: &[usize], node: usize) -> bool
     requires { node < length graph.now }
     ensures { result ≡ true → (b : ℕ) → IsEdge (rows_of graph.now) node b → slice_index ranks.now b < slice_index ranks.now node }

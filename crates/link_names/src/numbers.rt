@@ -39,7 +39,7 @@ fn put_name<'a>(
     }
 }
 
-// The last is put first, so that each name has the number of the first that has it.
+// Inserts the last first, so that each name has the number of the first type that has it.
 fn named<'a>(
     alloc: Global,
     definitions: &[SimpleType<'a>],
@@ -74,7 +74,7 @@ fn placed(
 }
 
 impl<'a> SimpleNumbers<'a> {
-    /// The numbers of these simple types, from 0, in their order; of several with one name or place, that of the first.
+    /// Returns the numbers of these simple types, from 0, in their order; of several with one name or place, that of the first.
     pub fn of(alloc: Global, definitions: &[SimpleType<'a>]) -> Result<SimpleNumbers<'a>, Memory>
         ensures { IfOk result (λ numbers. told_by numbers ≡ numbers_in (definitions_of definitions.now)) }
     {
@@ -83,7 +83,7 @@ impl<'a> SimpleNumbers<'a> {
         Ok(SimpleNumbers { named, placed })
     }
 
-    /// The number of the simple type with this name.
+    /// Returns the number of the simple type with this name.
     pub fn number_of(&self, name: &'a Name) -> Option<usize>
         ensures { result ≡ (told_by self.now).named name.now }
     {
@@ -93,7 +93,7 @@ impl<'a> SimpleNumbers<'a> {
         }
     }
 
-    /// The number of the simple type that was written at this place.
+    /// Returns the number of the simple type that was written at this place.
     pub fn number_at(&self, file: u32, at: u64) -> Option<usize>
         ensures { result ≡ (told_by self.now).placed (place file at) }
     {
@@ -171,7 +171,7 @@ impl<'a> SimpleNumbers<'a> {
         Ok(parts)
     }
 
-    /// Of each simple type the numbers of those that it is made from.
+    /// Returns for each simple type the numbers of those that it is made from.
     pub fn graph(
         &self,
         alloc: Global,
@@ -188,7 +188,7 @@ impl<'a> SimpleNumbers<'a> {
     }
 }
 
-/// Of each simple type the numbers of those that it is made from.
+/// Returns for each simple type the numbers of those that it is made from.
 pub(crate) fn graph_of<'a>(
     alloc: Global,
     definitions: &[SimpleType<'a>],

@@ -1,22 +1,22 @@
-//! A part of a schema document, and what it is.
+//! A part of a schema document, and its kind.
 use base_texts::Name;
 use content_models::ParticleLabel;
 use schema_components::{RawAttribute, RawComplex, RawElement, RawRef, RawSimple, RawUse};
 
-/// What the type is of that a reference names.
+/// Where a reference to a type is used.
 #[derive(Clone, Copy, Debug, PartialEq, Eq)]
 pub enum TypeRole {
-    /// Of an element, which may be complex.
+    /// The type of an element, which may be complex.
     Element,
-    /// Of an attribute.
+    /// The type of an attribute.
     Attribute,
-    /// Of the text of an element, by the `extension` of a simple content.
+    /// The type of the text of an element, by the `extension` of a simple content.
     Content,
-    /// Of a simple type as its base, its item or a member.
+    /// The base, the item or a member of a simple type.
     SimpleType,
 }
 
-/// What a part of a schema document is.
+/// The kind of a part of a schema document.
 #[derive(Clone, Copy)]
 pub enum What<'a> {
     GlobalElement(&'a RawElement),
@@ -27,12 +27,12 @@ pub enum What<'a> {
     GlobalAttribute(&'a RawAttribute),
     /// An attribute of a complex type, or a reference to a global one.
     AttributeUse(&'a RawUse),
-    /// One that was written in place has no name.
+    /// A definition in place has no name.
     SimpleDefinition {
         name: Option<&'a Name>,
         body: &'a RawSimple,
     },
-    /// One that was written in place has no name.
+    /// A definition in place has no name.
     ComplexDefinition {
         name: Option<&'a Name>,
         body: &'a RawComplex,
@@ -48,8 +48,8 @@ pub enum What<'a> {
     },
 }
 
-/// A part of a schema document: the number of the file, its place, and the place of the part that it stands in. What a
-/// document declares at its top stands in nothing, and so do local elements, whose particles tell where they stand.
+/// A part of a schema document: the number of the file, its place, and the place of the part that contains it. No part contains
+/// the global components of a document, nor its local elements, which the places of their particles locate.
 #[derive(Clone, Copy)]
 pub struct Part<'a> {
     pub file: u32,

@@ -2,17 +2,17 @@
 ghost use Rattle.std.specs.Prelude.{◌≡◌};
 ghost use Rattle.link_names.specs.Order.{is_before};
 
-/// Where something was written.
+/// The place where something was written.
 #[derive(Clone, Copy, Debug, PartialEq, Eq)]
 pub struct Place {
     /// The number of the file in the set, from 1.
     pub file: u32,
-    /// The byte from the file's start, from 0.
+    /// The offset in the file, in bytes from 0.
     pub at: u64,
 }
 
 impl Place {
-    /// Whether it stands before the other one in the order of files and places.
+    /// Returns whether it precedes the other one in the order of files and places.
     pub fn is_before(self, other: Place) -> bool
         ensures { result ≡ is_before self other }
     {

@@ -4,20 +4,20 @@ ghost use Rattle.std.specs.Prelude.{◌≡◌, length, IfOk};
 use base_texts::Memory;
 use std::alloc::Global;
 
-/// A node on the way of the walk, and how many of its edges were followed.
+/// A node on the current path of the traversal, and how many of its edges were followed.
 #[derive(Clone, Copy)]
 struct Step {
     node: usize,
     followed: usize,
 }
 
-/// The walk in depth through a graph, after Tarjan. Nodes are numbered from 1 in the order in which the walk comes to
-/// them, and 0 stands for none.
+/// A depth-first traversal of a graph, by Tarjan's algorithm. Nodes are numbered from 1 in the order in which the traversal
+/// reaches them, and 0 means no number.
 #[derive(Drop)]
 struct Walk {
     /// The number of each node.
     number: Vec<usize>,
-    /// The least number that the edges behind each node lead back to.
+    /// The least number that the edges from each node and its descendants lead back to.
     low: Vec<usize>,
     /// The rank of each node, from 1.
     rank: Vec<usize>,
@@ -87,7 +87,7 @@ impl Walk {
         }
     }
 
-    // The nodes held from this one on are a component.
+    // Gives a rank to the component, which consists of the nodes held from this one on.
     fn rank_from(&mut self, node: usize)
         ensures { length self.new.rank.items ≡ length self.old.rank.items }
     {
@@ -149,7 +149,7 @@ impl Walk {
         }
     }
 
-    // From a node on, in at most so many steps.
+    // Traverses the graph from a node, in at most this number of steps.
     fn from(&mut self, graph: &[Vec<usize>], node: usize, most: usize) -> Result<(), Memory>
         ensures { length self.new.rank.items ≡ length self.old.rank.items }
     {
@@ -167,7 +167,7 @@ impl Walk {
     }
 }
 
-// A number of steps in which a walk passes each edge and leaves each node.
+// Returns a number of steps in which a traversal follows each edge and leaves each node.
 fn most_steps(graph: &[Vec<usize>]) -> usize {
     let mut most = graph.len().saturating_add(1);
     for row in graph {
@@ -176,9 +176,9 @@ fn most_steps(graph: &[Vec<usize>]) -> usize {
     most
 }
 
-/// A rank of each node, from 1: an edge leads to a node of a lesser rank, or of the same if both are on one cycle.
-/// The contract promises a number for each node alone: what needs more has to test it. The time grows with the number of
-/// edges.
+/// Returns a rank of each node, from 1: an edge leads to a node of a lesser rank, or of the same rank if both are on one cycle.
+/// The contract states only that each node has a number, so a caller that needs more must test it. The time grows with the number
+/// of edges.
 pub(crate) fn ranks_of(alloc: Global, graph: &[Vec<usize>]) -> Result<Vec<usize>, Memory>
     ensures { IfOk result (λ ranks. length ranks.items ≡ length graph.now) }
 {

@@ -12,7 +12,7 @@ use base_texts::{Memory, Name};
 use schema_components::{RawRef, RawUse};
 use std::alloc::Global;
 
-/// What a reference has to name.
+/// The kind of component that a reference must name.
 #[derive(Clone, Copy, PartialEq, Eq)]
 pub(crate) enum Need {
     Element,
@@ -102,7 +102,7 @@ fn push_part<'a>(part: Part<'a>, out: &mut Vec<Mention<'a>>) -> Result<(), Memor
     }
 }
 
-/// The references among these parts.
+/// Returns the references among these parts.
 pub(crate) fn mentions<'a>(alloc: Global, parts: &[Part<'a>]) -> Result<Vec<Mention<'a>>, Memory>
     ensures { IfOk result (λ found. mentions_of found.items ≡ flat_map told.of_part (parts_of parts.now)) }
 {

@@ -1,4 +1,4 @@
-//! Which references name what they need.
+//! Finds the references that name nothing, or the wrong kind of component.
 ghost use Rattle.std.specs.Prelude.{◌≡◌, map, IfOk};
 ghost use Rattle.std.specs.List.{filter_map};
 ghost use Rattle.base_texts.specs.declared.texts.Name.{Name};
@@ -78,7 +78,7 @@ fn unless_there(there: bool) -> Option<LinkWhy>
 }
 
 impl<'a> NameTable<'a> {
-    // What is wrong with a reference.
+    // Returns what is wrong with a reference, if anything is.
     fn wrong(&self, need: Need, name: &'a Name) -> Option<LinkWhy>
         ensures { result ≡ wrong (told_by self.now) need name.now }
     {
@@ -95,7 +95,7 @@ impl<'a> NameTable<'a> {
         }
     }
 
-    // The first of the references with which something is wrong.
+    // Returns the first fault among those of the references.
     fn first_wrong(&self, mentions: &[Mention<'a>]) -> Option<LinkingFault>
         ensures { IsFirstOf (filter_map (fault_of (told_by self.now)) (mentions_of mentions.now)) result }
     {
@@ -113,8 +113,8 @@ impl<'a> NameTable<'a> {
     }
 }
 
-/// The first reference that names nothing, or names a complex type where a simple one is needed. The time grows as
-/// n log n with the number of names, whatever they are.
+/// Returns the first reference that names nothing, or names a complex type where a simple one is needed. The time grows as n log
+/// n with the number of names, whatever they are.
 pub fn first_unresolved(alloc: Global, docs: &[RawDoc]) -> Result<Option<LinkingFault>, Memory>
     ensures { IfOk result (λ found. IsFirstOf (unresolved (map doc_of docs.now)) found) }
 {

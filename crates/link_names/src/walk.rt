@@ -13,7 +13,7 @@ use base_trees::Tree;
 use content_models::ParticleLabel;
 use schema_components::{
     RawAttribute, RawBase, RawComplex, RawContent, RawDoc, RawElement, RawHow, RawKind, RawLocal,
-    RawRef, RawSimple, RawType, RawUse,
+    RawSimple, RawType, RawUse,
 };
 use std::alloc::Global;
 
@@ -35,25 +35,6 @@ fn push_part<'a>(
     Ok(())
 }
 
-fn push_reference<'a>(
-    file: u32,
-    within: u64,
-    at: u64,
-    role: TypeRole,
-    name: &'a RawRef,
-    out: &mut Vec<Part<'a>>,
-) -> Result<(), Memory>
-    ensures { OnOk result (parts_of out.new.items ≡ parts_of out.old.items ++ told.part file (Some within) at (told.TypeReference role name.now) ∷ []) }
-{
-    push_part(
-        file,
-        Some(within),
-        at,
-        What::TypeReference { role, name },
-        out,
-    )
-}
-
 #[cycle(bases)]
 fn push_base<'a>(
     file: u32,
@@ -65,7 +46,10 @@ fn push_base<'a>(
     ensures { OnOk result (parts_of out.new.items ≡ parts_of out.old.items ++ told.in_base file at role (base_of base.now)) }
 {
     match base {
-        RawBase::Named(name) => push_reference(file, at, at, role, name, out),
+        RawBase::Named(name) => {
+            let what = What::TypeReference { role, name };
+            push_part(file, Some(at), at, what, out)
+        }
         RawBase::Inner(body) => push_simple(file, Some(at), None, body, out),
     }
 }
@@ -175,7 +159,11 @@ fn push_content<'a>(
     match content {
         RawContent::Empty => Ok(()),
         RawContent::Simple { base, at } => {
-            push_reference(file, within, *at, TypeRole::Content, base, out)
+            let what = What::TypeReference {
+                role: TypeRole::Content,
+                name: base,
+            };
+            push_part(file, Some(within), *at, what, out)
         }
         RawContent::ElementOnly(model) => push_model(file, within, model.root(), out),
         RawContent::Mixed(model) => push_mixed(file, within, model.root(), out),
@@ -241,7 +229,13 @@ fn push_kind<'a>(
     ensures { OnOk result (parts_of out.new.items ≡ parts_of out.old.items ++ told.in_kind file at (kind_of kind.now)) }
 {
     match kind {
-        RawKind::Named(name) => push_reference(file, at, at, TypeRole::Element, name, out),
+        RawKind::Named(name) => {
+            let what = What::TypeReference {
+                role: TypeRole::Element,
+                name,
+            };
+            push_part(file, Some(at), at, what, out)
+        }
         RawKind::Simple(body) => push_simple(file, Some(at), None, body, out),
         RawKind::Complex(body) => push_complex(file, Some(at), None, body, out),
     }
@@ -256,19 +250,6 @@ fn push_element<'a>(
 {
     push_part(file, None, element.at, What::GlobalElement(element), out)?;
     push_kind(file, element.at, &element.kind, out)
-}
-
-fn push_elements<'a>(
-    file: u32,
-    elements: &'a [RawElement],
-    out: &mut Vec<Part<'a>>,
-) -> Result<(), Memory>
-    ensures { OnOk result (parts_of out.new.items ≡ parts_of out.old.items ++ flat_map (told.in_element file) (map element_of elements.now)) }
-{
-    'elements: for element in elements {
-        push_element(file, element, out)?;
-    }
-    Ok(())
 }
 
 fn push_attribute<'a>(
@@ -294,19 +275,6 @@ fn push_attribute<'a>(
     )
 }
 
-fn push_attributes<'a>(
-    file: u32,
-    attributes: &'a [RawAttribute],
-    out: &mut Vec<Part<'a>>,
-) -> Result<(), Memory>
-    ensures { OnOk result (parts_of out.new.items ≡ parts_of out.old.items ++ flat_map (told.in_attribute file) (map attribute_of attributes.now)) }
-{
-    'attributes: for attribute in attributes {
-        push_attribute(file, attribute, out)?;
-    }
-    Ok(())
-}
-
 fn push_definition<'a>(
     file: u32,
     definition: &'a RawType,
@@ -318,19 +286,6 @@ fn push_definition<'a>(
         RawType::Simple { name, body } => push_simple(file, None, Some(name), body, out),
         RawType::Complex { name, body } => push_complex(file, None, Some(name), body, out),
     }
-}
-
-fn push_definitions<'a>(
-    file: u32,
-    definitions: &'a [RawType],
-    out: &mut Vec<Part<'a>>,
-) -> Result<(), Memory>
-    ensures { OnOk result (parts_of out.new.items ≡ parts_of out.old.items ++ flat_map (told.in_definition file) (map type_of definitions.now)) }
-{
-    'definitions: for definition in definitions {
-        push_definition(file, definition, out)?;
-    }
-    Ok(())
 }
 
 fn push_local<'a>(file: u32, local: &'a RawLocal, out: &mut Vec<Part<'a>>) -> Result<(), Memory>
@@ -367,9 +322,15 @@ fn push_globals<'a>(
     ensures { OnOk result (parts_of out.new.items ≡ parts_of out.old.items
         ++ told.in_globals file (map element_of elements.now) (map attribute_of attributes.now) (map type_of types.now)) }
 {
-    push_elements(file, elements, out)?;
-    push_attributes(file, attributes, out)?;
-    push_definitions(file, types, out)?;
+    'elements: for element in elements {
+        push_element(file, element, out)?;
+    }
+    'attributes: for attribute in attributes {
+        push_attribute(file, attribute, out)?;
+    }
+    'definitions: for definition in types {
+        push_definition(file, definition, out)?;
+    }
     Ok(())
 }
 

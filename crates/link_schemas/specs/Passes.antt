@@ -1,5 +1,5 @@
--- The faults of linking, pass by pass (XML Schema Part 1, section 5): the first pass with a fault is the one that shows
--- it, and of its faults the one at the least file and place, at one place with the first reason.
+-- The faults of linking, pass by pass (XML Schema Part 1, section 5). The first pass with a fault shows it: the fault at the
+-- least file and place, and at one place that with the first reason.
 use Rattle.std.specs.Prelude.{◌⊎◌, List, [], ◌∷◌, Some, None}
 use Rattle.schema_components.specs.Raw.{Document}
 use Rattle.link_names.specs.declared.faults.LinkingFault.{LinkingFault}
@@ -28,24 +28,24 @@ IsFault docs Valuing f = IsMisfit docs f
 IsFault docs Comparing f = HasItem (double_uses docs) f ⊎ Differs docs f
 IsFault docs Clearing f = IsUnclear docs f
 
--- the first fault of the first of the passes that has one
+-- It is the first fault of the first pass that has one.
 abbrev pub IsShownBy : List Document → List Pass → LinkingFault → Type 0
 IsShownBy docs [] f = ⊥
 IsShownBy docs (p ∷ ps) f =
     IsFirstSuch (IsFault docs p) (Some f) ⊎ (IsFirstSuch (IsFault docs p) None × IsShownBy docs ps f)
 
--- none of the passes has a fault
+-- None of the passes has a fault.
 abbrev pub ArePassed : List Document → List Pass → Type 0
 ArePassed docs [] = Unit {0}
 ArePassed docs (p ∷ ps) = IsFirstSuch (IsFault docs p) None × ArePassed docs ps
 
--- those before any component is made, and those over complex types
+-- The passes before any component is made, and those over complex types.
 abbrev pub passes_of_names : List Pass
 passes_of_names = Counting ∷ Naming ∷ Resolving ∷ Ordering ∷ []
 
 abbrev pub passes_of_content : List Pass
 passes_of_content = Comparing ∷ Clearing ∷ []
 
--- all, in their order
+-- All passes, in their order.
 abbrev pub passes : List Pass
 passes = Counting ∷ Naming ∷ Resolving ∷ Ordering ∷ Making ∷ Valuing ∷ Comparing ∷ Clearing ∷ []

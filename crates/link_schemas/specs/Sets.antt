@@ -1,4 +1,4 @@
--- What linking answers: the set that the documents stand for, or the first fault of the first pass that has one.
+-- The result of linking: the set of the documents, or the first fault of the first pass that has one.
 use Rattle.std.specs.Prelude.{◌≡◌, ℕ, ◌+◌, List, map, Some, Result, Ok, Err, slice_get}
 use Rattle.std.specs.Prelude.{Vec}
 use Rattle.std.specs.Global.{Global}
@@ -15,20 +15,20 @@ use Rattle.link_schemas.specs.declared.passes.LinkError.{LinkError}
 use Rattle.link_schemas.specs.Answering.{shown}
 use Rattle.link_schemas.specs.Passes.{Pass, passes, IsShownBy, ArePassed}
 
--- the files are numbered from 1, in their order
+-- The files are numbered from 1, in their order.
 abbrev pub AreNumbered : List Document → Type 0
 AreNumbered docs = (k : ℕ) (d : Document) → slice_get docs k ≡ Some d → d.file ≡ k + 1
 
--- the simple types of the documents are made with these spaces, and the set is the one that has them
+-- The simple types of the documents are made with these spaces, and the set is the one that has them.
 abbrev pub IsSetOf : List Document → Set → Type 0
 IsSetOf docs s = (spaces : List Space) × IsMaking (simple_types docs) (map Some spaces) × (parts_of s ≡ set_of docs spaces)
 
--- the set, where no pass has a fault, and else the fault that the passes show; or for want of memory
+-- The set, if no pass has a fault, else the fault that the passes show, or out of memory.
 abbrev pub Links : List Document → Result Set LinkError → Type 0
 Links docs (Ok s) = ArePassed docs passes × IsSetOf docs s
 Links docs (Err e) = IfSome (shown e) (λ f. IsShownBy docs passes f)
 
--- the spaces of all simple types, where these passes have no fault, and else the fault that they show
+-- The spaces of all simple types, if these passes have no fault, else the fault that they show.
 abbrev pub AnswersSpaces : List Document → List Pass → Result (Vec Simple Global) LinkError → Type 0
 AnswersSpaces docs ps (Ok simples) = ArePassed docs ps × IsMaking (simple_types docs) (made_of simples.items) × AreSound simples.items
 AnswersSpaces docs ps (Err e) = IfSome (shown e) (λ f. IsShownBy docs ps f)

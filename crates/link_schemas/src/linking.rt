@@ -1,4 +1,4 @@
-//! Linking: several schema documents to one set.
+//! Links several schema documents into one set.
 ghost use Rattle.std.specs.Prelude.{◌≡◌, ◌≤◌, ◌∷◌, [], IsTrue, length, map, IfOk};
 ghost use Rattle.simple_types.specs.Seen.{space_of};
 ghost use Rattle.schema_components.specs.Documents.{doc_of};
@@ -17,7 +17,7 @@ use schema_components::{RawDoc, SchemaSet};
 use simple_types::Simple;
 use std::alloc::Global;
 
-// The passes behind the making of simple types.
+// Runs the passes after the making of simple types.
 fn checked(alloc: Global, docs: &[RawDoc], simples: &[Simple]) -> Result<(), LinkError>
     requires passed { ArePassed (map doc_of docs.now) passes_of_names }
     requires made { IsMaking (simple_types (map doc_of docs.now)) (made_of simples.now) }
@@ -28,7 +28,7 @@ fn checked(alloc: Global, docs: &[RawDoc], simples: &[Simple]) -> Result<(), Lin
     check_content(alloc, docs)
 }
 
-// The passes from the making of simple types on.
+// Runs the passes from the making of simple types on.
 fn made(alloc: Global, docs: &[RawDoc]) -> Result<Vec<Simple>, LinkError>
     requires { ArePassed (map doc_of docs.now) passes_of_names }
     ensures { AnswersSpaces (map doc_of docs.now) (Making ∷ Valuing ∷ Comparing ∷ Clearing ∷ []) result }
@@ -38,7 +38,7 @@ fn made(alloc: Global, docs: &[RawDoc]) -> Result<Vec<Simple>, LinkError>
     Ok(simples)
 }
 
-// All passes.
+// Runs all passes.
 fn passed(alloc: Global, docs: &[RawDoc]) -> Result<Vec<Simple>, LinkError>
     ensures { AnswersSpaces (map doc_of docs.now) passes result }
 {
@@ -46,7 +46,7 @@ fn passed(alloc: Global, docs: &[RawDoc]) -> Result<Vec<Simple>, LinkError>
     made(alloc, docs)
 }
 
-// The set of the documents, which hangs together since no pass has a fault.
+// Returns the set of the documents, which is consistent because no pass has a fault.
 fn assembled(alloc: Global, docs: &[RawDoc], spaces: Vec<Simple>) -> Result<SchemaSet, Memory>
     requires numbered { AreNumbered (map doc_of docs.now) }
     requires passed { ArePassed (map doc_of docs.now) passes }
@@ -64,7 +64,7 @@ fn assembled(alloc: Global, docs: &[RawDoc], spaces: Vec<Simple>) -> Result<Sche
     ))
 }
 
-/// Whether the documents have the file numbers 1, 2 and so on, in their order, as `link` wants them.
+/// Returns whether the documents have the file numbers 1, 2 and so on, in their order, as `link` requires.
 pub fn are_numbered(docs: &[RawDoc]) -> bool
     ensures only { IsTrue result → AreNumbered (map doc_of docs.now) }
     ensures all { AreNumbered (map doc_of docs.now) → IsTrue result }
@@ -77,10 +77,10 @@ pub fn are_numbered(docs: &[RawDoc]) -> bool
     true
 }
 
-/// The documents as one set, in which each name is resolved, or the first fault that the passes show. There are at most
-/// 64 of them, and the file numbers are 1, 2 and so on. The time grows as n log n with the size of the documents, beside
-/// what `link_simple::made` says of restricting and `link_names::first_circular` of cycles. That the set hangs together is
-/// proved, and nothing of it is tested.
+/// Returns the documents as one set, in which each name is resolved, or the first fault that the passes show. There are at most
+/// 64 documents, and their file numbers are 1, 2 and so on. The time grows as n log n with the size of the documents, in addition
+/// to what `link_simple::made` states of restricting and `link_names::first_circular` of cycles. The set is proved to be
+/// consistent, without any test at run time.
 pub fn link(alloc: Global, docs: &[RawDoc]) -> Result<SchemaSet, LinkError>
     requires few { length docs.now ≤ 64 }
     requires numbered { AreNumbered (map doc_of docs.now) }

@@ -23,11 +23,11 @@ use thiserror::Error;
 /// Why documents aren't linked.
 #[derive(Clone, Copy, Debug, PartialEq, Eq, Error)]
 pub enum LinkError {
-    /// The first fault: of the first pass with one, at the least file and place, and there the first reason. `file` is
-    /// the number that the document was read with, and `at` is in bytes from 0.
+    /// The first fault: that of the first pass with one, at the least file and place, and there the first reason. `file` is the
+    /// number that the document was read with, and `at` is in bytes from 0.
     #[error("file {file}, byte {at}: {why:?}")]
     Shown { file: u32, at: u64, why: LinkWhy },
-    /// Memory is missing.
+    /// Memory ran out.
     #[error("out of memory")]
     Memory,
 }
@@ -129,8 +129,8 @@ fn named_and_on(alloc: Global, docs: &[RawDoc]) -> Result<(), LinkError>
     resolved_and_ordered(alloc, docs)
 }
 
-/// The passes before any component is made: whether there are too many components, a name that stands twice, a
-/// reference that names nothing or a complex type where a simple one is needed, a simple type that is made of itself.
+/// Runs the passes before any component is made. They find too many components, a name that is declared twice, a reference that
+/// names nothing or a complex type where a simple one is needed, and a simple type that is made of itself.
 pub fn check_names(alloc: Global, docs: &[RawDoc]) -> Result<(), LinkError>
     ensures { AnswersPasses (map doc_of docs.now) passes_of_names result }
 {
@@ -138,8 +138,8 @@ pub fn check_names(alloc: Global, docs: &[RawDoc]) -> Result<(), LinkError>
     named_and_on(alloc, docs)
 }
 
-/// The pass that makes the simple types, where those of `check_names` have no fault: each restriction, list or union whose
-/// parts are made has to leave a type. The types stand in the order of `link_names::simple_types`.
+/// Makes the simple types, if the passes of `check_names` have no fault: each restriction, list or union whose parts are made
+/// must result in a type. The types are in the order of `link_names::simple_types`.
 pub fn make_simple_types(alloc: Global, docs: &[RawDoc]) -> Result<Vec<Simple>, LinkError>
     requires { ArePassed (map doc_of docs.now) passes_of_names }
     ensures { AnswersSimples (map doc_of docs.now) result }
@@ -155,8 +155,8 @@ pub fn make_simple_types(alloc: Global, docs: &[RawDoc]) -> Result<Vec<Simple>, 
     }
 }
 
-/// The pass over the default and fixed values of attributes, where those of `check_names` have no fault and all simple types
-/// are made: whether a type doesn't accept one, or a reference to a fixed attribute has another.
+/// Checks the default and fixed values of attributes, if the passes of `check_names` have no fault and all simple types are made.
+/// The fault is a value that its type doesn't accept, or a reference to a fixed attribute with another value.
 pub fn check_standards(alloc: Global, docs: &[RawDoc], simples: &[Simple]) -> Result<(), LinkError>
     requires passed { ArePassed (map doc_of docs.now) passes_of_names }
     requires made { IsMaking (simple_types (map doc_of docs.now)) (made_of simples.now) }
@@ -169,8 +169,8 @@ pub fn check_standards(alloc: Global, docs: &[RawDoc], simples: &[Simple]) -> Re
     }
 }
 
-/// The passes over complex types: whether two attributes of a type have one name or two element particles of one name
-/// have different types, and whether a content model can't be read without looking ahead.
+/// Runs the passes over complex types. They find two attributes of one name in a type, two element particles of one name with
+/// different types, and a content model that can't be read without lookahead.
 pub fn check_content(alloc: Global, docs: &[RawDoc]) -> Result<(), LinkError>
     ensures { AnswersPasses (map doc_of docs.now) passes_of_content result }
 {

@@ -5,13 +5,13 @@ use Rattle.simple_types.specs.declared.simples.Builtin.{Builtin}
 use Rattle.simple_types.specs.declared.simples.Builtin.TheVariants.{Boolean, Byte, Short, Int, Long, UnsignedByte, UnsignedShort, UnsignedInt, UnsignedLong, Integer, NonNegativeInteger, PositiveInteger, NonPositiveInteger, NegativeInteger, String, NormalizedString, Token, AnyUri, Language, NmToken, Name, NcName, NmTokens}
 use Rattle.link_set.specs.Written.{Lists}
 
--- all, in their order
+-- All built-in types, in their order.
 abbrev pub all_builtins : List Builtin
 all_builtins =
     Boolean ∷ Byte ∷ Short ∷ Int ∷ Long ∷ UnsignedByte ∷ UnsignedShort ∷ UnsignedInt ∷ UnsignedLong ∷ Integer ∷ NonNegativeInteger ∷ PositiveInteger
     ∷ NonPositiveInteger ∷ NegativeInteger ∷ String ∷ NormalizedString ∷ Token ∷ AnyUri ∷ Language ∷ NmToken ∷ Name ∷ NcName ∷ NmTokens ∷ []
 
--- the place in that order
+-- The place of a built-in type in that order.
 abbrev pub rank : Builtin → ℕ
 rank Boolean = 0
 rank Byte = 1
@@ -40,10 +40,10 @@ rank NmTokens = 22
 abbrev pub is_builtin : Builtin → Builtin → Bool
 is_builtin which other = nat_eq (rank other) (rank which)
 
--- one of them is this one
+-- One of the types named is this one.
 abbrev pub is_among : List Builtin → Builtin → Bool
 is_among named which = list_any (is_builtin which) named
 
--- each that is named once, in the order of all
+-- Each built-in type that is named, once, in the order of all.
 abbrev pub used_builtins : Lists → List Builtin
 used_builtins ls = filter (is_among ls.named) all_builtins

@@ -28,6 +28,6 @@ in_what other = []
 abbrev pub in_part : Part → List Builtin
 in_part p = in_what p.what
 
--- as often as they are named
+-- The built-in types, once for each time that they are named.
 abbrev pub named_builtins : List Document → List Builtin
 named_builtins docs = flat_map in_part (parts docs)

@@ -12,7 +12,7 @@ use Rattle.link_complex.specs.ComplexTypes.{ComplexDefinition}
 use Rattle.link_set.specs.Builtins.{is_builtin, used_builtins}
 use Rattle.link_set.specs.Written.{WrittenElement, Lists}
 
--- a component by its name, if it has one, and by the place where it was written
+-- A component by its name, if it has one, and by its place.
 pub record NamedPlace : Type 0 where
   pub name : Option Name
   pub place : Place
@@ -39,7 +39,7 @@ has_name a e = is_called e.name a
 abbrev pub stands_at : Place → NamedPlace → Bool
 stands_at p e = nat_eq e.place.file p.file && nat_eq e.place.at p.at
 
--- a number is the place in a list whose first has the number n
+-- A number is the place in a list whose first entry has the number n.
 
 abbrev pub number_named : ℕ → List NamedPlace → Name → Option ℕ
 number_named n es a = position_from (has_name a) n es
@@ -47,7 +47,7 @@ number_named n es a = position_from (has_name a) n es
 abbrev pub number_placed : ℕ → List NamedPlace → Place → Option ℕ
 number_placed n es p = position_from (stands_at p) n es
 
--- the numbers of one kind of types, by their names and by their places
+-- The numbers of one kind of types, by their names and by their places.
 pub record TypeNumbers : Type 0 where
   pub named : Name → Option ℕ
   pub placed : Place → Option ℕ
@@ -55,7 +55,7 @@ pub record TypeNumbers : Type 0 where
 abbrev pub type_numbers : List NamedPlace → TypeNumbers
 type_numbers es = record { named = number_named 0 es; placed = number_placed 0 es }
 
--- the numbers of all: of global elements by their names, of local ones by their places
+-- The numbers of all components: of global elements by their names, of local ones by their places.
 pub record ComponentNumbers : Type 0 where
   pub elements : Name → Option ℕ
   pub locals : Place → Option ℕ

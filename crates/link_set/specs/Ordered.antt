@@ -1,4 +1,4 @@
--- Lists put in order. Where neither of two stands before the other, they keep their order.
+-- Sorted lists. The sort is stable.
 use Rattle.std.specs.Prelude.{Bool, List, [], ◌∷◌, if◌then◌else◌}
 
 abbrev pub inserted : {A : Type 0} → (A → A → Bool) → A → List A → List A

@@ -1,4 +1,4 @@
--- What the parts of a set of the code stand for.
+-- The set that the code's parts represent.
 use Rattle.std.specs.Prelude.{IfSome}
 use Rattle.base_trees.specs.Rose.{Allowed}
 use Rattle.content_models.specs.Kids.{MayHave}
@@ -10,6 +10,6 @@ use Rattle.link_set.specs.declared.parts.SetParts.{SetParts as KeptParts}
 abbrev pub parts_made : KeptParts → SetParts
 parts_made p = parts_of (components p.elements.items p.globals p.simples.items p.complexes.items p.attributes.items)
 
--- in the content model, if there is one, each choice has an alternative and each `all` a particle, and nothing stands in an element
+-- If there is a content model, each choice in it has an alternative, each `all` a particle, and an element has no children.
 abbrev pub HasWholeModel : ComplexDef → Type 0
 HasWholeModel c = IfSome (model_of c.content) (Allowed MayHave)

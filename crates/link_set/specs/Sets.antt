@@ -1,6 +1,5 @@
--- The linked set that several documents stand for, in which no fault was found (XML Schema Part 1, sections 2.2 and 3.15.3):
--- each component once, with a number in place of each name and of each type that was written in place. Where a name names
--- nothing, which is a fault, the number here is 0.
+-- The linked set of several documents in which no fault was found (XML Schema Part 1, sections 2.2 and 3.15.3): each component
+-- once, with a number instead of each name and of each type in place. If a name names nothing, which is a fault, its number is 0.
 use Rattle.std.specs.Prelude.{ℕ, Bool, ◌-◌, List, [], ◌∷◌, ◌++◌, length, map, Option, Some, None, if◌then◌else◌, slice_get}
 use Rattle.base_texts.specs.declared.texts.Name.{Name}
 use Rattle.base_texts.specs.Names.{name_eq, name_cmp}
@@ -74,7 +73,7 @@ element ns e = record { name = e.element.name; nillable = e.element.nillable; ki
 abbrev pub elements : ComponentNumbers → Lists → List ElementDecl
 elements ns ls = map (element ns) ls.globals ++ map (element ns) ls.locals
 
--- with the text of its value constraint as written
+-- The attribute, with the text of its value constraint as written.
 abbrev pub attribute : ComponentNumbers → WrittenAttribute → GlobalAttribute
 attribute ns a = record { name = a.attribute.name; simple = simple_of_base ns a.file a.attribute.kind; standard = a.attribute.standard }
 
@@ -84,7 +83,7 @@ written_name a = a.attribute.name
 abbrev pub attributes : ComponentNumbers → List WrittenAttribute → List GlobalAttribute
 attributes ns as_ = map (attribute ns) as_
 
--- the first global attribute of this name
+-- The first global attribute of this name.
 abbrev pub named_attribute : List GlobalAttribute → Name → Option GlobalAttribute
 named_attribute [] a = None
 named_attribute (g ∷ gs) a = if name_eq g.name a then Some g else named_attribute gs a
@@ -99,7 +98,7 @@ abbrev pub simple_of_found : Option GlobalAttribute → ℕ
 simple_of_found None = 0
 simple_of_found (Some g) = g.simple
 
--- a reference has the type of the global attribute
+-- The type of an attribute use. A reference has the type of the global attribute.
 abbrev pub simple_of_use : ComponentNumbers → (Name → Option GlobalAttribute) → ℕ → Use → ℕ
 simple_of_use ns globals file u = if u.reference then simple_of_found (globals u.name) else type_of_use ns file u.kind
 
@@ -107,24 +106,24 @@ abbrev pub standard_of_found : Option GlobalAttribute → Standard
 standard_of_found None = Free
 standard_of_found (Some g) = g.standard
 
--- a value constraint of its own, or else the other one
+-- The value constraint of its own, or else the other one.
 abbrev pub own_or : Standard → Standard → Standard
 own_or Free other = other
 own_or (Default text) other = Default text
 own_or (Fixed text) other = Fixed text
 
--- what is required is never absent, so a default value says nothing of it
+-- A required use is never absent, so its default value is dropped.
 abbrev pub unless_required : Bool → Standard → Standard
 unless_required required Free = Free
 unless_required required (Default text) = if required then Free else Default text
 unless_required required (Fixed text) = Fixed text
 
--- a reference without one has that of the global attribute (sections 3.2.2 and 3.5.1)
+-- The value constraint of a use. A reference without one has that of the global attribute (sections 3.2.2 and 3.5.1).
 abbrev pub standard_of_use : (Name → Option GlobalAttribute) → Use → Standard
 standard_of_use globals u =
     unless_required u.required (own_or u.standard (if u.reference then standard_of_found (globals u.name) else Free))
 
--- with the text of its value constraint as written
+-- The attribute use, with the text of its value constraint as written.
 abbrev pub attribute_use : ComponentNumbers → (Name → Option GlobalAttribute) → ℕ → Use → AttributeUse
 attribute_use ns globals file u =
     record { name = u.name; simple = simple_of_use ns globals file u; required = u.required; standard = standard_of_use globals u }
@@ -132,11 +131,11 @@ attribute_use ns globals file u =
 abbrev pub use_before : AttributeUse → AttributeUse → Bool
 use_before a b = is_lt (name_cmp a.name b.name)
 
--- the uses of a complex type, in the order of their names
+-- The uses of a complex type, in the order of their names.
 abbrev pub uses : ComponentNumbers → (Name → Option GlobalAttribute) → ComplexDefinition → List AttributeUse
 uses ns globals c = in_order use_before (map (attribute_use ns globals c.place.file) c.body.uses)
 
--- the element that a local declaration is: a global one by its name, or this one by its place
+-- The element that a local declaration is: a global one by its name, or this one by its place.
 abbrev pub number_of_local : ComponentNumbers → ℕ → Local → ℕ
 number_of_local ns file (Reference name at) = or_zero (ns.elements name)
 number_of_local ns file (Own e) = or_zero (ns.locals (place file e.at))
@@ -152,7 +151,7 @@ abbrev pub number_in_found : ComponentNumbers → ℕ → Option Document → �
 number_in_found ns file None n = 0
 number_in_found ns file (Some d) n = number_in ns file d n
 
--- the number in the set of the local declaration with a number in its file; the number of the first file is 1
+-- The number in the set of the local declaration with a number in its file. The number of the first file is 1.
 abbrev pub number_of_declaration : ComponentNumbers → List Document → ℕ → ℕ → ℕ
 number_of_declaration ns docs file n = number_in_found ns file (slice_get docs (file - 1)) n
 
@@ -192,7 +191,7 @@ complexes ns docs ls = map (complex ns (named_attribute (attributes ns ls.attrib
 
 -- ---- simple types
 
--- a definition with its space
+-- A definition with its space.
 pub record MadeType : Type 0 where
   pub definition : SimpleDefinition
   pub space : Space
@@ -211,11 +210,11 @@ made_before a b = is_before a.definition.place b.definition.place
 abbrev pub space_of_made : MadeType → NamedSpace
 space_of_made t = record { name = t.definition.name; space = t.space }
 
--- a built-in type has no name
+-- A built-in type, which has no name.
 abbrev pub space_of_builtin : Builtin → NamedSpace
 space_of_builtin which = record { name = None; space = builtin_space which }
 
--- those of the documents by files and places, and then the built-in ones
+-- The simple types of the documents by files and places, and then the built-in ones.
 abbrev pub simples : List SimpleDefinition → List Space → List Builtin → List NamedSpace
 simples ds spaces used = map space_of_made (in_order made_before (made_types ds spaces)) ++ map space_of_builtin used
 
@@ -224,7 +223,7 @@ simples ds spaces used = map space_of_made (in_order made_before (made_types ds 
 abbrev pub space_at : List NamedSpace → ℕ → Option Space
 space_at ts n = option_map (λ (t : NamedSpace). t.space) (slice_get ts n)
 
--- where the type doesn't accept the text, which is a fault, there is none here
+-- The value constraint, or none if the type doesn't accept the text, which is a fault.
 abbrev pub or_free : Option Standard → Standard
 or_free None = Free
 or_free (Some standard) = standard
@@ -253,6 +252,6 @@ set_with docs ls ns spaces =
       attributes = map (spelled_attribute (simples (simple_types docs) spaces (used_builtins ls))) (attributes ns ls.attributes);
     }
 
--- the set of documents whose simple types, by their numbers in `simple_types`, have these spaces
+-- The set of documents whose simple types, by their numbers in `simple_types`, have these spaces.
 abbrev pub set_of : List Document → List Space → SetParts
 set_of docs spaces = set_with docs (lists_of docs) (numbers_in (lists_of docs)) spaces

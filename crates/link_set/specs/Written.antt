@@ -10,7 +10,7 @@ use Rattle.link_complex.specs.ComplexTypes.{ComplexDefinition, complex_types}
 use Rattle.link_set.specs.NamedBuiltins.{named_builtins}
 use Rattle.link_set.specs.Ordered.{in_order}
 
--- an element declaration, and the number of the file in which it was written
+-- An element declaration, and the number of the file in which it was written.
 pub record WrittenElement : Type 0 where
   pub file : ℕ
   pub element : Element
@@ -25,7 +25,7 @@ written_element file e = record { file = file; element = e }
 abbrev pub written_attribute : ℕ → Attribute → WrittenAttribute
 written_attribute file a = record { file = file; attribute = a }
 
--- a reference declares nothing
+-- The element that a local declaration declares. A reference declares none.
 abbrev pub declared_by : ℕ → Local → List WrittenElement
 declared_by file (Reference name at) = []
 declared_by file (Own e) = written_element file e ∷ []
@@ -51,7 +51,7 @@ simples_in_order docs = in_order simple_before (simple_types docs)
 abbrev pub complexes_in_order : List Document → List ComplexDefinition
 complexes_in_order docs = in_order complex_before (complex_types docs)
 
--- the components of each kind, in the order of their numbers, and the built-in types that they name
+-- The components of each kind, in the order of their numbers, and the built-in types that they name.
 pub record Lists : Type 0 where
   pub globals : List WrittenElement
   pub locals : List WrittenElement

@@ -41,7 +41,7 @@ const BUILTINS: [Builtin; 23] = [
     Builtin::NmTokens,
 ];
 
-/// The place of a built-in type in their order, from 0.
+/// Returns the place of a built-in type in their order, from 0.
 pub(crate) fn rank(which: Builtin) -> u32
     ensures { result ≡ told.rank which }
 {
@@ -121,7 +121,7 @@ fn push_parts(parts: &[Part<'_>], out: &mut Vec<Builtin>) -> Result<(), Memory>
     Ok(())
 }
 
-/// The built-in types that elements, attributes and extensions name, as often as they do.
+/// Returns the built-in types that elements, attributes and extensions name, once for each time that they are named.
 pub(crate) fn named_builtins(alloc: Global, docs: &[RawDoc]) -> Result<Vec<Builtin>, Memory>
     ensures { IfOk result (λ named. named.items ≡ named_told.named_builtins (map doc_of docs.now)) }
 {
@@ -149,14 +149,14 @@ fn those_among(alloc: Global, all: &[Builtin], named: &[Builtin]) -> Result<Vec<
     Ok(used)
 }
 
-/// Those of the built-in types that are named, each once and in their order.
+/// Returns the built-in types that are named, each once and in their order.
 fn those_in_order(alloc: Global, named: &[Builtin]) -> Result<Vec<Builtin>, Memory>
     ensures { IfOk result (λ used. used.items ≡ filter (told.is_among named.now) told.all_builtins) }
 {
     those_among(alloc, &BUILTINS, named)
 }
 
-/// The built-in types that a set has, in the order of their numbers.
+/// Returns the built-in types that a set has, in the order of their numbers.
 pub(crate) fn used_builtins(alloc: Global, listed: &Listed<'_>) -> Result<Vec<Builtin>, Memory>
     ensures { IfOk result (λ used. used.items ≡ told.used_builtins (listed_by listed.now)) }
 {

@@ -1,4 +1,4 @@
-//! Complex types with the numbers of what they name.
+//! Complex types, with the numbers of the components that they name.
 ghost use Rattle.std.specs.Prelude.{◌≡◌, Some, map, IfOk, IfSome, if◌then◌else◌};
 ghost use Rattle.std.specs.List.{All};
 ghost use Rattle.std.specs.Option.{option_map};
@@ -33,7 +33,7 @@ fn uses_by_name(mut uses: Vec<AttributeUse>) -> Result<Vec<AttributeUse>, Memory
     Ok(uses)
 }
 
-/// The name, if there is one.
+/// Returns a copy of the name, if there is one.
 pub(crate) fn name_copy(alloc: Global, name: Option<&Name>) -> Result<Option<Name>, Memory>
     ensures { IfOk result (λ copy. copy ≡ option_map (λ a. a.now) name.entry) }
 {
@@ -77,7 +77,7 @@ fn named_standard<'a>(
     standard_of(alloc, globals.first(&attribute.name))
 }
 
-// Its own, or else that of the attribute that it names.
+// Returns its own value constraint, or else that of the attribute that it names.
 fn own_or_named<'a>(
     alloc: Global,
     globals: &AttributeNames<'a, '_>,
@@ -312,7 +312,7 @@ impl<'a> ComponentNumbers<'a> {
         })
     }
 
-    /// The complex types, where the global attributes are these, with the texts of default and fixed values as written.
+    /// Returns the complex types, if the global attributes are these, with the texts of default and fixed values as written.
     pub(crate) fn complexes(
         &self,
         alloc: Global,

@@ -43,7 +43,7 @@ impl<'a> ComponentNumbers<'a> {
         Ok(())
     }
 
-    /// The element declarations: the global ones, and then the local ones.
+    /// Returns the element declarations: the global ones, and then the local ones.
     pub(crate) fn elements(
         &self,
         alloc: Global,
@@ -73,7 +73,7 @@ impl<'a> ComponentNumbers<'a> {
         })
     }
 
-    /// The global attributes, with the texts of their default and fixed values as written.
+    /// Returns the global attributes, with the texts of their default and fixed values as written.
     pub(crate) fn attributes(
         &self,
         alloc: Global,
@@ -90,7 +90,7 @@ impl<'a> ComponentNumbers<'a> {
     }
 }
 
-/// Global attributes by their names: of each name, the first.
+/// Global attributes by their names: for each name, the first.
 #[derive(Drop)]
 pub(crate) struct AttributeNames<'a, 'm> {
     named: BTreeMap<&'a Name, &'m GlobalAttribute>,
@@ -108,8 +108,8 @@ fn put_attribute<'a, 'm>(
 }
 
 impl<'a, 'm> AttributeNames<'a, 'm> {
-    /// Of these, which were made of those that were written. The last is put first, so that each name has the first that has
-    /// it.
+    /// Returns the names of these attributes, which were made from those written. It inserts the last first, so that each name
+    /// has the first attribute that has it.
     pub(crate) fn of(
         alloc: Global,
         written: &[WrittenAttribute<'a>],
@@ -128,7 +128,7 @@ impl<'a, 'm> AttributeNames<'a, 'm> {
         Ok(AttributeNames { named })
     }
 
-    /// The first of this name.
+    /// Returns the first attribute of this name.
     pub(crate) fn first(&self, name: &'a Name) -> Option<&'m GlobalAttribute>
         ensures { option_map (λ g. g.now) result ≡ found_in self.now name.now }
     {

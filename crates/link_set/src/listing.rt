@@ -11,7 +11,7 @@ ghost use Rattle.link_set.specs.Private.Told.{listed_by};
 use crate::builtins::named_builtins;
 use crate::ordering::{complexes_in_order, simples_in_order};
 use crate::written::{
-    WrittenAttribute, WrittenElement, global_attributes, global_elements, local_elements,
+    WrittenAttribute, WrittenElement, global_attributes, push_globals, push_locals,
 };
 use base_texts::Memory;
 use link_complex::ComplexType;
@@ -32,7 +32,7 @@ pub(crate) struct ListedElements<'a> {
 pub(crate) struct ListedTypes<'a> {
     pub simples: Vec<SimpleType<'a>>,
     pub complexes: Vec<ComplexType<'a>>,
-    /// The built-in types that elements, attributes and extensions name, as often as they do.
+    /// The built-in types that elements, attributes and extensions name, once for each time that they are named.
     pub named: Vec<Builtin>,
 }
 
@@ -48,8 +48,12 @@ impl<'a> ListedElements<'a> {
     fn of(alloc: Global, docs: &'a [RawDoc]) -> Result<ListedElements<'a>, Memory>
         ensures { IfOk result (λ listed. (elements_of listed.globals.items ≡ told.global_elements (map doc_of docs.now)) × (elements_of listed.locals.items ≡ told.local_elements (map doc_of docs.now))) }
     {
-        let globals = global_elements(alloc, docs)?;
-        let locals = local_elements(alloc, docs)?;
+        let mut globals = Vec::new(alloc);
+        let mut locals = Vec::new(alloc);
+        'docs: for doc in docs {
+            push_globals(doc, &mut globals)?;
+            push_locals(doc, &mut locals)?;
+        }
         Ok(ListedElements { globals, locals })
     }
 }
@@ -70,7 +74,7 @@ impl<'a> ListedTypes<'a> {
 }
 
 impl<'a> Listed<'a> {
-    /// Those of the documents.
+    /// Returns the components of the documents.
     pub(crate) fn of(alloc: Global, docs: &'a [RawDoc]) -> Result<Listed<'a>, Memory>
         ensures { IfOk result (λ listed. listed_by listed ≡ told.lists_of (map doc_of docs.now)) }
     {

@@ -22,7 +22,7 @@ pub(crate) struct NamedPlace<'a> {
     pub place: Place,
 }
 
-/// Puts the number at the name, if there is one.
+/// Inserts the number for the name, if there is one.
 pub(crate) fn put_name<'a>(
     table: &mut BTreeMap<&'a Name, u32>,
     name: Option<&'a Name>,
@@ -39,8 +39,8 @@ pub(crate) fn put_name<'a>(
     }
 }
 
-/// The numbers of components by their names, where that of the first is `first`. The last is put first, so that each name
-/// has the number of the first that has it.
+/// Returns the numbers of components by their names, where that of the first is `first`. It inserts the last first, so that each
+/// name has the number of the first component that has it.
 pub(crate) fn by_name<'a>(
     alloc: Global,
     first: u32,
@@ -59,7 +59,7 @@ pub(crate) fn by_name<'a>(
     Ok(table)
 }
 
-/// The numbers of components by the places where they were written, where that of the first is `first`.
+/// Returns the numbers of components by the places where they were written, where that of the first is `first`.
 pub(crate) fn by_place(
     alloc: Global,
     first: u32,
@@ -79,7 +79,7 @@ pub(crate) fn by_place(
     Ok(table)
 }
 
-/// The numbers of built-in types by their ranks.
+/// Returns the numbers of built-in types by their ranks.
 pub(crate) fn by_rank(
     alloc: Global,
     first: u32,

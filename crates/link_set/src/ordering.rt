@@ -26,7 +26,7 @@ fn complexes_by_place<'a>(mut found: Vec<ComplexType<'a>>) -> Result<Vec<Complex
     Ok(found)
 }
 
-/// The simple types, in the order of their numbers.
+/// Returns the simple types, in the order of their numbers.
 pub(crate) fn simples_in_order<'a>(
     alloc: Global,
     docs: &'a [RawDoc],
@@ -37,7 +37,7 @@ pub(crate) fn simples_in_order<'a>(
     simples_by_place(found)
 }
 
-/// The complex types, in the order of their numbers.
+/// Returns the complex types, in the order of their numbers.
 pub(crate) fn complexes_in_order<'a>(
     alloc: Global,
     docs: &'a [RawDoc],

@@ -1,4 +1,4 @@
-//! The parts of the set that several documents stand for.
+//! The parts of the set of several documents.
 ghost use Rattle.std.specs.Prelude.{◌≡◌, length, map, IfOk};
 ghost use Rattle.std.specs.List.{All};
 ghost use Rattle.simple_types.specs.Seen.{space_of};
@@ -34,7 +34,7 @@ pub struct SetParts {
     pub attributes: Vec<GlobalAttribute>,
 }
 
-/// The components of a set but for its simple types, with the texts of default and fixed values as written.
+/// The components of a set without its simple types, with the texts of default and fixed values as written.
 #[derive(Drop)]
 struct Declarations {
     elements: Vec<ElementDecl>,
@@ -43,7 +43,7 @@ struct Declarations {
     attributes: Vec<GlobalAttribute>,
 }
 
-// The complex types, where these are the global attributes.
+// Returns the complex types, if these are the global attributes.
 fn complexes<'a>(
     alloc: Global,
     docs: &'a [RawDoc],
@@ -84,7 +84,7 @@ fn declared<'a>(
     })
 }
 
-// The set of these components, with default and fixed values in canonical spelling.
+// Returns the set of these components, with default and fixed values in canonical spelling.
 fn spelled(
     alloc: Global,
     simples: Vec<SimpleDef>,
@@ -109,8 +109,8 @@ fn spelled(
     })
 }
 
-/// The parts of the set of the documents, of which there are few, and whose simple types have these spaces in the order of
-/// `link_names::simple_types`. The time grows as n log n with the number of components.
+/// Returns the parts of the set of the documents, which have few components, and whose simple types have these spaces in the
+/// order of `link_names::simple_types`. The time grows as n log n with the number of components.
 pub fn set_parts(alloc: Global, docs: &[RawDoc], spaces: Vec<Simple>) -> Result<SetParts, Memory>
     requires few { AreFew (lists_of (map doc_of docs.now)) }
     requires sound { AreSound spaces.items }

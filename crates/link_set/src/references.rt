@@ -14,7 +14,7 @@ use schema_components::{RawBase, RawDoc, RawKind, RawLocal, RawRef, TypeOf};
 use simple_types::Builtin;
 use std::collections::BTreeMap;
 
-/// The number at the name.
+/// Returns the number for the name.
 pub(crate) fn number_named<'a>(table: &BTreeMap<&'a Name, u32>, name: &'a Name) -> Option<u32>
     ensures { result ≡ named_in table.now name.now }
 {
@@ -42,7 +42,7 @@ fn number_ranked(table: &BTreeMap<u32, u32>, which: Builtin) -> Option<u32>
     }
 }
 
-/// The number, or 0 where there is none.
+/// Returns the number, or 0 if there is none.
 pub(crate) fn or_zero(number: Option<u32>) -> u32
     ensures { result ≡ told.or_zero number }
 {
@@ -94,7 +94,7 @@ impl<'a> ComponentNumbers<'a> {
         }
     }
 
-    /// The type of an element of the file.
+    /// Returns the type of an element of the file.
     pub(crate) fn type_of_kind(&self, file: u32, kind: &'a RawKind) -> TypeOf
         ensures { result ≡ told.type_of_kind (told_by self.now) file (kind_of kind.now) }
     {
@@ -105,7 +105,7 @@ impl<'a> ComponentNumbers<'a> {
         }
     }
 
-    /// The simple type that is named.
+    /// Returns the number of the simple type that is named.
     pub(crate) fn simple_of_reference(&self, reference: &'a RawRef) -> u32
         ensures { result ≡ told.simple_of_reference (told_by self.now) reference.now }
     {
@@ -115,7 +115,7 @@ impl<'a> ComponentNumbers<'a> {
         }
     }
 
-    /// The simple type that is named, or written in place in the file.
+    /// Returns the number of the simple type that is named, or in place in the file.
     pub(crate) fn simple_of_base(&self, file: u32, base: &'a RawBase) -> u32
         ensures { result ≡ told.simple_of_base (told_by self.now) file (base_of base.now) }
     {
@@ -145,7 +145,7 @@ impl<'a> ComponentNumbers<'a> {
         0
     }
 
-    /// The element that the local declaration with the number in its file is.
+    /// Returns the number of the element that the local declaration with this number in its file is.
     pub(crate) fn number_of_declaration(&self, docs: &'a [RawDoc], file: u32, n: u32) -> u32
         ensures { result ≡ told.number_of_declaration (told_by self.now) (map doc_of docs.now) file n }
     {

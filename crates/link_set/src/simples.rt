@@ -22,7 +22,7 @@ pub(crate) struct MadeType<'a> {
     space: Simple,
 }
 
-// Each definition with the space of its number. A space without a definition is left out.
+// Returns each definition with the space of its number. A space without a definition is dropped.
 fn made_types<'a>(
     alloc: Global,
     definitions: &[SimpleType<'a>],
@@ -87,7 +87,7 @@ fn defined<'a>(
     simple_defs(alloc, sorted)
 }
 
-/// The simple types: those of the documents, which have these spaces in the order of `link_names::simple_types`, and then
+/// Returns the simple types: those of the documents, which have these spaces in the order of `link_names::simple_types`, and then
 /// the built-in ones.
 pub(crate) fn simples(
     alloc: Global,

@@ -21,7 +21,7 @@ fn or_free(found: Option<Standard>) -> Standard
     }
 }
 
-// By the simple type with this number.
+// Returns the value constraint in the canonical spelling of the simple type with this number.
 fn spelled_standard(
     alloc: Global,
     simples: &[SimpleDef],

@@ -50,7 +50,7 @@ pub(crate) struct ComponentNumbers<'a> {
     pub types: AllTypeNumbers<'a>,
 }
 
-/// The number of parts as a `u32`.
+/// Returns the number of parts as a `u32`.
 pub(crate) fn count(length: usize) -> u32
     requires { length ≤ 65536 }
     ensures { result ≡ length }
@@ -221,7 +221,7 @@ impl<'a> AllTypeNumbers<'a> {
 }
 
 impl<'a> ComponentNumbers<'a> {
-    /// The numbers of these components and of the built-in types that they use.
+    /// Returns the numbers of these components and of the built-in types that they use.
     pub(crate) fn of(
         alloc: Global,
         listed: &Listed<'a>,

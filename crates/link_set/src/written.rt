@@ -24,7 +24,11 @@ pub(crate) struct WrittenAttribute<'a> {
     pub attribute: &'a RawAttribute,
 }
 
-fn push_globals<'a>(doc: &'a RawDoc, out: &mut Vec<WrittenElement<'a>>) -> Result<(), Memory>
+/// Appends the global elements of a document.
+pub(crate) fn push_globals<'a>(
+    doc: &'a RawDoc,
+    out: &mut Vec<WrittenElement<'a>>,
+) -> Result<(), Memory>
     ensures { OnOk result (elements_of out.new.items ≡ elements_of out.old.items ++ map (told.written_element (doc_of doc.now).file) (doc_of doc.now).elements) }
 {
     let file = doc.file();
@@ -32,20 +36,6 @@ fn push_globals<'a>(doc: &'a RawDoc, out: &mut Vec<WrittenElement<'a>>) -> Resul
         out.push(WrittenElement { file, element })?;
     }
     Ok(())
-}
-
-/// The global elements.
-pub(crate) fn global_elements<'a>(
-    alloc: Global,
-    docs: &'a [RawDoc],
-) -> Result<Vec<WrittenElement<'a>>, Memory>
-    ensures { IfOk result (λ found. elements_of found.items ≡ told.global_elements (map doc_of docs.now)) }
-{
-    let mut found = Vec::new(alloc);
-    'docs: for doc in docs {
-        push_globals(doc, &mut found)?;
-    }
-    Ok(found)
 }
 
 fn push_local<'a>(
@@ -64,7 +54,11 @@ fn push_local<'a>(
     }
 }
 
-fn push_locals<'a>(doc: &'a RawDoc, out: &mut Vec<WrittenElement<'a>>) -> Result<(), Memory>
+/// Appends the local elements of a document that aren't references.
+pub(crate) fn push_locals<'a>(
+    doc: &'a RawDoc,
+    out: &mut Vec<WrittenElement<'a>>,
+) -> Result<(), Memory>
     ensures { OnOk result (elements_of out.new.items ≡ elements_of out.old.items ++ flat_map (told.declared_by (doc_of doc.now).file) (doc_of doc.now).locals) }
 {
     let file = doc.file();
@@ -72,20 +66,6 @@ fn push_locals<'a>(doc: &'a RawDoc, out: &mut Vec<WrittenElement<'a>>) -> Result
         push_local(file, doc.local(n), out)?;
     }
     Ok(())
-}
-
-/// The local elements that aren't references.
-pub(crate) fn local_elements<'a>(
-    alloc: Global,
-    docs: &'a [RawDoc],
-) -> Result<Vec<WrittenElement<'a>>, Memory>
-    ensures { IfOk result (λ found. elements_of found.items ≡ told.local_elements (map doc_of docs.now)) }
-{
-    let mut found = Vec::new(alloc);
-    'docs: for doc in docs {
-        push_locals(doc, &mut found)?;
-    }
-    Ok(found)
 }
 
 fn push_attributes<'a>(doc: &'a RawDoc, out: &mut Vec<WrittenAttribute<'a>>) -> Result<(), Memory>
@@ -98,7 +78,7 @@ fn push_attributes<'a>(doc: &'a RawDoc, out: &mut Vec<WrittenAttribute<'a>>) -> 
     Ok(())
 }
 
-/// The global attributes.
+/// Returns the global attributes.
 pub(crate) fn global_attributes<'a>(
     alloc: Global,
     docs: &'a [RawDoc],

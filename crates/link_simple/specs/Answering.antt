@@ -1,4 +1,4 @@
--- How the making of simple types is answered.
+-- The results of making simple types.
 use Rattle.std.specs.Prelude.{List, Option, Some, None, map, Result, Ok, Err, IfSome}
 use Rattle.std.specs.List.{All}
 use Rattle.std.specs.Global.{Global}
@@ -15,19 +15,19 @@ use Rattle.link_simple.specs.declared.making.MakingError.{MakingError}
 use Rattle.link_simple.specs.declared.making.MakingError.TheVariants as error
 use Rattle.link_simple.specs.Making.{IsMaking, IsNotMadeOf}
 
--- each is made
+-- The list of spaces in which each type is made.
 abbrev pub made_of : List Simple → List (Option Space)
 made_of simples = map (λ s. Some (space_of s)) simples
 
 abbrev pub AreSound : List Simple → Type 0
 AreSound simples = All (λ s. Sound (space_of s)) simples
 
--- the fault that an error shows; none where memory was missing
+-- The fault that an error shows; none if memory ran out.
 abbrev pub shown_by : MakingError → Option LinkingFault
 shown_by (error.Shown f) = Some f
 shown_by error.Memory = None
 
--- the spaces of all these definitions, or the first fault; or for want of memory
+-- The spaces of all these definitions, or the first fault, or out of memory.
 abbrev pub AnswersMakingOf : List SimpleDefinition → Result (Vec Simple Global) MakingError → Type 0
 AnswersMakingOf ds (Ok simples) = IsMaking ds (made_of simples.items) × AreSound simples.items × IsFirstSuch (IsNotMadeOf ds) None
 AnswersMakingOf ds (Err e) = IfSome (shown_by e) (λ f. IsFirstSuch (IsNotMadeOf ds) (Some f))

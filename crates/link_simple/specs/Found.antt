@@ -1,4 +1,4 @@
--- What the names of the code lead to.
+-- The global attributes that the names of the code lead to.
 use Rattle.std.specs.Prelude.{ℕ, List, Option, Some, None, slice_get}
 use Rattle.base_texts.specs.declared.texts.Name.{Name}
 use Rattle.link_names.specs.Tables.{named_in}
@@ -11,6 +11,6 @@ abbrev pub one_at : List Declared → Option ℕ → Option rule.Declared
 one_at ds None = None
 one_at ds (Some n) = slice_get (declared_of ds) n
 
--- what the names tell of a name
+-- The attribute that the names have for a name.
 abbrev pub found_in : DeclaredNames → Name → Option rule.Declared
 found_in names a = one_at names.declared.items (named_in names.named a)

@@ -1,7 +1,7 @@
--- How the simple types of several documents are made (XML Schema Part 2, section 4.1.2): a restriction from its base, a
--- list from its item, a union from its members. The spaces are one list, by the numbers of the definitions, with none
--- where a type can't be made. It is told of the whole list that each entry is what the entries of its parts leave; where
--- no type is made of itself, one list fits.
+-- How the simple types of several documents are made (XML Schema Part 2, section 4.1.2): a restriction from its base, a list from
+-- its item, a union from its members. The spaces are one list, by the numbers of the definitions, with None for a type that can't
+-- be made. The rule relates each entry of the complete list to the entries of its parts. If no type is made of itself, exactly
+-- one list fits.
 use Rattle.std.specs.Prelude.{◌≡◌, ◌⊎◌, ℕ, zero, suc, List, [], ◌∷◌, length, Option, Some, None, Result, Ok, Err, IsErr, if◌then◌else◌, slice_get}
 use Rattle.simple_types.specs.Builtins.{builtin_space}
 use Rattle.simple_types.specs.Joining.{flattened}
@@ -21,7 +21,7 @@ use Rattle.link_names.specs.Order.{place}
 use Rattle.link_names.specs.Cycles.{SimpleNumbers, numbers_in}
 use Rattle.link_names.specs.SimpleTypes.{SimpleDefinition, simple_types}
 
--- the space with the number, if that type is made
+-- The space with the number, if that type is made.
 abbrev pub entry_at : List (Option Space) → ℕ → Option Space
 entry_at [] n = None
 entry_at (o ∷ os) zero = o
@@ -31,7 +31,7 @@ abbrev pub space_at : List (Option Space) → Option ℕ → Option Space
 space_at made None = None
 space_at made (Some n) = entry_at made n
 
--- the space of a base, an item or a member
+-- The space of a base, an item or a member, if it is made.
 abbrev pub part_space : SimpleNumbers → List (Option Space) → ℕ → Base → Option Space
 part_space ns made file (Named (reference.Builtin which)) = Some (builtin_space which)
 part_space ns made file (Named (reference.Other name)) = space_at made (ns.named name)
@@ -42,30 +42,30 @@ with_space None others = None
 with_space (Some s) None = None
 with_space (Some s) (Some ss) = Some (space.more s ss)
 
--- those of all members, if each is made
+-- The spaces of all members, if each is made.
 abbrev pub part_spaces : SimpleNumbers → List (Option Space) → ℕ → Bases → Option Spaces
 part_spaces ns made file none = Some space.none
 part_spaces ns made file (more b bs) = with_space (part_space ns made file b) (part_spaces ns made file bs)
 
--- what a base leaves: a space, or why there is none
+-- The result of restricting a base, if it is made: a space, or the reason against it.
 abbrev pub IsRestriction : Option Space → List Facet → Result Space LinkWhy → Type 0
 IsRestriction None facets r = ⊥
 IsRestriction (Some base) facets (Ok s) = Restricted base facets (Ok s)
 IsRestriction (Some base) facets (Err w) = (reason : FacetWhy) × (w ≡ why.Facet reason) × Restricted base facets (Err reason)
 
--- no list of lists (section 2.5.1.2)
+-- The result of making a list, if its item is made. There are no lists of lists (section 2.5.1.2).
 abbrev pub IsList : Option Space → Result Space LinkWhy → Type 0
 IsList None r = ⊥
 IsList (Some item) r = r ≡ (if has_list item then Err why.BadItem else Ok (space.ListOf item 0 None))
 
--- the members of inner unions stand in their place (section 2.5.1.3)
+-- The result of making a union, if its members are made. The members of inner unions replace those unions (section 2.5.1.3).
 abbrev pub IsUnion : Option Spaces → Result Space LinkWhy → Type 0
 IsUnion None r = ⊥
 IsUnion (Some members) r =
     (AreWithinLimits (flattened members) × (r ≡ Ok (space.UnionOf (flattened members))))
     ⊎ ((¬ AreWithinLimits (flattened members)) × (r ≡ Err why.Limit))
 
--- what the parts of a type leave, if each is made
+-- The result of making a type from its parts, if each is made.
 abbrev pub IsLeft : SimpleNumbers → List (Option Space) → ℕ → How → Result Space LinkWhy → Type 0
 IsLeft ns made file (Restrict base facets) r = IsRestriction (part_space ns made file base) facets r
 IsLeft ns made file (ListOf item) r = IsList (part_space ns made file item) r
@@ -75,12 +75,12 @@ abbrev pub IsEntry : SimpleNumbers → List (Option Space) → SimpleDefinition 
 IsEntry ns made d (Some s) = IsLeft ns made d.place.file d.how (Ok s)
 IsEntry ns made d None = (r : Result Space LinkWhy) → IsLeft ns made d.place.file d.how r → IsErr r
 
--- the spaces of these definitions: one entry for each
+-- The list has one entry for each definition: its space, or None if it can't be made.
 abbrev pub IsMaking : List SimpleDefinition → List (Option Space) → Type 0
 IsMaking ds made = (length made ≡ length ds)
     × ((n : ℕ) (d : SimpleDefinition) → slice_get ds n ≡ Some d → IsEntry (numbers_in ds) made d (entry_at made n))
 
--- at the `restriction`, `list` or `union` of a type that can't be made, although each of its parts is made
+-- The fault is at the `restriction`, `list` or `union` of a type that can't be made, although each of its parts is made.
 abbrev pub IsNotMadeOf : List SimpleDefinition → LinkingFault → Type 0
 IsNotMadeOf ds f =
     (made : List (Option Space)) × IsMaking ds made

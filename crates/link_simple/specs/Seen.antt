@@ -1,4 +1,4 @@
--- What the types that the code has stand for.
+-- The spaces of the types that the code has.
 use Rattle.simple_types.specs.Seen.{space_of}
 use Rattle.simple_types.specs.Space.{Space}
 use Rattle.link_simple.specs.declared.parts.Part.{Part}

@@ -1,5 +1,5 @@
--- The value constraint of an attribute beside its type (XML Schema Part 1, sections 3.2.1 and 3.2.6): the text as written, and
--- the canonical spelling of the value that it gives.
+-- The value constraint of an attribute with its type (XML Schema Part 1, sections 3.2.1 and 3.2.6): the text as written, and the
+-- canonical spelling of the value that it gives.
 use Rattle.std.specs.Prelude.{ℕ, List, Option, Some, None, Ok, Err}
 use Rattle.simple_types.specs.Space.{Space}
 use Rattle.simple_types.specs.declared.standards.Standard.{Standard}
@@ -10,7 +10,7 @@ abbrev pub spelled_as : Space → Reading → Option (List ℕ)
 spelled_as s (Ok value) = Some (spelled s value)
 spelled_as s (Err why) = None
 
--- the canonical spelling of what the type reads; none where it doesn't accept the text, or where there is no type
+-- The canonical spelling of the value that the type reads; none if it doesn't accept the text, or if there is no type.
 abbrev pub spelling : Option Space → List ℕ → Option (List ℕ)
 spelling None text = None
 spelling (Some s) text = spelled_as s (reads s text)
@@ -23,7 +23,7 @@ abbrev pub as_fixed : Option (List ℕ) → Option Standard
 as_fixed None = None
 as_fixed (Some text) = Some (Fixed text)
 
--- the value constraint in canonical spelling, where the type accepts its text
+-- The value constraint in canonical spelling, if the type accepts its text.
 abbrev pub in_spelling : Option Space → Standard → Option Standard
 in_spelling o Free = Some Free
 in_spelling o (Default text) = as_default (spelling o text)

@@ -1,4 +1,4 @@
--- The default and fixed values of attributes that don't fit their types or one another (XML Schema Part 1, sections 3.2.6 and
+-- The default and fixed values of attributes that don't fit their types or each other (XML Schema Part 1, sections 3.2.6 and
 -- 3.5.6).
 use Rattle.std.specs.Prelude.{ℕ, Bool, true, false, not, List, [], ◌∷◌, map, bytes_eq, Option, Some, None, if◌then◌else◌}
 use Rattle.std.specs.List.{flat_map, filter_map}
@@ -23,7 +23,7 @@ use Rattle.link_simple.specs.Spellings.{in_spelling}
 
 -- ---- global attributes
 
--- a global attribute, and the number of the file in which it was written
+-- A global attribute, and the number of the file in which it was written.
 pub record Declared : Type 0 where
   pub file : ℕ
   pub attribute : Attribute
@@ -48,19 +48,19 @@ declared_among ps = flat_map declared_at ps
 abbrev pub has_name : Name → Declared → Bool
 has_name a d = name_eq d.attribute.name a
 
--- the first of this name
+-- The first attribute of this name.
 abbrev pub named : List Declared → Name → Option Declared
 named [] a = None
 named (d ∷ ds) a = if has_name a d then Some d else named ds a
 
 -- ---- value constraints that don't fit
 
--- the type doesn't accept the text (section 3.2.6, clause 2)
+-- The type doesn't accept the text (section 3.2.6, clause 2).
 abbrev pub is_bad : Option Standard → Bool
 is_bad spelled = is_none spelled
 
--- Where the attribute that a reference names is fixed, a value constraint of the reference is that fixed value (section 3.5.6,
--- clause 2).
+-- A reference differs if it has a value constraint, and the attribute that it names is fixed to another value or the constraint
+-- is a default (section 3.5.6, clause 2).
 abbrev pub differs : Standard → Standard → Bool
 differs own Free = false
 differs own (Default other) = false
@@ -68,27 +68,29 @@ differs Free (Fixed other) = false
 differs (Default text) (Fixed other) = true
 differs (Fixed text) (Fixed other) = not (bytes_eq text other)
 
--- Values are told apart by their canonical spellings. What the type doesn't accept has none, and is a fault at its own place.
+-- Values are compared by their canonical spellings. A text that the type doesn't accept has none, and is a fault at its own
+-- place.
 abbrev pub do_differ : Option Standard → Option Standard → Bool
 do_differ (Some own) (Some other) = differs own other
 do_differ _ _ = false
 
--- at one attribute, with its value constraint and that of the attribute that it names
+-- The reason against an attribute, by its value constraint and that of the attribute that it names.
 abbrev pub why_of : Option Standard → Option Standard → Option LinkWhy
 why_of own other = if is_bad own then Some BadDefault else if do_differ own other then Some FixedDiffers else None
 
 -- ---- attribute by attribute, where the simple types have these spaces and the global attributes these names
 
 module _ (ns : SimpleNumbers) (made : List (Option Space)) (names : Name → Option Declared) where
-  -- the value constraint in the canonical spelling of the type
+  -- The value constraint in the canonical spelling of the type.
   abbrev pub by_base : ℕ → Base → Standard → Option Standard
   by_base file base standard = in_spelling (part_space ns made file base) standard
 
-  -- one with a type of its own names no other
+  -- The reason against an attribute with a type of its own, which names no other.
   abbrev pub why_own : ℕ → Base → Standard → Option LinkWhy
   why_own file base standard = why_of (by_base file base standard) (Some Free)
 
-  -- a reference has the type of the attribute that it names; that it names nothing is a fault of its own
+  -- The reason against a reference, which has the type of the attribute that it names. A reference that names nothing is another
+  -- pass's fault.
   abbrev pub why_reference : Option Declared → Standard → Option LinkWhy
   why_reference None standard = None
   why_reference (Some d) standard =
@@ -114,6 +116,6 @@ module _ (ns : SimpleNumbers) (made : List (Option Space)) (names : Name → Opt
 abbrev pub faults_by : List Document → List (Option Space) → List LinkingFault
 faults_by docs made = faults_among (numbers_in (simple_types docs)) made (named (declared_among (parts docs))) (parts docs)
 
--- at an attribute whose value constraint doesn't fit, where all simple types are made
+-- The fault is that of an attribute whose value constraint doesn't fit, if all simple types are made.
 abbrev pub IsMisfit : List Document → LinkingFault → Type 0
 IsMisfit docs f = (spaces : List Space) × IsMaking (simple_types docs) (map Some spaces) × HasItem (faults_by docs (map Some spaces)) f

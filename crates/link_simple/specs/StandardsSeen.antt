@@ -1,4 +1,4 @@
--- What the tables of the code tell.
+-- The global attributes that the tables of the code contain.
 use Rattle.std.specs.Prelude.{◌≡◌, ℕ, List, map}
 use Rattle.std.specs.Borrow.{Bor}
 use Rattle.std.specs.BTreeMap.{BTreeMap}
@@ -15,6 +15,6 @@ declared_as d = rule.declared d.file (attribute_of d.attribute.now)
 abbrev pub declared_of : List Declared → List rule.Declared
 declared_of ds = map declared_as ds
 
--- the table has at each name the number of the first of it
+-- The table has for each name the number of the first attribute of that name.
 abbrev pub HasNames : BTreeMap (Bor Name) ℕ → List rule.Declared → Type 0
 HasNames table ds = (a : Name) → named_in table a ≡ position_from (rule.has_name a) 0 ds

@@ -15,7 +15,7 @@ use link_names::{Part, What};
 use std::alloc::Global;
 use std::collections::BTreeMap;
 
-// The global attribute that a part is, if it is one.
+// Returns the global attribute that a part is, if it is one.
 fn declared_in<'a>(file: u32, what: What<'a>) -> Option<Declared<'a>>
     ensures { option_map declared_as result ≡ rule.declared_in file (what_of what.entry) }
 {
@@ -55,7 +55,7 @@ fn put_name<'a>(
     Ok(())
 }
 
-// The last is put first, so that each name has the number of the first that has it.
+// Inserts the last first, so that each name has the number of the first attribute that has it.
 fn named<'a>(alloc: Global, declared: &[Declared<'a>]) -> Result<BTreeMap<&'a Name, usize>, Memory>
     ensures { IfOk result (λ table. HasNames table (declared_of declared.now)) }
 {
@@ -79,7 +79,7 @@ fn number_named<'a>(table: &BTreeMap<&'a Name, usize>, name: &'a Name) -> Option
 }
 
 impl<'a> DeclaredNames<'a> {
-    /// Those among these parts.
+    /// Returns the global attributes among these parts, with their names.
     pub(crate) fn of(alloc: Global, parts: &[Part<'a>]) -> Result<DeclaredNames<'a>, Memory>
         ensures { IfOk result (λ names. (a : NameOf) → found_in names a ≡ rule.named (rule.declared_among (parts_of parts.now)) a) }
     {
@@ -88,7 +88,7 @@ impl<'a> DeclaredNames<'a> {
         Ok(DeclaredNames { declared, named })
     }
 
-    /// The first of this name.
+    /// Returns the first attribute of this name.
     pub(crate) fn first(&self, name: &'a Name) -> Option<Declared<'a>>
         ensures { option_map declared_as result ≡ found_in self.now name.now }
     {

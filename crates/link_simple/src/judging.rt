@@ -26,7 +26,7 @@ use schema_components::{RawBase, RawDoc, RawUse};
 use simple_types::{Simple, Standard};
 use std::alloc::Global;
 
-// Whether a reference has a value constraint that isn't that of the attribute that it names, which is fixed.
+// Returns whether a reference has a value constraint that isn't that of the attribute that it names, which is fixed.
 fn differs(own: &Standard, other: &Standard) -> bool
     ensures { result ≡ rule.differs own.now other.now }
 {
@@ -53,7 +53,7 @@ fn do_differ(own: &Option<Standard>, other: &Option<Standard>) -> bool
     }
 }
 
-// What is wrong with an attribute, by its value constraint and that of the one that it names.
+// Returns what is wrong with an attribute, by its value constraint and that of the attribute that it names.
 fn why(own: &Option<Standard>, other: &Option<Standard>) -> Option<LinkWhy>
     ensures { result ≡ rule.why_of own.now other.now }
 {
@@ -75,7 +75,7 @@ struct Known<'a, 'm> {
 }
 
 impl<'a, 'm> Known<'a, 'm> {
-    // A value constraint in the canonical spelling of the type. Where there is none, the type isn't looked for.
+    // Returns a value constraint in the canonical spelling of the type. Without one, the type isn't searched for.
     fn spelled(
         &self,
         alloc: Global,
@@ -181,11 +181,10 @@ impl<'a, 'm> Known<'a, 'm> {
     }
 }
 
-/// The first attribute whose type doesn't accept its default or fixed value, or that refers to a fixed attribute and has
-/// another value constraint. No simple type of the documents is made of itself, and all of them, made, stand in the order of
-/// `link_names::simple_types`. The time grows as n log n with the number of attributes and types; beside it stands what
-/// reading and spelling the texts takes, of which the text of a global attribute is read again for each reference that has one
-/// of its own.
+/// Returns the first attribute whose type doesn't accept its default or fixed value, or that refers to a fixed attribute and has
+/// another value constraint. No simple type of the documents is made of itself, and `simples` has all of them, in the order of
+/// `link_names::simple_types`. The time grows as n log n with the number of attributes and types. In addition each text is read
+/// and spelled: that of a global attribute once, and again for each reference that has one of its own.
 pub fn first_misfit(
     alloc: Global,
     docs: &[RawDoc],

@@ -1,4 +1,4 @@
-//! The laws of simple types that are made. Each is proved for all bases, facets and documents.
+//! Laws of the making of simple types. Each is proved for all bases, facets and documents.
 ghost use Rattle.std.specs.Prelude.{◌≡◌, List, Option, None, Result};
 ghost use Rattle.simple_types.specs.declared.facets.Facet.{Facet};
 ghost use Rattle.simple_types.specs.Space.{Space};
@@ -10,13 +10,13 @@ ghost use Rattle.link_names.specs.Cycles.{IsCircular};
 ghost use Rattle.link_names.specs.SimpleTypes.{simple_types};
 ghost use Rattle.link_simple.specs.Making.{IsMaking};
 
-/// Facets leave of a base one space, or one reason against them, and never two answers.
+/// States that restricting a base by facets results in exactly one space, or exactly one reason against them, and never in both.
 pub fn one_restriction()
     ensures some { (base : Space) (facets : List Facet) → (r : Result Space FacetWhy) × Restricted base facets r }
     ensures only { (base : Space) (facets : List Facet) (r q : Result Space FacetWhy) → Restricted base facets r → Restricted base facets q → r ≡ q }
 {}
 
-/// Where no simple type of the documents is made of itself, the list of their spaces exists, and there is no other.
+/// States that, if no simple type of the documents is made of itself, there is exactly one list of their spaces.
 pub fn one_making()
     ensures some { (docs : List Document) → IsFirstSuch (IsCircular docs) None → (made : List (Option Space)) × IsMaking (simple_types docs) made }
     ensures only { (docs : List Document) → IsFirstSuch (IsCircular docs) None → (a b : List (Option Space)) → IsMaking (simple_types docs) a → IsMaking (simple_types docs) b → a ≡ b }

@@ -1,4 +1,4 @@
-//! What is left of a simple type whose parts are made.
+//! Makes a simple type whose parts are made.
 ghost use Rattle.std.specs.Prelude.{◌≡◌, ◌<◌, IfOk, true, Some, Ok};
 ghost use Rattle.schema_components.specs.Seen.{base_of, how_of, bases_in};
 ghost use Rattle.schema_components.specs.Varieties.{has_few_enumerations, has_member, how_varied};
@@ -18,7 +18,7 @@ use simple_facets::{Facet, ItemError, list_of, restrict};
 use simple_types::Simple;
 use std::alloc::Global;
 
-/// What the parts of a type leave.
+/// The result of making a type from its parts.
 #[derive(Drop)]
 pub(crate) enum Left {
     Made(Simple),
@@ -86,7 +86,7 @@ impl<'a> MadeTypes<'_, 'a> {
         }
     }
 
-    /// Returns what is left of the type, given the types made before.
+    /// Returns the result of making the type, given the types made before.
     pub(crate) fn left_of(self, definition: SimpleType<'a>) -> Result<Left, Memory>
         requires sound { AreEntriesSound (entries_of self.entries.now) }
         requires varied { how_varied (how_of definition.how.now) ≡ true }

@@ -1,4 +1,4 @@
-//! Making all simple types, or the first fault.
+//! Makes all simple types, or finds the first fault.
 ghost use Rattle.std.specs.Prelude.{◌≡◌, map, None, IfOk};
 ghost use Rattle.base_texts.specs.Lists.{HasItem};
 ghost use Rattle.schema_components.specs.Documents.{doc_of};
@@ -74,10 +74,10 @@ fn made_of<'a>(
     work.end(alloc)
 }
 
-/// The simple types of the documents, in the order of `link_names::simple_types`, or the first fault: at a type that can't
-/// be made although its parts can. Each reference has to name what it needs, and no type may be made of itself. The time
-/// grows with the number of parts, and as n log n with that of names and places; beside it stands what restricting by
-/// facets takes and the size of the types.
+/// Returns the simple types of the documents, in the order of `link_names::simple_types`, or the first fault: at a type that
+/// can't be made although its parts can. Each reference must name what it needs, and no type may be made of itself. The time
+/// grows with the number of parts, and as n log n with that of names and places. In addition it takes the time of restricting by
+/// facets, and grows with the size of the types.
 pub fn made(alloc: Global, docs: &[RawDoc]) -> Result<Vec<Simple>, MakingError>
     requires resolved { IsFirstSuch (HasItem (unresolved (map doc_of docs.now))) None }
     requires acyclic { IsFirstSuch (IsCircular (map doc_of docs.now)) None }

@@ -1,4 +1,4 @@
-//! An order of the nodes of a graph without cycles, in which each stands after those that its edges lead to.
+//! An order of the nodes of a graph without cycles, in which each follows those that its edges lead to.
 ghost use Rattle.std.specs.Prelude.{◌≡◌, ◌<◌, ◌≤◌, ◌+◌, ◌*◌, ◌∷◌, ◌++◌, [], ◌⊎◌, ℕ, true, false, length, take, replicate, set, IfOk, OnOk};
 ghost use Rattle.base_texts.specs.Lists.{HasItem};
 ghost use Rattle.link_names.specs.Graphs.{rows_of};
@@ -8,24 +8,24 @@ ghost use Rattle.link_simple.specs.Private.Ordering.{IsAcyclic, IsInside, IsOrde
 use base_texts::Memory;
 use std::alloc::Global;
 
-/// A node on the way of the walk, and how many of its edges were followed.
+/// A node on the current path of the traversal, and how many of its edges were followed.
 #[derive(Clone, Copy)]
 struct Step {
     node: usize,
     followed: usize,
 }
 
-/// The walk in depth along the edges.
+/// A depth-first traversal along the edges.
 #[derive(Drop)]
 struct Walk {
-    /// From the node where the walk began, each by an edge of the one before it.
+    /// The path from the node where the traversal began, each node by an edge of the one before.
     way: Vec<Step>,
     /// Whether each node has its place in the order.
     done: Vec<bool>,
     order: Vec<usize>,
 }
 
-// The number of the first of these nodes, from this number on, that isn't done.
+// Returns the number of the first of these nodes, from this number on, that isn't done.
 fn first_open(nodes: &[usize], done: &[bool], from: usize) -> Option<usize>
     requires within { (m : ℕ) → HasItem nodes.now m → m < length done.now }
     requires followed { (m : ℕ) → HasItem (take from nodes.now) m → mark done.now m ≡ true }
@@ -52,7 +52,7 @@ impl Walk {
         })
     }
 
-    // From a node of the way by its edge of this number, to the next node.
+    // Follows the edge with this number of a node on the path, to the next node.
     fn follow(&mut self, node: usize, edge: usize, next: usize) -> Result<(), Memory>
         ensures way { OnOk result (self.new.way.items ≡ self.old.way.items ++ step node edge ∷ [] ++ step next 0 ∷ []) }
         ensures done { self.new.done.items ≡ self.old.done.items }
@@ -69,7 +69,7 @@ impl Walk {
         Ok(())
     }
 
-    // Puts the node behind those that its edges lead to.
+    // Appends the node to the order, after those that its edges lead to.
     fn finish(&mut self, node: usize) -> Result<(), Memory>
         requires { node < length self.now.done.items }
         ensures way { self.new.way.items ≡ self.old.way.items }
@@ -81,8 +81,8 @@ impl Walk {
         Ok(())
     }
 
-    // Goes on from the last node of the way, which was taken off: to one that isn't done and that an edge leads to, if there
-    // is any.
+    // Continues from the last node of the path, which was removed: to the first node that isn't done and that an edge leads to,
+    // if there is one.
     fn go_on(&mut self, graph: &[Vec<usize>], step: Step) -> Result<(), Memory>
         requires inside { IsInside (rows_of graph.now) }
         requires acyclic { IsAcyclic (rows_of graph.now) }
@@ -98,7 +98,7 @@ impl Walk {
         }
     }
 
-    // Goes down from the node until it is done.
+    // Traverses the graph from the node until it is done.
     fn from(&mut self, graph: &[Vec<usize>], node: usize) -> Result<(), Memory>
         requires inside { IsInside (rows_of graph.now) }
         requires acyclic { IsAcyclic (rows_of graph.now) }
@@ -120,7 +120,7 @@ impl Walk {
     }
 }
 
-/// All nodes, each after those that its edges lead to. The time grows with the number of nodes and edges.
+/// Returns all nodes, each after those that its edges lead to. The time grows with the number of nodes and edges.
 pub(crate) fn order_of(alloc: Global, graph: &[Vec<usize>]) -> Result<Vec<usize>, Memory>
     requires inside { IsInside (rows_of graph.now) }
     requires acyclic { IsAcyclic (rows_of graph.now) }

@@ -26,7 +26,7 @@ pub enum Part<'m> {
 }
 
 impl<'m> Part<'m> {
-    /// Its simple type.
+    /// Returns its simple type.
     pub fn simple(&self) -> &Simple
         ensures { space_of result.now ≡ seen self.now }
     {
@@ -37,7 +37,7 @@ impl<'m> Part<'m> {
     }
 }
 
-// The type with this number, if it is made.
+// Returns the type with this number, if it is made.
 fn lent<'m>(entries: &'m [Option<Simple>], number: Option<usize>) -> Option<&'m Simple>
     requires { AreEntriesSound (entries_of entries.now) }
     ensures space { option_map (λ s. space_of s.now) result ≡ space_at (entries_of entries.now) number }
@@ -87,7 +87,7 @@ impl<'m, 'a> MadeTypes<'m, 'a> {
         }
     }
 
-    /// Returns the base, the item or the member, or `None` where it isn't made.
+    /// Returns the base, the item or the member, or `None` if it isn't made.
     pub(crate) fn part_of(self, file: u32, base: &'a RawBase) -> Result<Option<Part<'m>>, Memory>
         requires { AreEntriesSound (entries_of self.entries.now) }
         ensures space { IfOk result (λ found. option_map seen found ≡ part_space (told_by self.entry.numbers.now) (entries_of self.entry.entries.now) file (base_of base.now)) }
@@ -101,7 +101,7 @@ impl<'m, 'a> MadeTypes<'m, 'a> {
         }
     }
 
-    /// Returns all of these, or `None` where one isn't made.
+    /// Returns all of these, or `None` if one isn't made.
     pub(crate) fn parts_of(
         self,
         file: u32,
@@ -153,8 +153,8 @@ fn named_type<'m, 'a>(
     }
 }
 
-/// The simple type that a component has, named or written in place, where all simple types are made: `simples` has them in
-/// the order of `link_names::simple_types`. `None` where the name is that of no simple type.
+/// Returns the simple type that a component has, named or in place, if all simple types are made: `simples` has them in the order
+/// of `link_names::simple_types`. `None` if the name is not that of a simple type.
 pub fn made_type<'m, 'a>(
     alloc: Global,
     numbers: &SimpleNumbers<'a>,

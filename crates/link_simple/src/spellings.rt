@@ -8,7 +8,7 @@ use base_texts::{Memory, Text};
 use simple_types::{Simple, SimpleError, Standard, accept, spell};
 use std::alloc::Global;
 
-// The canonical spelling of the value that the text gives, if the type accepts the text.
+// Returns the canonical spelling of the value that the text gives, if the type accepts the text.
 fn spelling(alloc: Global, simple: &Simple, text: &Text) -> Result<Option<Text>, Memory>
     requires { Sound (space_of simple.now) }
     ensures { IfOk result (λ found. found ≡ rule.spelling (Some (space_of simple.now)) text.now) }
@@ -42,8 +42,8 @@ fn fixed_value(text: Option<Text>) -> Option<Standard>
     }
 }
 
-/// Returns the value constraint with the canonical spelling of the value that its text gives (XML Schema Part 1, section
-/// 3.2.6). Returns `None` where the type doesn't accept the text. The time is that of reading and spelling the text.
+/// Returns the value constraint with the canonical spelling of the value that its text gives (XML Schema Part 1, section 3.2.6).
+/// Returns `None` if the type doesn't accept the text. The time is that of reading and spelling the text.
 pub fn in_spelling(
     alloc: Global,
     simple: &Simple,

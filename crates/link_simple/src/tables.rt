@@ -12,7 +12,7 @@ pub(crate) struct Declared<'a> {
     pub attribute: &'a RawAttribute,
 }
 
-/// The global attributes, and of each name the number of the first among them.
+/// The global attributes, and for each name the number of the first that has it.
 #[derive(Drop)]
 pub(crate) struct DeclaredNames<'a> {
     pub(crate) declared: Vec<Declared<'a>>,

@@ -13,7 +13,7 @@ use simple_facets::{UnionError, union_of_lent};
 use simple_types::Simple;
 use std::alloc::Global;
 
-// The types of the parts, which stay where they are.
+// Returns the types of the parts as references.
 fn lent_parts<'p>(alloc: Global, parts: &'p [Part<'_>]) -> Result<Vec<&'p Simple>, Memory>
     ensures { IfOk result (λ lent. lent_spaces lent.items ≡ seen_all parts.now) }
 {
@@ -24,7 +24,7 @@ fn lent_parts<'p>(alloc: Global, parts: &'p [Part<'_>]) -> Result<Vec<&'p Simple
     Ok(lent)
 }
 
-/// The union of the parts, if it is within the limits of one.
+/// Returns the union of the parts, if it is within the limits of a union.
 pub(crate) fn union(alloc: Global, parts: &[Part<'_>]) -> Result<Left, Memory>
     requires sound { AreEachSound (seen_all parts.now) }
     requires some { 0 < length parts.now }

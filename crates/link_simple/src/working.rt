@@ -1,4 +1,4 @@
-//! The making of types, one after another, each after its parts.
+//! Makes the types one after another, each after its parts.
 ghost use Rattle.std.specs.Prelude.{◌≡◌, ◌<◌, ℕ, Bool, List, set, replicate, None, length, true, false, IsSome, IfOk, OnOk};
 ghost use Rattle.link_names.specs.Order.{first_of};
 ghost use Rattle.link_names.specs.Cycles.{numbers_in, edges};
@@ -81,7 +81,7 @@ impl Work {
         self.entries[n] = simple_in(left);
     }
 
-    // Makes the type, when its parts are done.
+    // Makes the type, whose parts are done.
     fn make<'a>(
         &mut self,
         alloc: Global,
@@ -107,7 +107,7 @@ impl Work {
         Ok(())
     }
 
-    /// The types, or the first fault.
+    /// Returns the types, or the first fault.
     pub(crate) fn end(self, alloc: Global) -> Result<Vec<Simple>, MakingError>
         requires { (ds : List SimpleDefinition) × FinishedIn ds self }
         ensures { (ds : List SimpleDefinition) → FinishedIn ds self → AnswersMakingOf ds result }
@@ -119,7 +119,7 @@ impl Work {
     }
 }
 
-// The types, each of which is made.
+// Returns the types, each of which is made.
 fn all_made(alloc: Global, entries: Vec<Option<Simple>>) -> Result<Vec<Simple>, Memory>
     requires { (n : ℕ) → n < length entries.items → IsSome (entry_at (entries_of entries.items) n) }
     ensures { IfOk result (λ simples. entries_of entries.items ≡ made_of simples.items) }
@@ -131,7 +131,7 @@ fn all_made(alloc: Global, entries: Vec<Option<Simple>>) -> Result<Vec<Simple>, 
     Ok(simples)
 }
 
-/// All types made, in an order in which each stands after its parts.
+/// Makes all types, in an order in which each follows its parts.
 pub(crate) fn work_in_order<'a>(
     alloc: Global,
     definitions: &[SimpleType<'a>],

@@ -1,4 +1,4 @@
--- The map of a linked set: one module, whose assignments stand in the order of their components (X.694).
+-- The map of a linked set: one module, whose assignments are in the order of their components (X.694).
 use Rattle.std.specs.Prelude.{◌≡◌, ℕ, List, [], ◌∷◌, ◌++◌, slice_get, unwrap_or, codes}
 use Rattle.base_texts.specs.declared.texts.Name.{Name}
 use Rattle.asn_names.specs.declared.conversion.NameKind.TheVariants.{Reference}
@@ -14,7 +14,7 @@ use Rattle.map_subjects.specs.Subjects.{AreEntries, place_in}
 use Rattle.map_assignments.specs.Planning.{body}
 use Rattle.map_assignments.specs.Naming.{reference_of, name_marks, qualified_marks, IsNamed}
 
--- NAME, and on elements and attributes NAMESPACE; a type of nillable elements has neither
+-- NAME, and for elements and attributes NAMESPACE; a type of nillable elements has neither.
 abbrev pub assignment_marks : Subject → Name → List ℕ → List Instruction
 assignment_marks (subject.Element d) name reference = qualified_marks reference name
 assignment_marks (subject.Attribute n) name reference = mark.Attribute ∷ qualified_marks reference name
@@ -22,16 +22,16 @@ assignment_marks (subject.Simple n) name reference = name_marks reference name.l
 assignment_marks (subject.Complex n) name reference = name_marks reference name.local
 assignment_marks (subject.Nillable n) name reference = []
 
--- where assignments have these numbers
+-- Assignments have these numbers.
 module _ (place : Subject → ℕ) where
-  -- What a reference is made from, where these were taken for the assignments before: a component's local name, or the
-  -- reference of the complex type whose nillable elements have the type.
+  -- The name from which a reference is made, after these references of the assignments before: a component's local name, or for
+  -- the type of nillable elements the reference of their complex type.
   abbrev pub wanted_reference : List (List ℕ) → Subject → Name → List ℕ
   wanted_reference before (subject.Nillable n) name = unwrap_or (slice_get before (place (subject.Complex n))) [] ++ codes "-nillable"
   wanted_reference before _ name = reference_of name.local
 
   module _ (s : Set) where
-    -- an assignment behind those with these references
+    -- The assignment of a component after those with these references.
     pub record IsMapped (before : List (List ℕ)) (e : NamedSubject) (a : Assignment) : Type 0 where
       pub reference : IsTaken Reference before (wanted_reference before e.subject e.name) a.reference
       pub marks : a.marks ≡ assignment_marks e.subject e.name a.reference
@@ -42,12 +42,12 @@ module _ (place : Subject → ℕ) where
     AreMapped before (e ∷ others) (a ∷ assignments) = IsMapped before e a × AreMapped (before ++ a.reference ∷ []) others assignments
     AreMapped before _ _ = ⊥
 
--- the module is the map of the set
+-- The module is the map of the set.
 pub record IsMapOf (s : Set) (M : List Assignment) : Type 0 where
   pub entries : List NamedSubject
   pub are_entries : AreEntries s entries
   pub assignments : AreMapped (place_in entries) s [] entries M
 
--- the root type of a global element: the number of its assignment in the map
+-- The root type of a global element: the number of its assignment in the map.
 abbrev pub root_at : (s : Set) (M : List Assignment) → IsMapOf s M → ℕ → ℕ
 root_at s M is_map d = place_in is_map.entries (subject.Element d)

@@ -1,4 +1,4 @@
--- How the parts of a type get their identifiers, and which instructions tell the names of XML back (X.693, X.694).
+-- The identifiers of the parts of a type, and the instructions that restore XML names (X.693, X.694).
 use Rattle.std.specs.Prelude.{◌≡◌, ℕ, suc, Bool, false, List, [], ◌∷◌, ◌++◌, map, Option, Some, None, codes, if◌then◌else◌}
 use Rattle.std.specs.Str.{chars}
 use Rattle.base_texts.specs.declared.texts.Name.{Name}
@@ -28,20 +28,20 @@ type_label f marks = record { form = f; marks = marks }
 abbrev pub component_with : List ℕ → Bool → Standard → List Instruction → Component
 component_with identifier optional standard marks = record { identifier = identifier; optional = optional; standard = standard; marks = marks }
 
--- without a default or a fixed value
+-- A component without a default or fixed value.
 abbrev pub component_of : List ℕ → Bool → List Instruction → Component
 component_of identifier optional marks = component_with identifier optional Free marks
 
--- the name of XML as an identifier and as a reference of ASN.1
+-- The XML name as an identifier and as a reference of ASN.1.
 abbrev pub identifier_of : List ℕ → List ℕ
 identifier_of text = converted Identifier (chars text)
 
 abbrev pub reference_of : List ℕ → List ℕ
 reference_of text = converted Reference (chars text)
 
--- ---- instructions that tell names back
+-- ---- instructions that restore names
 
--- NAME stands where the generated name isn't the name
+-- NAME is present if the generated name isn't the name.
 abbrev pub name_if : Option NameForm → List ℕ → List Instruction
 name_if None name = []
 name_if (Some f) name = mark.Name name ∷ []
@@ -49,7 +49,7 @@ name_if (Some f) name = mark.Name name ∷ []
 abbrev pub name_marks : List ℕ → List ℕ → List Instruction
 name_marks generated name = name_if (form_of generated name) name
 
--- NAMESPACE stands where there is a namespace
+-- NAMESPACE is present if there is a namespace.
 abbrev pub namespace_marks : List ℕ → List Instruction
 namespace_marks [] = []
 namespace_marks (b ∷ bs) = mark.Namespace (b ∷ bs) ∷ []
@@ -57,7 +57,7 @@ namespace_marks (b ∷ bs) = mark.Namespace (b ∷ bs) ∷ []
 abbrev pub qualified_marks : List ℕ → Name → List Instruction
 qualified_marks generated name = name_marks generated name.local ++ namespace_marks name.space
 
--- TEXT stands on each item whose identifier isn't its word; these are the items from this number on
+-- TEXT is present for each item whose identifier isn't its word; these are the items from number i on.
 abbrev pub text_if : Option NameForm → ℕ → List ℕ → List Instruction
 text_if None i word = []
 text_if (Some f) i word = mark.Text i word ∷ []
@@ -66,7 +66,7 @@ abbrev pub text_marks : ℕ → List (List ℕ) → List (List ℕ) → List Ins
 text_marks i (g ∷ gs) (word ∷ words) = text_if (form_of g word) i word ++ text_marks (suc i) gs words
 text_marks i _ _ = []
 
--- ---- identifiers, taken one after another in the scope of a type
+-- ---- identifiers, made one after another in the scope of a type
 
 abbrev pub AreTaken : List (List ℕ) → List (List ℕ) → List (List ℕ) → Type 0
 AreTaken before [] [] = Unit {0}
@@ -75,21 +75,21 @@ AreTaken before _ _ = ⊥
 
 -- ---- simple types in place (clauses 11 to 13)
 
--- a type without parts
+-- A type without parts.
 abbrev pub IsLeaf : Form → List Instruction → Rose TypeLabel → Type 0
 IsLeaf f marks t = t ≡ node (type_label f marks) rose.none
 
--- an item of a LIST: it has no name
+-- An item of a LIST, which has no name.
 abbrev pub list_item : Component
 list_item = component_of [] false []
 
--- ENUMERATED of words: identifiers are taken in the order of the words
+-- The type is an ENUMERATED of the words, whose identifiers are made in the order of the words.
 pub record IsWordsType (words : List (List ℕ)) (marks : List Instruction) (t : Rose TypeLabel) : Type 0 where
   pub identifiers : List (List ℕ)
   pub taken : AreTaken [] (map identifier_of words) identifiers
   pub type : IsLeaf (form.Words identifiers words) (marks ++ text_marks 0 identifiers words) t
 
--- the alternatives `alt`, `alt-1` and so on of a union, with the types of its members
+-- The type is that of a simple type. A union has the alternatives `alt`, `alt-1` and so on, with the types of its members.
 abbrev mutual
   pub IsSimpleType : Space → Rose TypeLabel → Type 0
   IsSimpleType Booleans t = IsLeaf form.Bool [] t
@@ -103,7 +103,7 @@ abbrev mutual
       (parts : List Component) × (ts : Roses TypeLabel)
       × (t ≡ node (type_label (form.Choice parts) (mark.UseUnion ∷ [])) ts) × AreMembers [] members parts ts
 
-  -- the members, behind alternatives with these identifiers
+  -- The parts and types are those of the members, after alternatives with these identifiers.
   pub AreMembers : List (List ℕ) → Spaces → List Component → Roses TypeLabel → Type 0
   AreMembers before none parts ts = (parts ≡ []) × (ts ≡ rose.none)
   AreMembers before (more s ss) parts ts =
@@ -118,7 +118,7 @@ abbrev pub group_name : Group → List ℕ
 group_name a_sequence = codes "sequence"
 group_name a_choice = codes "choice"
 
--- what the identifier is made from
+-- The name from which the identifier is made.
 abbrev pub wanted : Label → List ℕ
 wanted (attribute name standard) = identifier_of name.local
 wanted (element name) = identifier_of name.local
@@ -131,7 +131,7 @@ wanted item = []
 wanted base = codes "base"
 wanted content = codes "content"
 
--- the instructions of a part with this identifier
+-- The instructions of a part with this identifier.
 abbrev pub part_marks : Label → List ℕ → List Instruction
 part_marks (attribute name standard) generated = mark.Attribute ∷ qualified_marks generated name
 part_marks (element name) generated = qualified_marks generated name
@@ -141,7 +141,7 @@ part_marks (groups g) generated = mark.Untagged ∷ []
 part_marks base generated = mark.Untagged ∷ []
 part_marks _ generated = []
 
--- an attribute alone has a default or a fixed value
+-- Only an attribute has a default or fixed value.
 abbrev pub part_standard : Label → Standard
 part_standard (attribute name standard) = standard
 part_standard _ = Free
@@ -149,7 +149,7 @@ part_standard _ = Free
 abbrev pub named_part : Label → List ℕ → Bool → Component
 named_part l identifier optional = component_with identifier optional (part_standard l) (part_marks l identifier)
 
--- the part of a SEQUENCE OF has its name in no scope
+-- The part of a SEQUENCE OF. Its name is in no scope.
 abbrev pub repeated_part : Label → Component
 repeated_part l = named_part l (wanted l) false
 
@@ -181,7 +181,7 @@ module _ (place : Subject → ℕ) where
     IsNamed (order_items before ls) t = IsItemsType before ls t
     IsNamed (reference w) t = IsLeaf (form.Ref (place w)) [] t
 
-    -- parts, behind those with these identifiers
+    -- The components are these parts, after those with these identifiers.
     pub AreNamed : List (List ℕ) → Parts → List Component → Roses TypeLabel → Type 0
     AreNamed before finish parts ts = (parts ≡ []) × (ts ≡ rose.none)
     AreNamed before (part l optional p ps) parts ts =

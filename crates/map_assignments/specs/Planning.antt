@@ -21,7 +21,7 @@ use Rattle.map_assignments.specs.Plans.{a_sequence, a_choice, Label, attribute, 
 
 -- ---- simple types (clauses 11 to 13)
 
--- the type of what has a simple type: that of its assignment where it has a name, else in place
+-- The type of a component that has a simple type: that of its assignment if it has a name, else the type in place.
 abbrev pub simple_plan : SimpleDef → ℕ → TypePlan
 simple_plan t n = elim t.name [ None ↦ simple (space_of t.space) | Some name ↦ reference (subject.Simple n) ]
 
@@ -36,7 +36,7 @@ attributes s (u ∷ us) rest = part (attribute u.name u.standard) (not u.require
 
 -- ---- particles (clauses 18 and 19)
 
--- what a term stands for where it stands once, and where it may stand several times
+-- The label of a term that occurs once, and of one that may occur several times.
 abbrev pub label_of : Term → Label
 label_of (model.element d name) = element name
 label_of (model.sequence ps) = group a_sequence
@@ -49,17 +49,17 @@ list_label_of (model.sequence ps) = groups a_sequence
 list_label_of (model.choice ps) = groups a_choice
 list_label_of (model.all ps) = groups a_sequence
 
--- the bounds 1 and 1
+-- The bounds are 1 and 1.
 abbrev pub is_once : ℕ → Option ℕ → Bool
 is_once least None = false
 is_once least (Some most) = (least == 1) && (most == 1)
 
--- the bounds 0 and 1
+-- The bounds are 0 and 1.
 abbrev pub is_optional : ℕ → Option ℕ → Bool
 is_optional least None = false
 is_optional least (Some most) = (least == 0) && (most == 1)
 
--- The part for a particle. Bounds of 0 and 1 make it OPTIONAL, but in a CHOICE, where no alternative is.
+-- The part for a particle. Bounds of 0 and 1 make it OPTIONAL, except in a CHOICE, whose alternatives never are.
 abbrev pub particle_part : Bool → Term → TypePlan → ℕ → Option ℕ → Parts → Parts
 particle_part in_choice t type least most rest =
     if is_once least most then part (label_of t) false type rest
@@ -70,7 +70,7 @@ abbrev pub is_mixed : Content → Bool
 is_mixed (content_.Mixed particle) = true
 is_mixed _ = false
 
--- the texts between child elements of mixed content (clause 20): SEQUENCE OF UTF8String
+-- The texts between child elements of mixed content (clause 20): SEQUENCE OF UTF8String.
 abbrev pub texts_type : TypePlan
 texts_type = repeated item (simple (Characters Preserve 0 None Any)) 0 None
 
@@ -79,7 +79,7 @@ with_texts mixed rest = if mixed then part texts false texts_type rest else rest
 
 -- ---- elements in any order (X.694 on groups with the compositor all, X.693 on USE-ORDER)
 
--- an all; one without particles, which no linked set has, would have no order to tell
+-- It is an all with particles. An all without particles, which no linked set has, would have no elements to order.
 abbrev pub is_all : Particle → Bool
 is_all (occurs (model.all (model.more p ps)) least most) = true
 is_all _ = false
@@ -89,24 +89,24 @@ is_ordered (content_.ElementOnly particle) = is_all (seen particle)
 is_ordered (content_.Mixed particle) = is_all (seen particle)
 is_ordered _ = false
 
--- what the parts before those of the elements stand for
+-- The labels of the parts before those of the elements.
 abbrev pub labels_before : Bool → List AttributeUse → List Label
 labels_before mixed uses = (if mixed then texts ∷ [] else []) ++ order ∷ map (λ (u : AttributeUse). attribute u.name u.standard) uses
 
--- what these parts stand for
+-- The labels of these parts.
 abbrev pub labels : Parts → List Label
 labels finish = []
 labels (part l optional p ps) = l ∷ labels ps
 
--- the order of child elements: SEQUENCE OF the ENUMERATED of the identifiers of their parts
+-- The order of child elements: SEQUENCE OF the ENUMERATED of the identifiers of their parts.
 abbrev pub order_type : List Label → List Label → TypePlan
 order_type before ls = repeated item (order_items before ls) 0 None
 
--- it stands behind the texts and before the attributes
+-- The order is after the texts and before the attributes.
 abbrev pub with_order : Bool → TypePlan → Parts → Parts
 with_order ordered type rest = if ordered then part order false type rest else rest
 
--- where each declaration has this type at a particle
+-- Each declaration has this type at a particle.
 module _ (T : ℕ → TypePlan) where
   abbrev mutual
     pub term_type : Term → TypePlan
@@ -122,8 +122,8 @@ module _ (T : ℕ → TypePlan) where
   abbrev pub top_part : Term → ℕ → Option ℕ → Parts
   top_part t least most = particle_part false t (term_type t) least most finish
 
-  -- The particles of a top sequence that stands once are parts of the type itself, and so are those of an all, which stands
-  -- nowhere else in a linked set and always once. Another top particle is one part.
+  -- The particles of a top sequence that occurs once are parts of the type itself. So are those of an all, which in a linked set
+  -- is always at the top and occurs once. Any other top particle is one part.
   abbrev pub top : Particle → Parts
   top (occurs (model.sequence ps) least most) = if is_once least most then particle_parts false ps else top_part (model.sequence ps) least most
   top (occurs (model.all ps) least most) = particle_parts false ps
@@ -131,25 +131,25 @@ module _ (T : ℕ → TypePlan) where
 
   -- ---- complex types (clauses 20 and 26)
 
-  -- the parts of a content
+  -- The parts of a content.
   abbrev pub content_parts : Set → Content → Parts
   content_parts s content_.Empty = finish
   content_parts s (content_.Simple n) = part base false (simple_type s n) finish
   content_parts s (content_.ElementOnly particle) = top (seen particle)
   content_parts s (content_.Mixed particle) = top (seen particle)
 
-  -- the type of what a nillable element has where it isn't nil
+  -- The type of the content that a nillable element has if it isn't nil.
   abbrev pub content_type : Set → Content → TypePlan
   content_type s content_.Empty = sequence false false false finish
   content_type s (content_.Simple n) = simple_type s n
   content_type s (content_.ElementOnly particle) = sequence false false false (top (seen particle))
   content_type s (content_.Mixed particle) = sequence false false false (top (seen particle))
 
-  -- behind the attributes stand the parts of the content, or for a nillable element one OPTIONAL part with all of it
+  -- After the attributes are the parts of the content, or for a nillable element one OPTIONAL part with the entire content.
   abbrev pub rest_parts : Set → Bool → Content → Parts
   rest_parts s nillable c = if nillable then part content true (content_type s c) finish else content_parts s c
 
-  -- the type of the part `order`: the parts of the elements stand behind those of the type, or in its content alone
+  -- The type of the part `order`. The parts of the elements follow those of the type, or are alone in its content.
   abbrev pub order_plan : Set → Bool → ComplexDef → TypePlan
   order_plan s nillable c =
       order_type (if nillable then [] else labels_before (is_mixed c.content) c.uses) (labels (content_parts s c.content))
@@ -165,7 +165,7 @@ nillable_simple_type s n = sequence true false false (part content true (simple_
 -- ---- declarations (clauses 14 and 15)
 
 module _ (s : Set) where
-  -- the type of a declaration, where complex types in place are these, for nillable elements and for others
+  -- The type of a declaration, if complex types in place are these, for nillable elements and for others.
   abbrev pub own_type : (Bool → ℕ → TypePlan) → ElementDecl → TypePlan
   own_type inner e = elim e.kind [
     | kind.Simple n ↦ if e.nillable then nillable_simple_type s n else simple_type s n
@@ -175,19 +175,19 @@ module _ (s : Set) where
     ]
   ]
 
-  -- the type where an element particle stands (clause 19): a global element is referred to
+  -- The type at an element particle (clause 19). For a global element it is a reference.
   abbrev pub particle_type : (Bool → ℕ → TypePlan) → ℕ → TypePlan
   particle_type inner d =
       if nat_lt d s.globals then reference (subject.Element d)
       else elim (slice_get s.elements d) [ None ↦ simple Booleans | Some e ↦ own_type inner e ]
 
-  -- The type of the complex type n, in which so many types without a name may stand in one another, itself included.
+  -- The type of the complex type n, in which at most `levels` types without a name are nested, including itself.
   abbrev pub in_place : ℕ → Bool → ℕ → TypePlan
   in_place zero nillable n = sequence false false false finish
   in_place (suc levels) nillable n =
       elim (slice_get s.complexes n) [ None ↦ sequence false false false finish | Some c ↦ complex_plan (particle_type (in_place levels)) s nillable c ]
 
-  -- in a linked set no more than 21 types without a name stand in one another
+  -- The type of a component's assignment. In a linked set at most 21 types without a name are nested.
   abbrev pub body : Subject → TypePlan
   body (subject.Element d) = elim (slice_get s.elements d) [ None ↦ simple Booleans | Some e ↦ own_type (in_place 21) e ]
   body (subject.Attribute n) = elim (slice_get s.attributes n) [ None ↦ simple Booleans | Some a ↦ simple_type s a.simple ]

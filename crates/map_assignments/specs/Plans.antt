@@ -1,4 +1,4 @@
--- Types before their names are chosen: what stands where, and for what each part stands.
+-- Types before their names are chosen: their structure, and the label of each part.
 use Rattle.std.specs.Prelude.{ℕ, Bool, Option, List}
 use Rattle.base_texts.specs.declared.texts.Name.{Name}
 use Rattle.simple_types.specs.declared.standards.Standard.{Standard}
@@ -9,42 +9,42 @@ pub data Group : Type 0 where
   a_sequence : Group
   a_choice : Group
 
--- What a part stands for.
+-- The label of a part: what it represents.
 pub data Label : Type 0 where
-  -- with its default or fixed value, if it has one
+  -- An attribute with its default or fixed value, if it has one.
   attribute : Name → Standard → Label
   element : Name → Label
   group : Group → Label
-  -- several elements or groups
+  -- Several elements or groups.
   elements : Name → Label
   groups : Group → Label
-  -- the texts between child elements
+  -- The texts between child elements.
   texts : Label
-  -- the order of child elements that may stand in any order
+  -- The order of child elements that may appear in any order.
   order : Label
-  -- one of the texts, or of the elements in their order
+  -- One of the texts, or of the elements in their order.
   item : Label
-  -- the text of a complex type with simple content
+  -- The text of a complex type with simple content.
   base : Label
-  -- what a nillable element has where it isn't nil
+  -- The content that a nillable element has if it isn't nil.
   content : Label
 
 mutual
   pub data TypePlan : Type 0 where
-    -- a simple type in place
+    -- A simple type in place.
     simple : Space → TypePlan
-    -- SEQUENCE; whether USE-NIL, EMBED-VALUES and USE-ORDER stand on it
+    -- SEQUENCE; whether it has USE-NIL, EMBED-VALUES and USE-ORDER.
     sequence : Bool → Bool → Bool → Parts → TypePlan
     choice : Parts → TypePlan
-    -- SEQUENCE OF so many
+    -- SEQUENCE OF, with its bounds.
     repeated : Label → TypePlan → ℕ → Option ℕ → TypePlan
-    -- ENUMERATED of the identifiers of parts that stand for the latter, in a scope where parts that stand for the former
-    -- have theirs before
+    -- ENUMERATED of the identifiers of the parts with the second labels, in a scope that already has those of the parts with the
+    -- first labels.
     order_items : List Label → List Label → TypePlan
-    -- the type of an assignment
+    -- The type of an assignment.
     reference : Subject → TypePlan
 
   pub data Parts : Type 0 where
     finish : Parts
-    -- a part, whether it is optional, its type, and the parts behind it
+    -- A part, whether it is optional, its type, and the parts after it.
     part : Label → Bool → TypePlan → Parts → Parts

@@ -1,4 +1,4 @@
-//! Attribute uses, and what has a simple type.
+//! Attribute uses, and the types of components that have a simple type.
 ghost use Rattle.std.specs.Prelude.{◌≡◌, ◌<◌, IfOk, OnOk, length, All};
 ghost use Rattle.schema_components.specs.Linked.{IsLinked, IsUse};
 ghost use Rattle.map_assignments.specs.Plans.{Parts};
@@ -17,7 +17,8 @@ use map_subjects::Subject;
 use schema_components::AttributeUse;
 
 impl Mapper<'_> {
-    /// The type of what has the simple type with this number: that of its assignment, or the type in place.
+    /// Returns the type of a component that has the simple type with this number: a reference to its assignment, or the type in
+    /// place.
     pub(crate) fn simple_at(self, n: u32) -> Result<Tree<TypeLabel>, Memory>
         requires linked { IsLinked self.set.now }
         requires number { n < length self.set.now.simples }

@@ -30,7 +30,7 @@ fn is_mixed(content: &Content) -> bool
     matches!(content, Content::Mixed(_))
 }
 
-// Whether it is an all, which has particles.
+// Returns whether it is an all that has particles.
 fn is_all(particle: &Tree<ParticleLabel>) -> bool
     ensures { result ≡ plan.is_all (seen particle.now) }
 {
@@ -40,7 +40,7 @@ fn is_all(particle: &Tree<ParticleLabel>) -> bool
     }
 }
 
-// Whether child elements may stand in any order.
+// Returns whether child elements may appear in any order.
 fn is_ordered(content: &Content) -> bool
     ensures { result ≡ plan.is_ordered content.now }
 {
@@ -51,7 +51,7 @@ fn is_ordered(content: &Content) -> bool
     }
 }
 
-// USE-NIL, EMBED-VALUES and USE-ORDER.
+// Returns USE-NIL, EMBED-VALUES and USE-ORDER, each if it is required.
 fn sequence_marks(
     alloc: Global,
     nillable: bool,
@@ -73,7 +73,7 @@ fn sequence_marks(
     Ok(Marks::of(marks))
 }
 
-// No parts but that of mixed content.
+// Returns the part of mixed content, if it is mixed, and no other parts.
 fn begin(alloc: Global, mixed: bool) -> Result<PartList, Memory>
     ensures { IfOk result (λ made. (place : Subject → ℕ) (rest : Parts) → LeadsToNamed place made rest (plan.with_texts mixed rest)) }
 {
@@ -86,7 +86,7 @@ fn begin(alloc: Global, mixed: bool) -> Result<PartList, Memory>
     }
 }
 
-// The part for the order of the elements, where the content model is an all.
+// Appends the part for the order of the elements, if the content model is an all.
 fn push_all_order(
     parts: &mut PartList,
     nillable: bool,
@@ -108,7 +108,7 @@ fn push_all_order(
     }
 }
 
-// The part for the order of the elements, where they may stand in any order.
+// Appends the part for the order of the elements, if they may appear in any order.
 fn push_content_order(
     parts: &mut PartList,
     nillable: bool,
@@ -128,7 +128,7 @@ fn push_content_order(
     }
 }
 
-// The type that has these parts, of a complex type with this content.
+// Returns the type that has these parts, of a complex type with this content.
 fn marked_sequence(
     alloc: Global,
     parts: PartList,
@@ -143,7 +143,7 @@ fn marked_sequence(
 }
 
 impl Mapper<'_> {
-    // The parts that stand first, up to the attributes.
+    // Returns the first parts, up to the attributes.
     fn first_parts(self, nillable: bool, definition: &ComplexDef) -> Result<PartList, Memory>
         requires linked { IsLinked self.set.now }
         requires definition { IsComplexType self.set.now definition.now }
@@ -157,7 +157,7 @@ impl Mapper<'_> {
         Ok(parts)
     }
 
-    // The type of nillable elements of the simple type with this number.
+    // Returns the type of nillable elements of the simple type with this number.
     fn nillable_simple_type(self, n: u32) -> Result<Tree<TypeLabel>, Memory>
         requires linked { IsLinked self.set.now }
         requires number { n < length self.set.now.simples }
@@ -170,7 +170,7 @@ impl Mapper<'_> {
         Ok(parts.into_sequence(marks))
     }
 
-    // The type where a particle of the element with this number stands.
+    // Returns the type at a particle of the element with this number.
     #[cycle(content)]
     fn particle_type(self, levels: u32, decl: u32) -> Result<Tree<TypeLabel>, Memory>
         requires linked { IsLinked self.set.now }
@@ -183,7 +183,7 @@ impl Mapper<'_> {
         self.own_type(levels, self.set.element(decl))
     }
 
-    // The type of a declaration, where it isn't referred to.
+    // Returns the type of a declaration itself, not of a reference to it.
     #[cycle(content)]
     pub(crate) fn own_type(
         self,
@@ -217,8 +217,8 @@ impl Mapper<'_> {
         }
     }
 
-    /// The type of the complex type with this number, in which at most so many types without a name stand in one another,
-    /// itself included.
+    /// Returns the type of the complex type with this number, in which at most `levels` types without a name are nested,
+    /// including itself.
     #[cycle(content)]
     pub(crate) fn in_place(
         self,
@@ -254,7 +254,7 @@ impl Mapper<'_> {
         marked_sequence(self.alloc, parts, nillable, content)
     }
 
-    // What stands behind the attributes.
+    // Appends the parts after the attributes.
     #[cycle(content)]
     fn push_rest(
         self,
@@ -276,7 +276,7 @@ impl Mapper<'_> {
         }
     }
 
-    // The type of what a nillable element has where it isn't nil.
+    // Returns the type of the content that a nillable element has if it isn't nil.
     #[cycle(content)]
     fn content_type(self, levels: u32, content: &Content) -> Result<Tree<TypeLabel>, Memory>
         requires linked { IsLinked self.set.now }
@@ -315,7 +315,7 @@ impl Mapper<'_> {
         }
     }
 
-    // The parts of a content model.
+    // Appends the parts of a content model.
     #[cycle(content)]
     fn push_top(
         self,
@@ -336,7 +336,7 @@ impl Mapper<'_> {
         push_particle(self.alloc, parts, false, label, kid)
     }
 
-    // The type of one occurrence of a particle.
+    // Returns the type of one occurrence of a particle.
     #[cycle(content)]
     fn term_type(
         self,
@@ -356,7 +356,7 @@ impl Mapper<'_> {
         }
     }
 
-    // The type of a sequence of these particles.
+    // Returns the type of a sequence of these particles.
     #[cycle(content)]
     fn sequence_type(
         self,
@@ -372,7 +372,7 @@ impl Mapper<'_> {
         Ok(parts.into_sequence(Marks::of(Vec::new(self.alloc))))
     }
 
-    // The type of a choice of these particles.
+    // Returns the type of a choice of these particles.
     #[cycle(content)]
     fn choice_type(
         self,
@@ -388,7 +388,7 @@ impl Mapper<'_> {
         Ok(parts.into_choice(Marks::of(Vec::new(self.alloc))))
     }
 
-    // The parts for particles of a group.
+    // Appends the parts for particles of a group.
     #[cycle(content)]
     fn push_particles(
         self,

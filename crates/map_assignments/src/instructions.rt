@@ -1,4 +1,4 @@
-//! Encoding instructions that tell the names of XML back.
+//! Encoding instructions that restore XML names.
 ghost use Rattle.std.specs.Prelude.{◌≡◌, ◌++◌, ◌∷◌, [], IfOk, OnOk};
 ghost use Rattle.asn_types.specs.Simples.{white_space_marks};
 ghost use Rattle.asn_names.specs.Restoring.{form_of};
@@ -16,7 +16,7 @@ pub(crate) fn one_mark(alloc: Global, mark: Instruction) -> Result<Marks, Memory
     Ok(Marks::of(marks))
 }
 
-// NAME, where the generated name isn't the name.
+// Appends NAME, if the generated name isn't the name.
 pub(crate) fn push_name(
     alloc: Global,
     marks: &mut Vec<Instruction>,
@@ -32,7 +32,7 @@ pub(crate) fn push_name(
     Ok(())
 }
 
-// NAMESPACE, where there is a namespace.
+// Appends NAMESPACE, if there is a namespace.
 fn push_namespace(alloc: Global, marks: &mut Vec<Instruction>, space: &Text) -> Result<(), Memory>
     ensures { OnOk result (marks.new.items ≡ marks.old.items ++ namespace_marks space.now) }
 {
@@ -43,7 +43,7 @@ fn push_namespace(alloc: Global, marks: &mut Vec<Instruction>, space: &Text) -> 
     Ok(())
 }
 
-// NAME and NAMESPACE.
+// Appends NAME and NAMESPACE, each if it is required.
 pub(crate) fn push_qualified(
     alloc: Global,
     marks: &mut Vec<Instruction>,
@@ -56,7 +56,7 @@ pub(crate) fn push_qualified(
     push_namespace(alloc, marks, &name.space)
 }
 
-// WHITESPACE, where white space isn't preserved.
+// Appends WHITESPACE, unless white space is preserved.
 pub(crate) fn push_white_space(marks: &mut Vec<Instruction>, how: WhiteSpace) -> Result<(), Memory>
     ensures { OnOk result (marks.new.items ≡ marks.old.items ++ white_space_marks how) }
 {
@@ -68,7 +68,7 @@ pub(crate) fn push_white_space(marks: &mut Vec<Instruction>, how: WhiteSpace) ->
     Ok(())
 }
 
-// TEXT of the item with this number, where its identifier isn't its word.
+// Appends TEXT for the item with this number, if its identifier isn't its word.
 pub(crate) fn push_text(
     alloc: Global,
     marks: &mut Vec<Instruction>,

@@ -1,6 +1,6 @@
 //! Maps the components of a linked set to ASN.1 types and assignments, after ITU-T X.694.
 //!
-//! Read first: docs/MAPPING.md, `specs/Plans` and `Planning`, `Naming`, `Mapped` (`IsMapOf`), then `map_set` in
+//! Read first: docs/reference/MAPPING.md, `specs/Plans` and `Planning`, `Naming`, `Mapped` (`IsMapOf`), then `map_set` in
 //! `src/modules.rt` and `src/map.rt`.
 #![tactic(auto)]
 

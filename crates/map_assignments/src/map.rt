@@ -21,10 +21,10 @@ use map_subjects::{NamedSubject, Subject};
 use schema_components::SchemaSet;
 use std::alloc::Global;
 
-// How many types without a name stand in one another, at most.
+// The greatest number of nested types without a name.
 const LEVELS: u32 = 21;
 
-// The instructions of an assignment with this reference.
+// Returns the instructions of an assignment with this reference.
 fn assignment_marks(
     alloc: Global,
     subject: Subject,
@@ -47,7 +47,7 @@ fn assignment_marks(
     Ok(Marks::of(marks))
 }
 
-// The reference of the assignment with this number, empty where there is none.
+// Returns the reference of the assignment with this number, empty if there is none.
 fn reference_at(alloc: Global, made: &[Assignment], n: u32) -> Result<Text, Memory>
     ensures { IfOk result (λ text. text ≡ unwrap_or (slice_get (references_of made.now) n) []) }
 {
@@ -57,7 +57,7 @@ fn reference_at(alloc: Global, made: &[Assignment], n: u32) -> Result<Text, Memo
     }
 }
 
-// What the reference of an assignment is made from, behind these assignments.
+// Returns the name from which the reference of the next assignment after these is made.
 fn wanted_reference(
     alloc: Global,
     places: &Places,
@@ -76,7 +76,7 @@ fn wanted_reference(
     Text::from_string(text)
 }
 
-// A type whose parts have their types.
+// Returns the tree as a complete one: each part has its type.
 fn sealed(tree: Tree<TypeLabel>) -> Whole<TypeLabel>
     requires { Allowed MayHave tree }
     ensures { result ≡ tree }
@@ -88,7 +88,7 @@ fn sealed(tree: Tree<TypeLabel>) -> Whole<TypeLabel>
 }
 
 impl Mapper<'_> {
-    // The type that has an assignment.
+    // Returns the type that has an assignment.
     fn body(self, subject: Subject) -> Result<Tree<TypeLabel>, Memory>
         requires linked { IsLinked self.set.now }
         requires subject { IsSubject self.set.now subject }
@@ -103,7 +103,7 @@ impl Mapper<'_> {
         }
     }
 
-    // The assignment after these.
+    // Returns the assignment after these.
     fn assignment(
         self,
         scope: &mut Scope,
@@ -128,7 +128,7 @@ impl Mapper<'_> {
         })
     }
 
-    // Makes the assignments of these components in their order, the first of all.
+    // Appends the assignments of these components in their order, from the first of all.
     fn push_assignments(
         self,
         scope: &mut Scope,
@@ -149,9 +149,9 @@ impl Mapper<'_> {
     }
 }
 
-/// The assignments of these components in this order, which is that of the module. There are fewer than 2^32 of them.
+/// Returns the assignments of these components in this order, which is that of the module. There are fewer than 2^32 of them.
 ///
-/// Memory is the only cause of an error.
+/// The only error is a failed allocation.
 pub fn assignments(
     alloc: Global,
     set: &SchemaSet,

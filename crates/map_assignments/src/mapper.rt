@@ -1,4 +1,4 @@
-//! What makes the types of components.
+//! The context in which the types of components are made.
 use crate::places::Places;
 use schema_components::SchemaSet;
 use std::alloc::Global;

@@ -13,31 +13,31 @@ use map_subjects::{entries, number_of_element};
 use schema_components::SchemaSet;
 use std::alloc::Global;
 
-/// The map of a linked set (X.694): the module of the types of its components, in the order of their assignments. A set
-/// has just one.
+/// Returns the map of a linked set (X.694): the module of the types of its components, in the order of their assignments. A set
+/// has exactly one map.
 ///
-/// Memory is the only cause of an error.
+/// The only error is a failed allocation.
 pub fn map_set(alloc: Global, set: &SchemaSet) -> Result<Module, Memory>
     ensures map { IfOk result (λ made. IsMapOf set.now made) }
     ensures only { IfOk result (λ made. (other : List Assignment) → IsMapOf set.now other → other ≡ made) }
 {
-    // What each linked set keeps is known once one of its readers was called.
+    // Calling one of the set's readers makes its invariant known.
     let _ = set.element_count();
     let ordered = entries(alloc, set)?;
     let made = assignments(alloc, set, &ordered)?;
     Ok(Module::of(made))
 }
 
-/// The number of the assignment of a global element in the map of the set, from 0.
+/// Returns the number of the assignment of a global element in the map of the set, from 0.
 ///
-/// It takes no memory. The time is that of a pass over the set, and besides one over its elements for each complex type
-/// with a name in a namespace that stands before the element's.
+/// It allocates nothing. The time is that of a pass over the set, and of one more over its elements for each complex type with a
+/// name in a namespace that precedes the element's.
 pub fn root_type(set: &SchemaSet, element: u32) -> u32
     requires { element < set.now.globals }
     ensures number { (entries : List NamedSubject) → AreEntries set.now entries → result ≡ place_in entries (Element element) }
     ensures within { (M : List Assignment) → IsMapOf set.now M → result < length M }
 {
-    // What each linked set keeps is known once one of its readers was called.
+    // Calling one of the set's readers makes its invariant known.
     let _ = set.element_count();
     number_of_element(set, element)
 }

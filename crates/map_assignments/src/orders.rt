@@ -11,13 +11,14 @@ ghost use Rattle.map_assignments.specs.Naming.{wanted, AreTaken, IsNamed};
 ghost use Rattle.map_assignments.specs.Private.Building.{LeadsToNames, LeadsToScope, order_tree};
 
 use crate::particles::part_name;
+use crate::simple::{items_type, plain};
 use asn_names::{NameKind, Scope, convert};
-use asn_types::{Component, Form, Marks, TypeLabel};
+use asn_types::{Form, Marks, TypeLabel};
 use base_texts::{Memory, Text};
 use base_trees::Tree;
 use content_models::ParticleLabel;
 use schema_components::AttributeUse;
-use simple_types::{Standard, TextList};
+use simple_types::TextList;
 use std::alloc::Global;
 
 // Takes an identifier made from this name.
@@ -129,23 +130,8 @@ fn order_tree(alloc: Global, identifiers: Vec<Text>) -> Result<Tree<TypeLabel>, 
     ensures { IfOk result (λ made. made ≡ order_tree identifiers.items) }
 {
     let identifiers = TextList::of(identifiers)?;
-    let form = Form::Order { identifiers };
-    let marks = Marks::of(Vec::new(alloc));
-    let item = Tree::leaf(alloc, TypeLabel { form, marks });
-    let kids = vec![in alloc; item]?;
-    let part = Component {
-        identifier: Text::empty(),
-        optional: false,
-        standard: Standard::Free,
-        marks: Marks::of(Vec::new(alloc)),
-    };
-    let form = Form::SequenceOf {
-        part,
-        min: 0,
-        max: None,
-    };
-    let marks = Marks::of(Vec::new(alloc));
-    Ok(Tree::join(TypeLabel { form, marks }, kids))
+    let item = plain(alloc, Form::Order { identifiers });
+    items_type(alloc, item, 0, None, Marks::of(Vec::new(alloc)))
 }
 
 /// The type of the order of child elements, whose parts are those of these particles.

@@ -15,6 +15,7 @@ ghost use Rattle.map_assignments.specs.Private.Building.{AddsPart, Adds, LeadsTo
 
 use crate::instructions::{one_mark, push_qualified};
 use crate::parts::PartList;
+use crate::simple::{items_type, plain};
 use asn_names::{NameKind, convert};
 use asn_types::{Component, Form, Instruction, Marks, TypeLabel};
 use base_texts::{Memory, Text};
@@ -212,22 +213,8 @@ fn texts_type(alloc: Global) -> Result<Tree<TypeLabel>, Memory>
         max: None,
         class: Class::Any,
     };
-    let marks = Marks::of(Vec::new(alloc));
-    let text = Tree::leaf(alloc, TypeLabel { form, marks });
-    let kids = vec![in alloc; text]?;
-    let part = Component {
-        identifier: Text::empty(),
-        optional: false,
-        standard: Standard::Free,
-        marks: Marks::of(Vec::new(alloc)),
-    };
-    let form = Form::SequenceOf {
-        part,
-        min: 0,
-        max: None,
-    };
-    let marks = Marks::of(Vec::new(alloc));
-    Ok(Tree::join(TypeLabel { form, marks }, kids))
+    let text = plain(alloc, form);
+    items_type(alloc, text, 0, None, Marks::of(Vec::new(alloc)))
 }
 
 /// The part for the texts between child elements.

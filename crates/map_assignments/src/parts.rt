@@ -17,7 +17,7 @@ use schema_components::AttributeUse;
 use simple_types::Standard;
 use std::alloc::Global;
 
-/// The parts of a SEQUENCE or a CHOICE so far, with their types. Their identifiers are kept apart.
+/// The parts of a SEQUENCE or a CHOICE so far, with their types. Their identifiers are distinct.
 #[derive(Drop)]
 pub(crate) struct PartList {
     alloc: Global,
@@ -26,7 +26,7 @@ pub(crate) struct PartList {
     kids: Vec<Tree<TypeLabel>>,
 }
 
-// The instructions of a part that stands for an attribute.
+// Returns the instructions of a part for an attribute.
 fn attribute_marks(alloc: Global, identifier: &Text, name: &Name) -> Result<Marks, Memory>
     ensures { IfOk result (λ marks. marks ≡ Instruction.Attribute ∷ qualified_marks identifier.now name.now) }
 {
@@ -35,7 +35,7 @@ fn attribute_marks(alloc: Global, identifier: &Text, name: &Name) -> Result<Mark
     Ok(Marks::of(marks))
 }
 
-// The instructions of a part that stands for an element.
+// Returns the instructions of a part for an element.
 fn element_marks(alloc: Global, identifier: &Text, name: &Name) -> Result<Marks, Memory>
     ensures { IfOk result (λ marks. marks ≡ qualified_marks identifier.now name.now) }
 {
@@ -58,12 +58,12 @@ impl PartList {
         }
     }
 
-    /// The allocator of the parts.
+    /// Returns the allocator of the parts.
     pub(crate) fn alloc(&self) -> Global {
         self.alloc
     }
 
-    // Takes an identifier made from this word.
+    // Reserves and returns an identifier made from this word.
     fn take_word(&mut self, word: &str) -> Result<Text, Memory>
         ensures taken { IfOk result (λ identifier. IsTaken Identifier self.old.scope word.now identifier) }
         ensures noted { IfOk result (λ identifier. self.new.scope ≡ self.old.scope ++ identifier ∷ []) }
@@ -74,7 +74,7 @@ impl PartList {
         self.scope.take(NameKind::Identifier, &name)
     }
 
-    // Takes the identifier that is made from this name.
+    // Reserves and returns an identifier made from this name.
     fn take_for(&mut self, name: &Name) -> Result<Text, Memory>
         ensures taken { IfOk result (λ identifier. IsTaken Identifier self.old.scope (identifier_of name.now.local) identifier) }
         ensures noted { IfOk result (λ identifier. self.new.scope ≡ self.old.scope ++ identifier ∷ []) }
@@ -85,7 +85,7 @@ impl PartList {
         self.scope.take(NameKind::Identifier, &converted)
     }
 
-    // A part that stands for an attribute. Its identifier is taken, and it isn't added yet.
+    // Returns a part for an attribute. Its identifier is reserved, but the part isn't added yet.
     fn attribute_part(&mut self, attribute: &AttributeUse) -> Result<Component, Memory>
         ensures { IfOk result (λ part. Takes self.old self.new (plan.attribute attribute.now.name attribute.now.standard) (not attribute.now.required) part) }
     {
@@ -100,7 +100,7 @@ impl PartList {
         })
     }
 
-    // A part that stands for an element. Its identifier is taken, and it isn't added yet.
+    // Returns a part for an element. Its identifier is reserved, but the part isn't added yet.
     fn element_part(&mut self, name: &Name, optional: bool) -> Result<Component, Memory>
         ensures { IfOk result (λ part. Takes self.old self.new (plan.element name.now) optional part) }
     {
@@ -114,7 +114,7 @@ impl PartList {
         })
     }
 
-    // A part whose identifier is taken.
+    // Adds a part whose identifier is reserved.
     fn add(&mut self, part: Component, kid: Tree<TypeLabel>) -> Result<(), Memory>
         ensures scope { OnOk result (self.new.scope ≡ self.old.scope) }
         ensures component { OnOk result (self.new.components.items ≡ self.old.components.items ++ part ∷ []) }
@@ -125,7 +125,7 @@ impl PartList {
         Ok(())
     }
 
-    /// A part that stands for an attribute.
+    /// Adds a part for an attribute.
     pub(crate) fn push_attribute(
         &mut self,
         attribute: &AttributeUse,
@@ -137,7 +137,7 @@ impl PartList {
         self.add(part, kid)
     }
 
-    /// A part that stands for an element.
+    /// Adds a part for an element.
     pub(crate) fn push_element(
         &mut self,
         name: &Name,
@@ -150,7 +150,7 @@ impl PartList {
         self.add(part, kid)
     }
 
-    /// A part with an identifier made from this word, and with these instructions.
+    /// Adds a part with an identifier made from this word, and with these instructions.
     pub(crate) fn push_marked(
         &mut self,
         word: &str,
@@ -170,7 +170,7 @@ impl PartList {
         self.add(part, kid)
     }
 
-    /// A SEQUENCE of the parts, with these instructions.
+    /// Returns a SEQUENCE of the parts, with these instructions.
     pub(crate) fn into_sequence(self, marks: Marks) -> Tree<TypeLabel>
         ensures { result ≡ node (type_label (Form.Sequence self.components.items) marks) (roses_of self.kids.items) }
     {
@@ -180,7 +180,7 @@ impl PartList {
         Tree::join(TypeLabel { form, marks }, self.kids)
     }
 
-    /// A CHOICE of the parts, with these instructions.
+    /// Returns a CHOICE of the parts, with these instructions.
     pub(crate) fn into_choice(self, marks: Marks) -> Tree<TypeLabel>
         ensures { result ≡ node (type_label (Form.Choice self.components.items) marks) (roses_of self.kids.items) }
     {

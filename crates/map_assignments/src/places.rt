@@ -1,4 +1,4 @@
-//! Where assignments stand in the module.
+//! The numbers of assignments in the module.
 ghost use Rattle.std.specs.Prelude.{◌≡◌, ◌<◌, ◌^◌, ℕ, IfOk, length, nat_eq, All, if◌then◌else◌};
 ghost use Rattle.schema_components.specs.Components.{Set};
 ghost use Rattle.schema_components.specs.Linked.{IsLinked};
@@ -15,8 +15,8 @@ use map_subjects::{NamedSubject, Subject};
 use schema_components::SchemaSet;
 use std::alloc::Global;
 
-/// The number of the assignment of each subject: of those of one kind a list by their numbers. `count` is the number of
-/// assignments, which stands where there is none.
+/// The number of the assignment of each subject: for each kind a list by the numbers of the subjects. `count` is the number of
+/// assignments; it is returned for a subject without an assignment.
 #[derive(Drop)]
 pub(crate) struct Places {
     elements: Vec<u32>,
@@ -27,7 +27,7 @@ pub(crate) struct Places {
     count: u32,
 }
 
-// The number in the list, or this count where there is none.
+// Returns the number in the list, or this count if there is none.
 fn number_at(numbers: &[u32], n: u32, count: u32) -> u32
     ensures { result ≡ number_at numbers.now n count }
 {
@@ -38,7 +38,7 @@ fn number_at(numbers: &[u32], n: u32, count: u32) -> u32
 }
 
 impl Places {
-    /// The number of the subject's assignment.
+    /// Returns the number of the subject's assignment.
     pub(crate) fn of(&self, subject: Subject) -> u32
         ensures { result ≡ place_of self.now subject }
     {
@@ -51,7 +51,7 @@ impl Places {
         }
     }
 
-    /// The type that refers to the subject's assignment.
+    /// Returns the type that refers to the subject's assignment.
     pub(crate) fn reference(&self, alloc: Global, subject: Subject) -> Tree<TypeLabel>
         ensures { IsNamed (place_of self.now) (plan.reference subject) result }
     {
@@ -63,7 +63,7 @@ impl Places {
     }
 }
 
-// Another number in the list.
+// Replaces a number in the list.
 fn set_number(numbers: &mut Vec<u32>, n: u32, number: u32)
     requires { n < length numbers.old.items }
     ensures length { length numbers.new.items ≡ length numbers.old.items }
@@ -72,7 +72,7 @@ fn set_number(numbers: &mut Vec<u32>, n: u32, number: u32)
     numbers[n as usize] = number;
 }
 
-// So many times this number.
+// Returns a list of `count` times this number.
 fn all(alloc: Global, count: u32, number: u32) -> Result<Vec<u32>, Memory>
     ensures length { IfOk result (λ made. length made.items ≡ count) }
     ensures number { IfOk result (λ made. (n : ℕ) → number_at made.items n number ≡ number) }
@@ -82,7 +82,7 @@ fn all(alloc: Global, count: u32, number: u32) -> Result<Vec<u32>, Memory>
 }
 
 impl Places {
-    // This number for each subject of the set.
+    // Returns places with the number `count` for each subject of the set.
     fn none(alloc: Global, set: &SchemaSet, count: u32) -> Result<Places, Memory>
         requires linked { IsLinked set.now }
         ensures lists { IfOk result (λ made. HasLists set.now made) }
@@ -98,7 +98,7 @@ impl Places {
         })
     }
 
-    // Another number for the subject.
+    // Sets the number of the subject.
     fn set(&mut self, subject: Subject, number: u32)
         requires { HasPlace self.old subject }
         ensures lists { (s : Set) → HasLists s self.old → HasLists s self.new }
@@ -113,7 +113,7 @@ impl Places {
         }
     }
 
-    /// The numbers of these assignments in their order.
+    /// Returns the numbers of these assignments in their order.
     pub(crate) fn of_entries(
         alloc: Global,
         set: &SchemaSet,

@@ -17,8 +17,8 @@ use base_trees::Tree;
 use simple_types::{Class, NumberList, Simple, Standard};
 use std::alloc::Global;
 
-// A type without parts and instructions.
-fn plain(alloc: Global, form: Form) -> Tree<TypeLabel>
+/// Returns a type without parts and instructions.
+pub(crate) fn plain(alloc: Global, form: Form) -> Tree<TypeLabel>
     ensures { IsLeaf form [] result }
 {
     let marks = Marks::of(Vec::new(alloc));
@@ -50,17 +50,17 @@ fn text_type(
     Ok(Tree::leaf(alloc, TypeLabel { form, marks }))
 }
 
-// A LIST of items of this type.
-fn list_type(
+/// Returns a SEQUENCE OF with `min` to `max` items of this type, whose part has no name.
+pub(crate) fn items_type(
     alloc: Global,
     item: Tree<TypeLabel>,
     min: u32,
     max: Option<u32>,
+    marks: Marks,
 ) -> Result<Tree<TypeLabel>, Memory>
-    ensures { IfOk result (λ made. made ≡ node (type_label (Form.SequenceOf list_item min max) (Instruction.List ∷ [])) (rose.more item rose.none)) }
+    ensures { IfOk result (λ made. made ≡ node (type_label (Form.SequenceOf list_item min max) marks) (rose.more item rose.none)) }
 {
     let kids = vec![in alloc; item]?;
-    let marks = one_mark(alloc, Instruction::List)?;
     let part = Component {
         identifier: Text::empty(),
         optional: false,
@@ -71,7 +71,20 @@ fn list_type(
     Ok(Tree::join(TypeLabel { form, marks }, kids))
 }
 
-// The alternatives of a union for its members, which are the first parts.
+// Returns a LIST of items of this type.
+fn list_type(
+    alloc: Global,
+    item: Tree<TypeLabel>,
+    min: u32,
+    max: Option<u32>,
+) -> Result<Tree<TypeLabel>, Memory>
+    ensures { IfOk result (λ made. made ≡ node (type_label (Form.SequenceOf list_item min max) (Instruction.List ∷ [])) (rose.more item rose.none)) }
+{
+    let marks = one_mark(alloc, Instruction::List)?;
+    items_type(alloc, item, min, max, marks)
+}
+
+// Appends the alternatives of a union for its members, which are the first parts.
 #[cycle(simple)]
 fn push_members(alloc: Global, parts: &mut PartList, members: &[Simple]) -> Result<(), Memory>
     requires sound { AreSound (spaces_in members.now) }
@@ -98,7 +111,7 @@ fn union_type(alloc: Global, members: &[Simple]) -> Result<Tree<TypeLabel>, Memo
     Ok(parts.into_choice(marks))
 }
 
-// The type to which a simple type is mapped where it stands in place.
+// Returns the type that a simple type in place is mapped to.
 #[cycle(simple)]
 #[tactic(auto, unfolding(simple_types::specs::Seen::space_of))]
 pub(crate) fn simple_type(alloc: Global, simple: &Simple) -> Result<Tree<TypeLabel>, Memory>

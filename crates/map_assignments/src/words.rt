@@ -12,7 +12,7 @@ use base_trees::Tree;
 use simple_types::TextList;
 use std::alloc::Global;
 
-// Takes the identifiers of the items that stand for these words in their order, behind those that are made.
+// Appends the identifiers of the items for these words in their order, after those already made.
 fn take_words(
     alloc: Global,
     scope: &mut Scope,
@@ -31,7 +31,7 @@ fn take_words(
     Ok(())
 }
 
-// The identifiers of the items that stand for these words, taken in their order.
+// Returns the identifiers of the items for these words, made in their order.
 fn identifiers_of(alloc: Global, words: &[Text]) -> Result<Vec<Text>, Memory>
     ensures taken { IfOk result (λ made. AreTaken [] (map identifier_of words.now) made.items) }
     ensures each { IfOk result (λ made. length made.items ≡ length words.now) }
@@ -42,7 +42,7 @@ fn identifiers_of(alloc: Global, words: &[Text]) -> Result<Vec<Text>, Memory>
     Ok(made)
 }
 
-// TEXT of each item whose identifier isn't its word.
+// Appends TEXT for each item whose identifier isn't its word.
 fn push_texts(
     alloc: Global,
     marks: &mut Vec<Instruction>,
@@ -59,7 +59,7 @@ fn push_texts(
     Ok(())
 }
 
-// WHITESPACE, and TEXT of the items.
+// Returns WHITESPACE, unless white space is preserved, and TEXT of the items.
 fn word_marks(
     alloc: Global,
     space: WhiteSpace,
@@ -76,7 +76,7 @@ fn word_marks(
     Ok(Marks::of(marks))
 }
 
-/// The ENUMERATED of these words, of which there are fewer than 2^32.
+/// Returns the ENUMERATED of these words, of which there are fewer than 2^32.
 pub(crate) fn words_type(
     alloc: Global,
     space: WhiteSpace,

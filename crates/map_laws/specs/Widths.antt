@@ -1,4 +1,4 @@
--- The widths that the code has for numbers and sizes: whole numbers are of 128 bits, and sizes of 32.
+-- The widths of the code's numbers and sizes: whole numbers have 128 bits, and sizes 32.
 use Rattle.std.specs.Prelude.{◌<◌, ◌^◌, All, Option, Some, None}
 use Rattle.base_trees.specs.Rose.{Rose, node, Roses}
 use Rattle.base_trees.specs.Rose as rose

@@ -8,12 +8,12 @@ ghost use Rattle.asn_types.specs.Bounds.{IsBounded};
 ghost use Rattle.map_assignments.specs.Mapped.{IsMapOf};
 ghost use Rattle.map_laws.specs.Widths.{HasWidths};
 
-/// The map of a linked set is a module.
+/// States that the map of a linked set is a module.
 pub fn maps_are_modules()
     ensures { (s : Set) (M : List Assignment) → IsLinked s → IsMapOf s M → IsModule M }
 {}
 
-/// Where a set is within the widths that the code has for numbers and sizes, so is its map.
+/// States that, if a set is within the widths of the code's numbers and sizes, so is its map.
 pub fn maps_are_bounded()
     ensures { (s : Set) (M : List Assignment) → HasWidths s → IsMapOf s M → IsBounded M }
 {}

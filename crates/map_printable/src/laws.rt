@@ -1,9 +1,9 @@
-//! The law of what the maps of sets print.
+//! The law that the maps of sets are printable.
 ghost use Rattle.map_printable.specs.Maps.{MapsArePrintable};
 
 use map_laws::{maps_are_bounded, maps_are_modules};
 
-/// The map of a linked set within the widths of numbers is printable.
+/// States that the map of a linked set within the widths of numbers is printable.
 pub fn maps_are_printable()
     ensures { MapsArePrintable }
 {

@@ -1,4 +1,4 @@
--- What has an assignment in the module, and in which order assignments stand.
+-- The components that have assignments in the module, and the order of the assignments.
 use Rattle.std.specs.Prelude.{◌≡◌, ◌↔◌, ◌&&◌, ◌<◌, ℕ, suc, Bool, true, false, List, [], ◌∷◌, Option, Some, None, option_and_then, length, slice_get, take, cond, nat_eq}
 use Rattle.std.specs.List.{list_any, Contains}
 use Rattle.std.specs.List.Sorted.{IsStrictlySortedBy}
@@ -14,7 +14,7 @@ use Rattle.map_subjects.specs.declared.subjects.Subject.{Subject}
 use Rattle.map_subjects.specs.declared.subjects.NamedSubject.{NamedSubject}
 use Rattle.map_subjects.specs.declared.subjects.Subject.TheVariants.{Element, Attribute, Simple, Complex, Nillable}
 
--- some nillable element, global or local, has the complex type
+-- Some nillable element, global or local, has the complex type.
 abbrev pub is_nillable_of : ℕ → ElementDecl → Bool
 is_nillable_of n e = e.nillable && elim e.kind [ kind.Simple m ↦ false | kind.Complex m ↦ nat_eq m n ]
 
@@ -27,7 +27,7 @@ simple_name s n = option_and_then (λ t. t.name) (slice_get s.simples n)
 abbrev pub complex_name : Set → ℕ → Option Name
 complex_name s n = option_and_then (λ c. c.name) (slice_get s.complexes n)
 
--- the name of what has an assignment: none where there is no such component, or one that has no assignment
+-- The name of a component that has an assignment; none if there is no such component, or if it has no assignment.
 abbrev pub name_of : Set → Subject → Option Name
 name_of s (Element d) = option_map (λ e. e.name) (slice_get (take s.globals s.elements) d)
 name_of s (Attribute n) = option_map (λ a. a.name) (slice_get s.attributes n)
@@ -35,7 +35,7 @@ name_of s (Simple n) = simple_name s n
 name_of s (Complex n) = complex_name s n
 name_of s (Nillable n) = cond (has_nillable s n) (complex_name s n) None
 
--- there is such a component
+-- There is such a component.
 abbrev pub IsSubject : Set → Subject → Type 0
 IsSubject s (Element n) = n < s.globals
 IsSubject s (Attribute n) = n < length s.attributes
@@ -43,7 +43,7 @@ IsSubject s (Simple n) = n < length s.simples
 IsSubject s (Complex n) = n < length s.complexes
 IsSubject s (Nillable n) = n < length s.complexes
 
--- in one namespace elements stand first, then attributes, types, and types of nillable elements
+-- In one namespace elements are first, then attributes, types, and types of nillable elements.
 abbrev pub rank : Subject → ℕ
 rank (Element d) = 0
 rank (Attribute n) = 1
@@ -51,7 +51,7 @@ rank (Simple n) = 2
 rank (Complex n) = 2
 rank (Nillable n) = 3
 
--- by namespace, in one namespace by rank, and in one rank by local name
+-- The order is by namespace, in one namespace by rank, and in one rank by local name.
 abbrev pub order_of : ℕ → Name → ℕ → Name → Ordering
 order_of i a j b =
     ordering_then (slice_cmp nat_cmp a.space b.space) (ordering_then (nat_cmp i j) (slice_cmp nat_cmp a.local b.local))
@@ -59,7 +59,7 @@ order_of i a j b =
 abbrev pub entry_cmp : NamedSubject → NamedSubject → Ordering
 entry_cmp a b = order_of (rank a.subject) a.name (rank b.subject) b.name
 
--- These are the assignments of the module in their order: each component that has a name of its own stands once.
+-- These are the assignments of the module in their order: each component that has a name of its own appears once.
 pub record AreEntries (s : Set) (es : List NamedSubject) : Type 0 where
   pub ascending : IsStrictlySortedBy entry_cmp es
   pub whole : (w : Subject) (name : Name) → Contains es (record { subject = w; name = name }) ↔ (name_of s w ≡ Some name)
@@ -72,7 +72,7 @@ same_subject (Complex m) (Complex n) = nat_eq m n
 same_subject (Nillable m) (Nillable n) = nat_eq m n
 same_subject _ _ = false
 
--- the number of the assignment: how many stand before it
+-- The number of the assignment: how many precede it.
 abbrev pub place_in : List NamedSubject → Subject → ℕ
 place_in [] w = 0
 place_in (e ∷ es) w = elim (same_subject e.subject w) [ true ↦ 0 | false ↦ suc (place_in es w) ]

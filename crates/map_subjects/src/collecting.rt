@@ -1,4 +1,4 @@
-//! Which components of a set have assignments, and in which order.
+//! Lists the components of a set that have assignments, in their order.
 ghost use Rattle.std.specs.Prelude.{◌≡◌, ◌<◌, ◌^◌, ◌++◌, ◌||◌, ℕ, nat_eq, Some, false, IfOk, OnOk, length};
 ghost use Rattle.std.specs.List.Sorted.{IsPermutation, IsSorted};
 ghost use Rattle.schema_components.specs.Linked.{IsLinked};
@@ -24,7 +24,7 @@ fn push_entry(
     Ok(())
 }
 
-// The entry of a type, where it has a name.
+// Appends the entry of a type, if it has a name.
 fn push_named(
     alloc: Global,
     made: &mut Vec<NamedSubject>,
@@ -124,7 +124,7 @@ fn unmarked(alloc: Global, count: u32) -> Result<Vec<bool>, Memory>
     Ok(marks)
 }
 
-// The complex types that some nillable element has.
+// Returns marks of the complex types that some nillable element has.
 fn nillable_types(alloc: Global, set: &SchemaSet) -> Result<Vec<bool>, Memory>
     requires { IsLinked set.now }
     ensures { IfOk result (λ marks. (n : ℕ) → is_marked marks.items n ≡ has_nillable set.now n) }
@@ -136,7 +136,7 @@ fn nillable_types(alloc: Global, set: &SchemaSet) -> Result<Vec<bool>, Memory>
     Ok(marks)
 }
 
-// The entry for nillable elements of a complex type, where there are such elements and it has a name.
+// Appends the entry for the nillable elements of a complex type, if there are such elements and it has a name.
 fn push_nillable(
     alloc: Global,
     set: &SchemaSet,
@@ -203,7 +203,7 @@ fn collected(alloc: Global, set: &SchemaSet) -> Result<Vec<NamedSubject>, Memory
     Ok(made)
 }
 
-// In one namespace elements stand first, then attributes, types, and types of nillable elements.
+// Returns the rank of a component: in one namespace elements are first, then attributes, types, and types of nillable elements.
 pub(crate) fn rank(subject: Subject) -> u8
     ensures { result ≡ rank subject }
 {
@@ -216,7 +216,7 @@ pub(crate) fn rank(subject: Subject) -> u8
     }
 }
 
-// The order of two components of these ranks and names.
+// Compares two components of these ranks and names.
 pub(crate) fn order(first: u8, a: &Name, second: u8, b: &Name) -> Ordering
     ensures { result ≡ order_of first a.now second b.now }
 {
@@ -242,9 +242,9 @@ fn sort(entries: &mut Vec<NamedSubject>) -> Result<(), AllocError>
     entries.sort_by(|a, b| compare(a, b))
 }
 
-/// What has an assignment in the module, in the order of the assignments: by namespace; in one namespace elements first,
-/// then attributes, types, and types of nillable elements; among these by local name. Namespaces and local names are
-/// compared byte by byte. The time is that of a sort.
+/// Returns the components that have assignments in the module, in the order of the assignments: by namespace; in one namespace
+/// elements first, then attributes, types, and types of nillable elements; among these by local name. Namespaces and local names
+/// are compared byte by byte. The time is that of a sort.
 pub fn entries(alloc: Global, set: &SchemaSet) -> Result<Vec<NamedSubject>, Memory>
     requires { IsLinked set.now }
     ensures entries { IfOk result (λ made. AreEntries set.now made.items) }

@@ -1,4 +1,4 @@
-//! How many assignments stand before that of a global element.
+//! Counts the assignments that precede that of a global element.
 ghost use Rattle.std.specs.Prelude.{◌≡◌, ◌≤◌, ◌<◌, List, Some, length};
 ghost use Rattle.schema_components.specs.Linked.{IsLinked};
 ghost use Rattle.map_subjects.specs.declared.subjects.NamedSubject.{NamedSubject};
@@ -26,7 +26,7 @@ fn before(subject: Subject, name: &Name, element: &Name) -> u32
     }
 }
 
-// Where a type has no name, it has no assignment.
+// Counts the assignment of a type, if it precedes the element's. A type without a name has no assignment.
 fn named_before(subject: Subject, name: &Option<Name>, element: &Name) -> u32
     ensures { result ≡ count_before element.now (entries_with subject name.now) }
 {
@@ -91,7 +91,7 @@ fn is_nillable_of(n: u32, element: &ElementDecl) -> bool
     }
 }
 
-// Whether some nillable element has the complex type.
+// Returns whether some nillable element has the complex type.
 fn has_nillable(set: &SchemaSet, n: u32) -> bool
     ensures { result ≡ has_nillable set.now n }
 {
@@ -103,7 +103,8 @@ fn has_nillable(set: &SchemaSet, n: u32) -> bool
     false
 }
 
-// The names are compared first, so that in most sets no element is looked for.
+// Counts the assignment for nillable elements of a complex type. It compares the names first, so that in most sets it searches
+// for no element.
 fn nillable_before(set: &SchemaSet, n: u32, element: &Name) -> u32
     requires { n < length set.now.complexes }
     ensures { result ≡ count_before element.now (entries_of set.now (Subject.Nillable n)) }
@@ -147,16 +148,16 @@ fn types_before(set: &SchemaSet, element: &Name) -> u32
     simples + complexes + nillables
 }
 
-/// How many assignments stand before that of the global element with this number: the number of its assignment in the
-/// module, from 0.
+/// Returns the number of assignments that precede that of the global element with this number: the number of its assignment in
+/// the module, from 0.
 ///
-/// It takes no memory. The time is that of a pass over the set, and besides one over its elements for each complex type
-/// with a name in a namespace that stands before the element's.
+/// It allocates nothing. The time is that of a pass over the set, and of one more over its elements for each complex type with a
+/// name in a namespace that precedes the element's.
 pub fn number_of_element(set: &SchemaSet, element: u32) -> u32
     requires { element < set.now.globals }
     ensures { (entries : List NamedSubject) → AreEntries set.now entries → result ≡ place_in entries (Subject.Element element) }
 {
-    // What each linked set keeps is known once one of its readers was called.
+    // Calling one of the set's readers makes its invariant known.
     let _ = set.element_count();
     let name = &set.element(element).name;
     let declarations = declarations_before(set, name);

@@ -1,4 +1,4 @@
-//! What has an assignment in the module.
+//! The components that have assignments in the module.
 use base_texts::Name;
 
 /// A component of a set by its number, from 0, among those of its kind.
@@ -16,7 +16,7 @@ pub enum Subject {
     Nillable(u32),
 }
 
-/// An assignment of the module: whose it is, and the name of that component.
+/// An assignment of the module: its component, and the name of that component.
 #[derive(Drop)]
 pub struct NamedSubject {
     pub subject: Subject,

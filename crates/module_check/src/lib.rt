@@ -1,6 +1,6 @@
 //! Finds the first fault of a printed module.
 //!
-//! Read first: docs/MODULE-READ.md, `Faults` in the specs of `module_text`, then `src/type_faults.rt`.
+//! Read first: docs/reference/MODULE-READ.md, `Faults` in the specs of `module_text`, then `src/type_faults.rt`.
 #![tactic(auto)]
 
 mod attributes;

@@ -1,6 +1,6 @@
 //! Proves laws about the faults of printed modules.
 //!
-//! Read first: docs/MODULE-READ.md, then `specs/Laws`.
+//! Read first: docs/reference/MODULE-READ.md, then `specs/Laws`.
 #![tactic(auto)]
 
 mod laws;

@@ -1,6 +1,6 @@
 //! Reads the parts of a printed type, its numbers, bounds, names, items and instructions, and reports their faults.
 //!
-//! Read first: docs/MODULE-READ.md, `Faults` in the specs of `module_text`, then `src/numbers.rt`, the base of the others;
+//! Read first: docs/reference/MODULE-READ.md, `Faults` in the specs of `module_text`, then `src/numbers.rt`, the base of the others;
 //! `Indexed` in the specs, then `src/indexes.rt`.
 #![tactic(auto)]
 

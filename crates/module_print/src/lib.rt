@@ -1,6 +1,6 @@
 //! Prints a module as ASN.1 text, with the encoding instructions of X.693 or without.
 //!
-//! Read first: docs/MODULES.md, `specs/Printed`, then `print_module` in `src/printing.rt`; `specs/Plain` (`plain`), then
+//! Read first: docs/reference/MODULES.md, `specs/Printed`, then `print_module` in `src/printing.rt`; `specs/Plain` (`plain`), then
 //! `plain_module` in `src/stripping.rt`.
 #![tactic(auto)]
 

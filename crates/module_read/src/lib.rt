@@ -1,6 +1,6 @@
 //! Reads printed modules back and lists their assignments.
 //!
-//! Read first: docs/MODULE-READ.md, `ReadBack` and `Meaning` in the specs of `module_text`, then `read_module` in
+//! Read first: docs/reference/MODULE-READ.md, `ReadBack` and `Meaning` in the specs of `module_text`, then `read_module` in
 //! `src/reading.rt`; `specs/Ready` (what is required of a text), then `src/types.rt`.
 #![tactic(auto)]
 

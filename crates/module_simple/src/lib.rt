@@ -1,6 +1,6 @@
 //! Finds the simple type that a printed type stands for, and the values written at it.
 //!
-//! Read first: docs/MODULE-READ.md, `Simple` and `Defaults` in the specs of `module_text`, then `src/simple.rt`.
+//! Read first: docs/reference/MODULE-READ.md, `Simple` and `Defaults` in the specs of `module_text`, then `src/simple.rt`.
 #![tactic(auto)]
 
 mod defaults;

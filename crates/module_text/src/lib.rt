@@ -3,7 +3,7 @@
 //! Everything is kept as written, with the place of each thing at which a fault may be reported. Types nest, so `Box` keeps the
 //! stack small.
 //!
-//! Read first: docs/MODULE-READ.md, `src/types.rt`, `specs/Texts` (the text of a tree) and `specs/Plain` (which trees have one
+//! Read first: docs/reference/MODULE-READ.md, `src/types.rt`, `specs/Texts` (the text of a tree) and `specs/Plain` (which trees have one
 //! in the grammar), then `specs/Printable`, `specs/Faults` and `specs/ReadBack`; `src/boxes.rt` before `src/made.rt`.
 #![tactic(auto)]
 

@@ -65,7 +65,7 @@ impl ModuleWhy {
             ModuleWhy::Spelling => Reason {
                 name: "Spelling",
                 means: "show writes this differently, or not here",
-                remedy: "docs/MODULE-READ.md lists what is written where",
+                remedy: "docs/reference/MODULE-READ.md lists what is written where",
             },
         }
     }

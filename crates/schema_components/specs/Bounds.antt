@@ -7,7 +7,7 @@ use Rattle.schema_components.specs.declared.declarations.RawContent.{RawContent}
 use Rattle.schema_components.specs.declared.declarations.RawContent.TheVariants as content
 use Rattle.schema_components.specs.Raw.{Kind, NamedKind, SimpleKind, ComplexKind, Element, Local, Reference, Own, TypeDefinition, SimpleType, ComplexType}
 
--- The bounds allow an occurrence (XML Schema Part 1, section 3.9.6): `minOccurs` isn't over `maxOccurs`, which isn't 0.
+-- The bounds allow an occurrence (XML Schema Part 1, section 3.9.6): `minOccurs` is at most `maxOccurs`, which isn't 0.
 abbrev pub allow_one : ℕ → Option ℕ → Bool
 allow_one least None = true
 allow_one least (Some most) = nat_le least most && nat_le 1 most
@@ -20,7 +20,7 @@ abbrev mutual
   each_allows_one rose.none = true
   each_allows_one (rose.more t ts) = all_allow_one t && each_allows_one ts
 
--- and there are at most 16 levels of groups, with the elements below them
+-- The bounds allow an occurrence, and there are at most 16 levels of groups, with the elements below them.
 abbrev pub fits : Rose ParticleLabel → Bool
 fits model = nat_le (height model) 17 && all_allow_one model
 
@@ -55,7 +55,7 @@ abbrev pub locals_fit : List Local → Bool
 locals_fit [] = true
 locals_fit (l ∷ ls) = local_fits l && locals_fit ls
 
--- each content model of a document
+-- Each content model of a document fits.
 abbrev pub all_fit : List Element → List TypeDefinition → List Local → Bool
 all_fit elements types locals = elements_fit elements && (types_fit types && locals_fit locals)
 
@@ -65,7 +65,7 @@ abbrev pub follow : ℕ → List ℕ → Bool
 follow place [] = true
 follow place (p ∷ ps) = nat_lt place p && follow p ps
 
--- each is greater than the one before
+-- Each place is greater than the one before.
 abbrev pub ascend : List ℕ → Bool
 ascend [] = true
 ascend (p ∷ ps) = follow p ps

@@ -1,4 +1,4 @@
--- Chains of complex types that stand in one another in one schema document.
+-- Chains of nested complex types in one schema document.
 use Rattle.std.specs.Prelude.{◌≡◌, ◌≤◌, ℕ, List, [], ◌∷◌, length, Option, Some, None, IfSome, IsSomeAnd, slice_get}
 use Rattle.std.specs.List.{All, Any}
 use Rattle.base_texts.specs.declared.texts.Name.{Name}
@@ -7,7 +7,7 @@ use Rattle.schema_components.specs.declared.declarations.RawContent.TheVariants 
 use Rattle.schema_components.specs.Raw.{Complex, Kind, NamedKind, SimpleKind, ComplexKind, Element, Local, Reference, Own, TypeDefinition, SimpleType, ComplexType}
 use Rattle.schema_components.specs.Linked.{leaves_of_model}
 
--- the element particles of the content, none where there is no model
+-- The element particles of the content; none if it has no content model.
 abbrev pub leaves_of_content : RawContent → List (ℕ × Name)
 leaves_of_content content.Empty = []
 leaves_of_content (content.Simple base at) = []
@@ -34,21 +34,21 @@ complex_in_type (ComplexType name body) = Some body
 
 -- ---- chains
 
--- the local declaration with this number has the complex type
+-- The local declaration with this number has the complex type.
 abbrev pub HasComplex : List Local → Complex → ℕ → Type 0
 HasComplex locals d n = IsSomeAnd (slice_get locals n) (λ l. complex_in_local l ≡ Some d)
 
--- a declaration in the content model of the first complex type has the second
+-- A declaration in the content model of the first complex type has the second.
 abbrev pub IsJustIn : List Local → Complex → Complex → Type 0
 IsJustIn locals c d = Any (λ leaf. HasComplex locals d leaf.0) (leaves_of_content c.content)
 
--- each stands just in the one before
+-- Each complex type is directly in the one before.
 abbrev pub IsChain : List Local → List Complex → Type 0
 IsChain locals [] = Unit {0}
 IsChain locals (c ∷ []) = Unit {0}
 IsChain locals (c ∷ d ∷ ds) = IsJustIn locals c d × IsChain locals (d ∷ ds)
 
--- each chain that begins with it has at most 21 types: more can't be written in 64 levels of elements
+-- Each chain that begins with this type has at most 21 types: more can't be written in 64 levels of elements.
 abbrev pub BeginsShort : List Local → Complex → Type 0
 BeginsShort locals c = (ds : List Complex) → IsChain locals (c ∷ ds) → length (c ∷ ds) ≤ 21
 

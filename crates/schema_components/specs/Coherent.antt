@@ -1,4 +1,4 @@
--- How the content models of one schema document and its local declarations hang together.
+-- How the content models of one schema document and its local declarations fit together.
 use Rattle.std.specs.Prelude.{◌≡◌, ℕ, ◌+◌, ◌≤◌, Bool, List, [], ◌∷◌, ◌++◌, count_by}
 use Rattle.base_texts.specs.declared.texts.Name.{Name}
 use Rattle.base_trees.specs.Rose.{Rose, node, Roses}
@@ -60,14 +60,14 @@ numbered n (l ∷ ls) = (n, name_of l) ∷ numbered (n + 1) ls
 
 -- ---- particles
 
--- the element is of this number or a greater one
+-- If the particle is an element, the number of its declaration is n or greater.
 abbrev pub IsFrom : ℕ → ParticleKind → Type 0
 IsFrom n (particle.Element decl name) = n ≤ decl
 IsFrom n particle.Sequence = Unit {0}
 IsFrom n particle.Choice = Unit {0}
 IsFrom n particle.All = Unit {0}
 
--- it was written in this file, and the number of its declaration is this or a greater one
+-- The particle was written in this file, and if it is an element, the number of its declaration is n or greater.
 abbrev pub Stands : ℕ → ℕ → ParticleLabel → Type 0
 Stands file n label = (label.file ≡ file) × IsFrom n label.kind
 
@@ -83,7 +83,7 @@ abbrev pub ModelsStand : ℕ → ℕ → List (Rose ParticleLabel) → Type 0
 ModelsStand file n [] = Unit {0}
 ModelsStand file n (m ∷ ms) = EachStands file n m × ModelsStand file n ms
 
--- what stands in a local declaration is declared behind it
+-- The declarations nested in a local declaration have greater numbers.
 abbrev pub Nested : ℕ → ℕ → List Local → Type 0
 Nested file n [] = Unit {0}
 Nested file n (l ∷ ls) = ModelsStand file (n + 1) (model_in_local l) × Nested file (n + 1) ls
@@ -94,7 +94,7 @@ abbrev pub leaves_in : Document → List (ℕ × Name)
 leaves_in d = leaves_of_models (models_in_elements d.elements) ++ (leaves_of_models (models_in_types d.types) ++ leaves_of_models (models_in_locals d.locals))
 
 pub record IsCoherent (d : Document) : Type 0 where
-  -- the element particles of all content models are the local declarations, each by its number and its name, in some order
+  -- The element particles of all content models are the local declarations, each by its number and its name, in some order.
   pub once : (test : ℕ × Name → Bool) → count_by test (leaves_in d) ≡ count_by test (numbered 0 d.locals)
   pub elements : ModelsStand d.file 0 (models_in_elements d.elements)
   pub types : ModelsStand d.file 0 (models_in_types d.types)

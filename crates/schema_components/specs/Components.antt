@@ -1,4 +1,4 @@
--- What a linked set of schemas tells.
+-- The components of a linked set of schemas.
 use Rattle.std.specs.Prelude.{◌≡◌, ℕ, List, ◌++◌, Option, Some, None, slice_get, take}
 use Rattle.std.specs.Option.{option_map}
 use Rattle.std.specs.List.{filter_map}
@@ -13,7 +13,7 @@ use Rattle.schema_components.specs.declared.components.Content.{Content}
 use Rattle.schema_components.specs.declared.components.Content.TheVariants as content
 use Rattle.schema_components.specs.declared.components.GlobalAttribute.{GlobalAttribute}
 
--- the components, each kind in the order of its numbers; the first `globals` elements are the global ones
+-- The components, each kind in the order of its numbers. The first `globals` elements are the global ones.
 pub record Set : Type 0 where
   pub elements : List ElementDecl
   pub globals : ℕ
@@ -28,7 +28,7 @@ components elements globals simples complexes attributes =
 abbrev pub global_elements : Set → List ElementDecl
 global_elements s = take s.globals s.elements
 
--- the content model, where there is one
+-- The content model, if there is one.
 abbrev pub model_of : Content → Option (Rose ParticleLabel)
 model_of content.Empty = None
 model_of (content.Simple simple) = None
@@ -47,6 +47,6 @@ element_type s n = option_map (λ e. e.kind) (slice_get s.elements n)
 abbrev pub complex_name : Set → ℕ → Option (Option Name)
 complex_name s n = option_map (λ c. c.name) (slice_get s.complexes n)
 
--- the complex type has no name
+-- The complex type has no name.
 abbrev pub IsUnnamed : Set → ℕ → Type 0
 IsUnnamed s n = complex_name s n ≡ Some None

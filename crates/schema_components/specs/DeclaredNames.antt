@@ -3,7 +3,7 @@ use Rattle.std.specs.Prelude.{Bool, true, ◌&&◌, List, [], ◌∷◌, if◌th
 use Rattle.schema_components.specs.Raw.{Use, Kind, NamedKind, SimpleKind, ComplexKind, Element, Local, Reference, Own, Attribute, TypeDefinition, SimpleType, ComplexType}
 use Rattle.schema_components.specs.Declarable.{is_declarable, is_declarable_attribute}
 
--- a reference declares no name
+-- The name of an attribute use may be declared; a reference declares no name.
 abbrev pub use_named : Use → Bool
 use_named u = if u.reference then true else is_declarable_attribute u.name
 
@@ -46,7 +46,7 @@ abbrev pub locals_named : List Local → Bool
 locals_named [] = true
 locals_named (l ∷ ls) = local_named l && locals_named ls
 
--- each name that a document declares may be declared
+-- Each name that a document declares may be declared.
 abbrev pub all_named : List Element → List Attribute → List TypeDefinition → List Local → Bool
 all_named elements attributes types locals =
     elements_named elements && (attributes_named attributes && (types_named types && locals_named locals))

@@ -1,4 +1,4 @@
--- What a document tells.
+-- The components of a document, given by its parts.
 use Rattle.schema_components.specs.Raw.{Document}
 use Rattle.schema_components.specs.declared.documents.RawDoc.{RawDoc}
 pub use Rattle.schema_components.specs.Parts.{parts_of}

@@ -1,4 +1,4 @@
--- Each part of a schema document stands behind the part that it stands in.
+-- Each part of a schema document is after the part that contains it.
 use Rattle.std.specs.Prelude.{ℕ, Bool, true, false, ◌&&◌, nat_eq, nat_lt, List, [], ◌∷◌, Option, Some, None, slice_get}
 use Rattle.base_trees.specs.Rose.{Rose, node, Roses}
 use Rattle.base_trees.specs.Rose as rose
@@ -9,7 +9,7 @@ use Rattle.schema_components.specs.declared.declarations.RawContent.TheVariants 
 use Rattle.schema_components.specs.Places.{local_place}
 use Rattle.schema_components.specs.Raw.{Base, Named, Inner, Bases, none, more, How, Restrict, ListOf, UnionOf, Simple, Use, Complex, Kind, NamedKind, SimpleKind, ComplexKind, Element, Local, Reference, Own, Attribute, TypeDefinition, SimpleType, ComplexType}
 
--- ---- simple types: the definition behind this place, and its `restriction`, `list` or `union` behind that
+-- ---- simple types: the definition after this place, and its `restriction`, `list` or `union` after that
 
 abbrev pub is_behind : ℕ → ℕ → ℕ → Bool
 is_behind place at body_at = nat_lt place at && nat_lt at body_at
@@ -50,7 +50,7 @@ abbrev pub has_place : ℕ → Option Local → Bool
 has_place at None = false
 has_place at (Some local) = nat_eq (local_place local) at
 
--- an element of a content model has the place of its declaration
+-- An element of a content model has the place of its declaration.
 abbrev pub label_declared : List Local → ParticleLabel → Bool
 label_declared locals label =
     elim label.kind [ particle.Element decl name ↦ has_place label.at (slice_get locals decl) | particle.Sequence ↦ true | particle.Choice ↦ true | particle.All ↦ true ]
@@ -102,7 +102,7 @@ abbrev pub types_inward : List Local → List TypeDefinition → Bool
 types_inward locals [] = true
 types_inward locals (t ∷ ts) = definition_inward locals t && types_inward locals ts
 
--- those of the second list, with declarations of the first
+-- The local declarations of the second list are inward, with the numbers of the first.
 abbrev pub locals_inward : List Local → List Local → Bool
 locals_inward locals [] = true
 locals_inward locals (l ∷ ls) = local_inward locals l && locals_inward locals ls

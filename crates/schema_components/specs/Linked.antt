@@ -1,4 +1,4 @@
--- What each linked set of schemas keeps.
+-- What holds of each linked set of schemas.
 use Rattle.std.specs.Prelude.{◌≡◌, ℕ, ◌≤◌, ◌<◌, Bool, true, false, List, [], ◌∷◌, ◌++◌, map, length, Option, Some, None, IfSome, IsSomeAnd, slice_get, nat_eq}
 use Rattle.std.specs.List.{All, Any, IsDistinct, flat_map, count_by}
 use Rattle.std.specs.List.Sorted.{IsStrictlySortedBy}
@@ -28,7 +28,7 @@ use Rattle.schema_components.specs.declared.components.GlobalAttribute.{GlobalAt
 use Rattle.schema_components.specs.Declarable.{is_declarable, is_declarable_attribute}
 use Rattle.schema_components.specs.Components.{Set, global_elements, model_of, models_of, names_of_types, element_type, IsUnnamed}
 
--- the element particles of a particle in preorder, each by the number of its declaration and its name
+-- The element particles of a particle in preorder, each by the number of its declaration and its name.
 abbrev mutual
   pub leaves : Particle → List (ℕ × Name)
   leaves (occurs t least most) = leaves_of_term t
@@ -46,7 +46,7 @@ abbrev mutual
 abbrev pub leaves_of_model : Rose ParticleLabel → List (ℕ × Name)
 leaves_of_model particle = leaves (seen particle)
 
--- the leaves of the content model, none where there is no model
+-- The leaves of the content model; none if there is no model.
 abbrev pub leaves_in : Option (Rose ParticleLabel) → List (ℕ × Name)
 leaves_in None = []
 leaves_in (Some particle) = leaves_of_model particle
@@ -72,7 +72,7 @@ IsSimpleType t = IfSome t.name (λ name. is_declarable name ≡ true) × Sound (
 
 -- ---- value constraints
 
--- the text is the canonical spelling of a value of the simple type with this number (section 3.2.6, clause 2)
+-- The text is the canonical spelling of a value of the simple type with this number (section 3.2.6, clause 2).
 abbrev pub IsSpellingAt : Set → ℕ → List ℕ → Type 0
 IsSpellingAt s n text = IsSomeAnd (slice_get s.simples n) (λ t. (v : Rose ValueLabel) × Holds (space_of t.space) v × (spelled (space_of t.space) v ≡ text))
 
@@ -81,7 +81,7 @@ IsStandardAt s n Free = Unit {0}
 IsStandardAt s n (Default text) = IsSpellingAt s n text
 IsStandardAt s n (Fixed text) = IsSpellingAt s n text
 
--- what is required is never absent, so it has no default value
+-- A required use is never absent, so it has no default value.
 abbrev pub MayBeFor : Bool → Standard → Type 0
 MayBeFor required Free = Unit {0}
 MayBeFor required (Default text) = required ≡ false
@@ -92,11 +92,11 @@ HasStandard s u = IsStandardAt s u.simple u.standard × MayBeFor u.required u.st
 
 -- ---- content models
 
--- there is such a declaration, of this name
+-- There is an element declaration with this number and this name.
 abbrev pub IsNamed : Set → ℕ × Name → Type 0
 IsNamed s leaf = IsSomeAnd (slice_get s.elements leaf.0) (λ e. e.name ≡ leaf.1)
 
--- XML Schema Part 1, section 3.8.6, 'Element Declarations Consistent'
+-- Element particles of one name have one type (XML Schema Part 1, section 3.8.6, 'Element Declarations Consistent').
 abbrev pub AreConsistent : Set → List (ℕ × Name) → Type 0
 AreConsistent s ls = All (λ a. All (λ b. a.1 ≡ b.1 → element_type s a.0 ≡ element_type s b.0) ls) ls
 
@@ -114,7 +114,7 @@ IsContent s (content.Simple n) = n < length s.simples
 IsContent s (content.ElementOnly particle) = IsModel s particle
 IsContent s (content.Mixed particle) = IsModel s particle
 
--- The uses ascend by name, so that no two have one.
+-- The uses ascend by name, so their names are distinct.
 pub record IsComplexType (s : Set) (c : ComplexDef) : Type 0 where
   pub named : IfSome c.name (λ name. is_declarable name ≡ true)
   pub few : length c.uses ≤ 65536
@@ -123,20 +123,20 @@ pub record IsComplexType (s : Set) (c : ComplexDef) : Type 0 where
   pub ascending : IsStrictlySortedBy name_cmp (map (λ (u : AttributeUse). u.name) c.uses)
   pub content : IsContent s c.content
 
--- the element declarations that the content models name, once for each particle
+-- The element declarations that the content models name, once for each particle.
 abbrev pub named_declarations : Set → List ℕ
 named_declarations s = flat_map (λ p. map (λ (leaf : ℕ × Name). leaf.0) (leaves_of_model p)) (models_of s)
 
 abbrev pub has_complex_type : ℕ → ElementDecl → Bool
 has_complex_type n e = elim e.kind [ kind.Simple m ↦ false | kind.Complex m ↦ nat_eq m n ]
 
--- a declaration in the content model of the first complex type has the second, which has no name
+-- A declaration in the content model of the first complex type has the second, which has no name.
 abbrev pub IsJustBelow : Set → ℕ → ℕ → Type 0
 IsJustBelow s n m =
     IsUnnamed s m
     × IsSomeAnd (slice_get s.complexes n) (λ c. Any (λ leaf. (s.globals ≤ leaf.0) × (element_type s leaf.0 ≡ Some (kind.Complex m))) (leaves_of c.content))
 
--- each is just below the one before
+-- Each complex type is directly below the one before.
 abbrev pub IsChain : Set → List ℕ → Type 0
 IsChain s [] = Unit {0}
 IsChain s (n ∷ []) = n < length s.complexes
@@ -153,13 +153,13 @@ pub record IsLinked (s : Set) : Type 0 where
   pub complexes : All (IsComplexType s) s.complexes
   pub attributes : All (IsAttribute s) s.attributes
   pub standards : All (λ (a : GlobalAttribute). IsStandardAt s a.simple a.standard) s.attributes
-  -- no two of one kind have one name; simple and complex types are one kind
+  -- The names of one kind are distinct; simple and complex types are one kind.
   pub elements_apart : IsDistinct name_eq (map (λ (e : ElementDecl). e.name) (global_elements s))
   pub types_apart : IsDistinct name_eq (names_of_types s)
   pub attributes_apart : IsDistinct name_eq (map (λ (a : GlobalAttribute). a.name) s.attributes)
-  -- one particle names each local declaration, and one declaration has each complex type without a name
+  -- One particle names each local declaration, and one declaration has each complex type without a name.
   pub one_particle : (n : ℕ) → s.globals ≤ n → n < length s.elements → count_by (nat_eq n) (named_declarations s) ≡ 1
   pub one_declaration : (n : ℕ) → IsUnnamed s n → count_by (has_complex_type n) s.elements ≡ 1
-  -- types that stand in one another ascend, and so many levels can be written in 64 of elements
+  -- The numbers of nested types ascend, and at most 21 are nested: more can't be written in 64 levels of elements.
   pub descending : (n m : ℕ) → IsJustBelow s n m → n < m
   pub short : (ns : List ℕ) → IsChain s ns → length ns ≤ 21

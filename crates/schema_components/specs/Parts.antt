@@ -1,4 +1,4 @@
--- What the parts of a document stand for together.
+-- The document that parts of the code's types make up.
 use Rattle.std.specs.Prelude.{ℕ, List, map}
 use Rattle.schema_components.specs.Raw.{Document}
 use Rattle.schema_components.specs.Seen.{element_of, attribute_of, type_of, local_of}

@@ -10,7 +10,7 @@ use Rattle.schema_components.specs.declared.declarations.RawContent.TheVariants 
 use Rattle.schema_components.specs.Bounds.{ascend}
 use Rattle.schema_components.specs.Raw.{Base, Named, Inner, Bases, none, more, How, Restrict, ListOf, UnionOf, Simple, Use, Complex, Kind, NamedKind, SimpleKind, ComplexKind, Element, Local, Reference, Own, Attribute, TypeDefinition, SimpleType, ComplexType}
 
--- ---- the order of what stands in the file
+-- ---- the order of the parts in the file
 
 abbrev pub element_place : Element → ℕ
 element_place e = e.at
@@ -26,7 +26,7 @@ abbrev pub local_place : Local → ℕ
 local_place (Reference name at) = at
 local_place (Own element) = element.at
 
--- those of each kind stand in the order in which they were written
+-- The components of each kind are in the order written.
 abbrev pub all_ascend : List Element → List Attribute → List TypeDefinition → List Local → Bool
 all_ascend elements attributes types locals =
     ascend (map element_place elements)
@@ -58,7 +58,7 @@ places_in_type (Some base) = places_in_base base
 abbrev pub places_in_use : Use → List ℕ
 places_in_use u = u.at ∷ places_in_type u.kind
 
--- that of a group; an element of a content model has its place by its declaration
+-- The place of a group. An element of a content model has its place by its declaration.
 abbrev pub group_place : ParticleLabel → List ℕ
 group_place label = elim label.kind [ particle.Element decl name ↦ [] | particle.Sequence ↦ label.at ∷ [] | particle.Choice ↦ label.at ∷ [] | particle.All ↦ label.at ∷ [] ]
 
@@ -70,7 +70,7 @@ abbrev mutual
   places_among rose.none = []
   places_among (rose.more t ts) = places_in_model t ++ places_among ts
 
--- mixed content without elements may have been written without a group
+-- The places in mixed content. Mixed content without elements may have been written without a group.
 abbrev pub places_in_mixed : Rose ParticleLabel → List ℕ
 places_in_mixed (node label rose.none) = []
 places_in_mixed (node label (rose.more t ts)) = places_in_model (node label (rose.more t ts))
@@ -108,6 +108,6 @@ places_in elements attributes types locals =
     flat_map places_in_element elements
     ++ (flat_map places_in_attribute attributes ++ (flat_map places_in_definition types ++ flat_map places_in_local locals))
 
--- each stands there, no less often than here
+-- Each place is among those counted, at least as often as here.
 abbrev pub StandAmong : List ℕ → List ℕ → Type 0
 StandAmong places counted = (test : ℕ → Bool) → count_by test places ≤ count_by test counted

@@ -1,4 +1,4 @@
--- A linked set of which the spaces of simple types are told, and not how they are kept: what the documents of a set determine.
+-- A linked set with the spaces of its simple types, but not their representation: what the documents of a set determine.
 use Rattle.std.specs.Prelude.{ℕ, List, map, Option}
 use Rattle.base_texts.specs.declared.texts.Name.{Name}
 use Rattle.simple_types.specs.Seen.{space_of}
@@ -9,7 +9,7 @@ use Rattle.schema_components.specs.declared.components.ComplexDef.{ComplexDef}
 use Rattle.schema_components.specs.declared.components.GlobalAttribute.{GlobalAttribute}
 use Rattle.schema_components.specs.Components.{Set}
 
--- a simple type by its name, if it has one, and its space
+-- A simple type by its name, if it has one, and its space.
 pub record NamedSpace : Type 0 where
   pub name : Option Name
   pub space : Space

@@ -1,4 +1,4 @@
--- An attribute use refers to a global declaration just where it has no type of its own (XML Schema Part 1, section 3.2.2).
+-- An attribute use refers to a global declaration if and only if it has no type of its own (XML Schema Part 1, section 3.2.2).
 use Rattle.std.specs.Prelude.{◌≡◌, List, [], ◌∷◌}
 use Rattle.std.specs.Option.{is_none}
 use Rattle.schema_components.specs.Raw.{Use, Kind, NamedKind, SimpleKind, ComplexKind, Element, Local, Reference, Own, TypeDefinition, SimpleType, ComplexType, Document}
@@ -35,6 +35,6 @@ abbrev pub InLocals : List Local → Type 0
 InLocals [] = Unit {0}
 InLocals (l ∷ ls) = InLocal l × InLocals ls
 
--- each attribute use of the document
+-- It holds of each attribute use of the document.
 abbrev pub AreTyped : Document → Type 0
 AreTyped d = InElements d.elements × InTypes d.types × InLocals d.locals

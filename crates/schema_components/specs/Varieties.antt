@@ -24,7 +24,7 @@ abbrev pub has_member : Bases → Bool
 has_member none = false
 has_member (more b bs) = true
 
--- a restriction has at most 10,000 enumerations, a union has a member, and so have all that these are made from
+-- A restriction has at most 10,000 enumerations, a union has a member, and so have all types that these are made from.
 abbrev mutual
   pub base_varied : Base → Bool
   base_varied (Named reference) = true
@@ -75,7 +75,7 @@ abbrev pub locals_varied : List Local → Bool
 locals_varied [] = true
 locals_varied (l ∷ ls) = local_varied l && locals_varied ls
 
--- each simple type of a document
+-- It holds of each simple type of a document.
 abbrev pub all_varied : List Element → List Attribute → List TypeDefinition → List Local → Bool
 all_varied elements attributes types locals =
     elements_varied elements && (attributes_varied attributes && (types_varied types && locals_varied locals))

@@ -6,14 +6,14 @@ use crate::simple_definitions::RawBase;
 use base_texts::Name;
 use simple_types::Standard;
 
-/// An attribute of a complex type: a declaration of its own, or a reference to a global one, whose type is the other's.
+/// An attribute of a complex type: a declaration of its own, or a reference to a global one, which has the type.
 #[derive(Drop)]
 pub struct RawUse {
     pub name: Name,
     pub reference: bool,
-    /// `None` for a reference, and for no other.
+    /// `None` if and only if it is a reference.
     pub kind: Option<RawBase>,
-    /// Its own `default` or `fixed`, with the text as written; of a reference too, which may have the other's instead.
+    /// Its own `default` or `fixed`, with the text as written. A reference without one uses that of the global declaration.
     pub standard: Standard,
     pub required: bool,
     pub at: u64,

@@ -1,4 +1,4 @@
-//! The components of a linked set of schemas, with numbers in place of names (XML Schema Part 1, section 2.2).
+//! The components of a linked set of schemas, with numbers instead of names (XML Schema Part 1, section 2.2).
 ghost use Rattle.std.specs.Prelude.{◌≡◌};
 
 use base_texts::Name;
@@ -21,8 +21,8 @@ pub struct ElementDecl {
     pub kind: TypeOf,
 }
 
-/// An attribute use (section 3.5). `simple` is the number of its simple type. `standard` is its value constraint, or else that
-/// of the global declaration that it names; a required use has no default value, which could never stand for an absent one.
+/// An attribute use (section 3.5). `simple` is the number of its simple type. `standard` is its value constraint, or else that of
+/// the global declaration that it names. A required use has no default value, because it is never absent.
 #[derive(Drop)]
 pub struct AttributeUse {
     pub name: Name,
@@ -59,7 +59,7 @@ impl Uses {
         &self.entries
     }
 
-    /// The uses themselves.
+    /// Returns the uses themselves.
     pub fn into_items(self) -> Vec<AttributeUse>
         ensures { result.items ≡ self }
     {
@@ -74,7 +74,7 @@ pub struct SimpleDef {
     pub space: Simple,
 }
 
-/// What may stand in an element of a complex type (section 3.4.2).
+/// The content that an element of a complex type may have (section 3.4.2).
 #[derive(Drop)]
 pub enum Content {
     Empty,

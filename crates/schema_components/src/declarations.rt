@@ -29,7 +29,7 @@ impl RawUses {
     }
 }
 
-/// What may stand in an element of a complex type.
+/// The content that an element of a complex type may have.
 #[derive(Drop)]
 pub enum RawContent {
     Empty,
@@ -64,7 +64,7 @@ pub struct RawElement {
     pub at: u64,
 }
 
-/// An element that stands in a content model: a reference to a global declaration, or a declaration of its own.
+/// An element of a content model: a reference to a global declaration, or a declaration of its own.
 #[derive(Drop)]
 pub enum RawLocal {
     Reference { name: Name, at: u64 },

@@ -1,6 +1,6 @@
 //! Defines schema components: those of one schema document, with unresolved references, and those of a linked set.
 //!
-//! Read first: docs/SCHEMAS.md, `specs/Raw` (one document) and `specs/Linked` (a set), then `src/documents.rt` and
+//! Read first: docs/reference/SCHEMAS.md, `specs/Raw` (one document) and `specs/Linked` (a set), then `src/documents.rt` and
 //! `src/schema_sets.rt`.
 #![tactic(auto)]
 
@@ -20,7 +20,7 @@ pub use components::{
 pub use declarations::{
     RawAttribute, RawComplex, RawContent, RawElement, RawKind, RawLocal, RawType, RawUses,
 };
-pub use documents::RawDoc;
+pub use documents::{RawComponents, RawDoc};
 pub use laws::uses_are_typed;
 pub use roots::find_root;
 pub use schema_sets::SchemaSet;

@@ -7,7 +7,7 @@ ghost use Rattle.schema_components.specs.Components.{global_elements};
 use crate::schema_sets::SchemaSet;
 use base_texts::Name;
 
-/// The number of the global element of this name. `None` where no global element has it.
+/// Returns the number of the global element of this name. `None` if no global element has it.
 pub fn find_root(set: &SchemaSet, name: &Name) -> Option<u32>
     ensures { MatchOption result
         (list_any (λ e. name_eq e.name name.now) (global_elements set.now) ≡ false)

@@ -6,12 +6,12 @@ ghost use Rattle.schema_components.specs.Linked.{IsLinked};
 use crate::components::{ComplexDef, ElementDecl, GlobalAttribute, SimpleDef};
 use std::marker::Model;
 
-/// Several schema documents as one set, in which each name is resolved. Components have numbers from 0, each kind its
-/// own; the global elements have the first numbers of the elements.
+/// Several schema documents as one set, in which each name is resolved. Components have numbers from 0, separately for each kind;
+/// the global elements have the first numbers of the elements.
 ///
-/// Names of one kind differ, each content model is read without looking ahead, and element particles of one name in a
-/// content model have one type. A default or fixed value of an attribute is the canonical spelling of a value of its type, and
-/// no attribute that is required has a default value.
+/// The names of the components of one kind are distinct. Each content model is unambiguous without lookahead, and its element
+/// particles of one name have one type. A default or fixed value of an attribute is the canonical spelling of a value of its
+/// type, and no required attribute has a default value.
 #[derive(Drop)]
 pub struct SchemaSet {
     elements: Vec<ElementDecl>,
@@ -38,7 +38,7 @@ impl Model for SchemaSet {
 }
 
 impl SchemaSet {
-    /// The set of these components, of which the first `globals` elements are the global ones. It takes no memory.
+    /// Returns the set of these components. The first `globals` elements are the global ones. It allocates nothing.
     pub fn of(
         elements: Vec<ElementDecl>,
         globals: u32,
@@ -58,7 +58,7 @@ impl SchemaSet {
         }
     }
 
-    /// How many element declarations there are, global and local.
+    /// Returns the number of element declarations, global and local.
     pub fn element_count(&self) -> u32
         ensures count { result ≡ length self.now.elements }
         ensures linked { IsLinked self.now }
@@ -66,7 +66,7 @@ impl SchemaSet {
         self.elements.len() as u32
     }
 
-    /// How many of them are global.
+    /// Returns the number of global element declarations.
     pub fn global_count(&self) -> u32
         ensures { result ≡ self.now.globals }
     {
@@ -85,7 +85,7 @@ impl SchemaSet {
         self.complexes.len() as u32
     }
 
-    /// How many global attributes there are.
+    /// Returns the number of global attributes.
     pub fn attribute_count(&self) -> u32
         ensures { result ≡ length self.now.attributes }
     {

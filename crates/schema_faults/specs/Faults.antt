@@ -1,4 +1,4 @@
--- The nodes of a schema document that are looked at, with the first reason against each.
+-- The nodes of a schema document that are checked, with the first reason against each.
 use Rattle.std.specs.Prelude.{ℕ, Bool, true, false, ◌&&◌, List, [], ◌∷◌, ◌++◌, bytes_eq, codes, Option, Some, None}
 use Rattle.base_texts.specs.declared.texts.Name.{Name}
 use Rattle.base_texts.specs.Namespaces.{xml_prefix, xml_space}
@@ -19,7 +19,7 @@ use Rattle.schema_syntax.specs.declared.why.SchemaWhy.{SchemaWhy}
 use Rattle.schema_syntax.specs.declared.why.SchemaWhy.TheVariants as why
 use Rattle.schema_faults.specs.declared.faults.DocumentFault.{DocumentFault}
 
--- a node that is looked at: its place, and the first reason against it, if there is one
+-- A node that is checked: its place, and the first reason against it, if there is one.
 abbrev pub LookedAt : Type 0
 LookedAt = ℕ × Option SchemaWhy
 
@@ -31,12 +31,12 @@ abbrev pub is_composition : ElementRole → Bool
 is_composition Composition = true
 is_composition role = false
 
--- what `include` and `import` have in them isn't looked at
+-- The content of `include` and `import` isn't checked.
 abbrev pub unless_composition : ElementRole → List LookedAt → List LookedAt
 unless_composition Composition inside = []
 unless_composition role inside = inside
 
--- the position of the nearest element before, behind a node
+-- The position of the nearest element up to a node that has this placement.
 abbrev pub placed_behind : Option Position → Placement → Option Position
 placed_behind before Skipped = before
 placed_behind before (Refused reason) = before
@@ -49,21 +49,21 @@ position_behind parent before (Element name attributes declares at) = placed_beh
 abbrev pub own_reason : ElementRole → List (List ℕ × List ℕ) → ℕ → List (Name × List ℕ) → List (Rose ItemLabel) → Option SchemaWhy
 own_reason role scope level attributes kids = reason_against role scope level (own_attributes attributes) kids
 
--- the node by itself, and then what stands in it
+-- The node itself and its content, if it may appear there; only the reason against it, if it may not.
 abbrev pub placed_at : ℕ → Placement → (ElementRole → List LookedAt) → List LookedAt
 placed_at at Skipped inside = []
 placed_at at (Refused reason) inside = (at, Some reason) ∷ []
 placed_at at (Placed part) inside = inside part.role
 
 abbrev mutual
-  -- an element of this role, with its bindings and those around it: itself, and then what stands in it in preorder
+  -- An element of this role, with its bindings and those around it: the element itself, and then its content in preorder.
   pub reasons_of : ElementRole → List (List ℕ × List ℕ) → ℕ → Rose ItemLabel → List LookedAt
   reasons_of role outer level (node (Text text at) kids) = []
   reasons_of role outer level (node (Element name attributes declares at) kids) =
       (at, own_reason role (declares ++ outer) level attributes (list_of kids))
       ∷ unless_composition role (reasons_among role None (declares ++ outer) (level_inside role level) kids)
 
-  -- a node in a parent of this role, behind an element of this position where there is one
+  -- A node in a parent of this role, after an element of position `before`, if there is one.
   pub reasons_at : ElementRole → Option Position → List (List ℕ × List ℕ) → ℕ → Rose ItemLabel → List LookedAt
   reasons_at parent before outer level (node (Text text at) kids) = (at, reason_against_text text) ∷ []
   reasons_at parent before outer level (node (Element name attributes declares at) kids) =
@@ -80,15 +80,15 @@ abbrev pub is_schema : ItemLabel → Bool
 is_schema (Element name attributes declares at) = is_schema_name name && bytes_eq name.local (codes "schema")
 is_schema (Text text at) = false
 
--- outside the root `xml` alone is bound
+-- Outside the root only `xml` is bound.
 abbrev pub outside : List (List ℕ × List ℕ)
 outside = (xml_prefix, xml_space) ∷ []
 
--- the whole document
+-- All nodes of the document that are checked.
 abbrev pub reasons : Rose ItemLabel → List LookedAt
 reasons root = elim (is_schema (label_of root)) [ true ↦ reasons_of Schema outside 0 root | false ↦ (item_place (label_of root), Some why.NotASchema) ∷ [] ]
 
--- the first of them against which a reason stands
+-- The first node that has a reason against it, with the first such reason.
 abbrev pub first_fault : List LookedAt → Option DocumentFault
 first_fault [] = None
 first_fault (s ∷ seen) = elim s.1 [ None ↦ first_fault seen | Some reason ↦ Some (record { at = s.0; why = reason }) ]

@@ -1,4 +1,4 @@
--- The reasons against an element whose name may stand where it stands, in their order.
+-- The reasons against an element whose name may appear in its place, in their order.
 use Rattle.std.specs.Prelude.{◌==◌, ℕ, Bool, true, false, ◌||◌, ◌&&◌, not, nat_le, List, [], ◌∷◌, codes, Option, Some, None, unwrap_or, if◌then◌else◌}
 use Rattle.std.specs.List.{list_any}
 use Rattle.std.specs.Option.{option_or}
@@ -39,7 +39,7 @@ abbrev pub is_choice : ElementRole → Bool
 is_choice Choice = true
 is_choice role = false
 
--- ---- attributes that are left out
+-- ---- attributes that are not supported
 
 abbrev pub is_true : List ℕ → List (List ℕ × List ℕ) → Bool
 is_true name own = elim (beside name own) [ None ↦ false | Some value ↦ unwrap_or (boolean_of value) false ]
@@ -55,7 +55,7 @@ left_out_attributes role own =
     ∷ (is_all role && (least_of own == 0), why.OptionalAll)
     ∷ []
 
--- ---- datatypes that are left out
+-- ---- datatypes that are not supported
 
 abbrev pub only_left_out : Option TypeName → Option SchemaWhy
 only_left_out None = None
@@ -66,7 +66,7 @@ only_left_out (Some (Elsewhere name)) = None
 abbrev pub left_out_type : List (List ℕ × List ℕ) → List ℕ → Option SchemaWhy
 left_out_type scope text = only_left_out (type_name scope text)
 
--- the place among the reasons
+-- The place of a datatype's reason among those of datatypes.
 abbrev pub rank : SchemaWhy → ℕ
 rank why.Decimal = 1
 rank why.Float = 2
@@ -98,29 +98,29 @@ earlier None b = b
 earlier (Some x) None = Some x
 earlier (Some x) (Some y) = if nat_le (rank x) (rank y) then Some x else Some y
 
--- the first in the order of the reasons, among the one so far and those of the names
+-- The first in the order of the reasons, among the one found so far and those of the names.
 abbrev pub earliest : Option SchemaWhy → List (List ℕ × List ℕ) → List (List ℕ) → Option SchemaWhy
 earliest found scope [] = found
 earliest found scope (word ∷ words) = earliest (earlier found (left_out_type scope word)) scope words
 
--- of the names that the attribute's value lists, or of the one that it is
+-- The first reason of the names that the attribute's value lists, or of the single name that it is.
 abbrev pub left_out_value : List ℕ → List (List ℕ × List ℕ) → List (List ℕ × List ℕ) → Option SchemaWhy
 left_out_value name scope own = elim (beside name own) [ None ↦ None | Some value ↦ earliest None scope (words_of value) ]
 
--- no element has two of these attributes
+-- The reason of the datatypes that an element refers to. No element has two of these attributes.
 unfoldable pub left_out_reference : List (List ℕ × List ℕ) → List (List ℕ × List ℕ) → Option SchemaWhy
 left_out_reference scope own =
     option_or (option_or (option_or (left_out_value (codes "type") scope own) (left_out_value (codes "base") scope own))
     (left_out_value (codes "itemType") scope own)) (left_out_value (codes "memberTypes") scope own)
 
--- a declaration without a type is of the type that all others are derived from (Part 1, sections 3.2.2 and 3.3.2)
+-- A declaration without a type has the type that all others are derived from (Part 1, sections 3.2.2 and 3.3.2).
 abbrev pub untyped : ElementRole → List (List ℕ × List ℕ) → List (Rose ItemLabel) → Option SchemaWhy
 untyped role own kids = first_true
     ((is_element role && is_untyped role own kids, why.AnyType) ∷ (is_attribute role && is_untyped role own kids, why.AnySimpleType) ∷ [])
 
 -- ---- choices
 
--- a particle that isn't dropped (Part 1, section 3.9.6)
+-- The item is a particle that isn't dropped (Part 1, section 3.9.6).
 abbrev pub occurs : ItemLabel → Bool
 occurs (Element name attributes declares at) = is_in Particles (Element name attributes declares at) && not (never_occurs (own_attributes attributes))
 occurs (Text text at) = false
@@ -146,6 +146,6 @@ reason_against role scope level own kids =
     option_or (option_or (option_or (first_true (early_tests role scope level own kids)) (left_out_reference scope own)) (untyped role own kids))
     (first_true (late_tests role own kids))
 
--- text stands between elements alone, as white space (Part 1, section 2.1)
+-- A text between elements may consist of white space only (Part 1, section 2.1).
 abbrev pub reason_against_text : List ℕ → Option SchemaWhy
 reason_against_text text = if is_blank text then None else Some why.Misplaced

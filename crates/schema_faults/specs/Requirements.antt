@@ -1,4 +1,4 @@
--- What an element has to have, and what it may not have at once (XML Schema Part 1, sections 3.2.3, 3.3.3, 3.4.3 and 3.14.3).
+-- What an element requires, and which forms exclude each other (XML Schema Part 1, sections 3.2.3, 3.3.3, 3.4.3 and 3.14.3).
 use Rattle.std.specs.Prelude.{ℕ, Bool, true, false, ◌||◌, ◌&&◌, not, List, bytes_eq, codes, Some, None}
 use Rattle.base_texts.specs.Limits.{is_empty}
 use Rattle.base_trees.specs.Rose.{Rose}
@@ -10,7 +10,7 @@ use Rattle.schema_syntax.specs.declared.children.ChildSet.TheVariants.{Types, Si
 use Rattle.schema_syntax.specs.declared.roles.ElementRole.{ElementRole}
 use Rattle.schema_syntax.specs.declared.roles.ElementRole.TheVariants.{Schema, Composition, GlobalElement, LocalElement, GlobalAttribute, LocalAttribute, GlobalSimpleType, InnerSimpleType, Restriction, List as ListRole, Union, Facet, GlobalComplexType, InnerComplexType, SimpleContent, Extension, Sequence, Choice, All, AllElement}
 
--- a type in place, where one by its name may stand instead
+-- The element has a type in place, where it may name one instead.
 abbrev pub has_inner_type : ElementRole → List (Rose ItemLabel) → Bool
 has_inner_type GlobalElement kids = has_child Types kids
 has_inner_type LocalElement kids = has_child Types kids
@@ -49,15 +49,15 @@ lacks_required All own kids = false
 abbrev pub names_type : List (List ℕ × List ℕ) → Bool
 names_type own = has (codes "type") own || has (codes "base") own || has (codes "itemType") own
 
--- what a reference takes from the declaration that it names
+-- It has an attribute that a reference may not have, because the declaration that it names determines it.
 abbrev pub declares : List (List ℕ × List ℕ) → Bool
 declares own = has (codes "name") own || has (codes "type") own || has (codes "nillable") own || has (codes "form") own
 
--- the use of an attribute, which is `optional` where it doesn't stand
+-- The use of the attribute is `optional`, which is the default.
 abbrev pub is_optional : List (List ℕ × List ℕ) → Bool
 is_optional own = elim (beside (codes "use") own) [ None ↦ true | Some value ↦ bytes_eq value (codes "optional") ]
 
--- a default value beside a fixed one, or for what is never absent or never stands (Part 1, section 3.2.3, rules 1 and 2)
+-- It has a default value with a fixed one, or with a use that is not `optional` (Part 1, section 3.2.3, rules 1 and 2).
 abbrev pub has_idle_default : List (List ℕ × List ℕ) → Bool
 has_idle_default own = has (codes "default") own && (has (codes "fixed") own || not (is_optional own))
 
@@ -70,6 +70,6 @@ abbrev pub has_both_forms : ElementRole → List (List ℕ × List ℕ) → List
 has_both_forms role own kids =
     (has (codes "ref") own && (declares own || has_inner_type role kids)) || (names_type own && has_inner_type role kids) || has_both_values role own
 
--- no type, by its name, in place or by a reference
+-- It has no type: by its name, in place or by a reference.
 abbrev pub is_untyped : ElementRole → List (List ℕ × List ℕ) → List (Rose ItemLabel) → Bool
 is_untyped role own kids = not (has (codes "ref") own) && not (has (codes "type") own) && not (has_inner_type role kids)

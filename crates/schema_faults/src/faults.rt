@@ -35,7 +35,7 @@ fn fault_if(at: u64, found: Option<SchemaWhy>) -> Option<DocumentFault>
     }
 }
 
-// The position of the nearest element before, behind this node.
+// Returns the position of the nearest element up to this node.
 fn position_behind(
     parent: ElementRole,
     before: Option<Position>,
@@ -59,7 +59,7 @@ fn is_composition(role: ElementRole) -> bool
 }
 
 impl<'a, 'b> Checker<'a, 'b> {
-    // The reason against an element that has this role, by itself.
+    // Returns the reason against an element that has this role, without its children.
     fn own_reason(
         self,
         role: ElementRole,
@@ -72,7 +72,7 @@ impl<'a, 'b> Checker<'a, 'b> {
         self.reason_against(role, &own, kids)
     }
 
-    // The first fault of an element of this role and of what stands in it.
+    // Returns the first fault of an element of this role, or else in its content.
     #[cycle(faults)]
     fn fault_of(
         self,
@@ -111,7 +111,7 @@ impl<'a, 'b> Checker<'a, 'b> {
         below.fault_among(tree.kids(), role)
     }
 
-    // The first fault at a node and of what stands in it.
+    // Returns the first fault at a node, or else in its content.
     #[cycle(faults)]
     fn fault_at(
         self,
@@ -131,7 +131,7 @@ impl<'a, 'b> Checker<'a, 'b> {
         }
     }
 
-    // The first fault among the children of an element of this role.
+    // Returns the first fault among the children of an element of this role.
     #[cycle(faults)]
     fn fault_among(
         self,
@@ -163,7 +163,7 @@ fn is_schema(label: &ItemLabel) -> bool
     }
 }
 
-/// The fault of a document whose root has this label, where that isn't the one of a schema.
+/// Returns the fault of a document whose root has this label, if it isn't the root of a schema.
 pub fn root_fault(label: &ItemLabel) -> Option<DocumentFault>
     ensures { (root : Rose ItemLabel) → label_of root ≡ label.now → IfSome result (λ found. faults.first_fault (faults.reasons root) ≡ Some found) }
 {
@@ -174,10 +174,10 @@ pub fn root_fault(label: &ItemLabel) -> Option<DocumentFault>
     }
 }
 
-/// The first fault of a schema document with this root, in the order in which it is written. `None` where it is a schema.
+/// Returns the first fault of a schema document with this root, in the order of the document. `None` if it is a schema.
 ///
-/// The time grows with the size of the document, and for each element and each reference with the logarithm of the
-/// number of bindings of the elements that are open.
+/// The time grows with the size of the document, and for each element and each reference with the logarithm of the number of
+/// bindings of the open elements.
 pub fn first_fault(alloc: Global, root: &Tree<ItemLabel>) -> Result<Option<DocumentFault>, Memory>
     ensures { IfOk result (λ found. found ≡ faults.first_fault (faults.reasons root.now)) }
 {

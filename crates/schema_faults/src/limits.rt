@@ -1,4 +1,4 @@
-//! What is more than this program takes.
+//! The limits on schema documents.
 ghost use Rattle.std.specs.Prelude.{◌≡◌};
 ghost use Rattle.schema_faults.specs.Limits as limit;
 
@@ -7,7 +7,7 @@ use base_trees::Tree;
 use schema_syntax::{ChildSet, ElementRole, child_count, is_large, value_of};
 use xml_read::ItemLabel;
 
-/// How many levels of groups one content model may have.
+/// The greatest number of nested groups in one content model.
 const MOST_LEVELS: u32 = 16;
 
 const MOST_PARTICLES: usize = 500;
@@ -16,7 +16,7 @@ const MOST_ATTRIBUTES: usize = 400;
 
 const MOST_ENUMERATIONS: usize = 10_000;
 
-// Whether the value of the attribute of this name is a number of 2^32 or more.
+// Returns whether the value of the attribute of this name is a number of 2^32 or more.
 fn has_large(name: &str, own: &[(Text, Text)]) -> bool
     ensures { result ≡ limit.has_large name.now own.now }
 {
@@ -26,7 +26,7 @@ fn has_large(name: &str, own: &[(Text, Text)]) -> bool
     }
 }
 
-// Whether there are too many levels or children. So many groups of the same content model stand round it.
+// Returns whether there are too many levels or children. `level` groups of the same content model are around it.
 fn is_too_large(role: ElementRole, level: u32, kids: &[Tree<ItemLabel>]) -> bool
     ensures { result ≡ limit.is_too_large role level kids.now }
 {
@@ -42,7 +42,7 @@ fn is_too_large(role: ElementRole, level: u32, kids: &[Tree<ItemLabel>]) -> bool
     }
 }
 
-/// Whether it is more than this program takes. So many groups of the same content model stand round it.
+/// Returns whether it is over a limit. `level` groups of the same content model are around it.
 pub fn is_over_limit(
     role: ElementRole,
     level: u32,
@@ -54,8 +54,8 @@ pub fn is_over_limit(
     has_large("minOccurs", own) || has_large("maxOccurs", own) || is_too_large(role, level, kids)
 }
 
-/// How many groups of the same content model stand round the children of an element, where so many stand round it. 17
-/// stands for that number and every greater one.
+/// Returns the number of groups of the same content model around the children of an element with `level` groups around it. 17
+/// means that number or a greater one.
 pub fn level_inside(role: ElementRole, level: u32) -> u32
     ensures { result ≡ limit.level_inside role level }
 {

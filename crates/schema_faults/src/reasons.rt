@@ -1,4 +1,4 @@
-//! The first reason against an element whose name may stand where it stands.
+//! The first reason against an element whose name may appear in its place.
 ghost use Rattle.std.specs.Prelude.{◌≡◌, IfOk};
 ghost use Rattle.std.specs.List.{list_any};
 ghost use Rattle.base_trees.specs.Rose.{label_of};
@@ -20,7 +20,7 @@ use simple_types::boolean_of;
 use std::alloc::Global;
 use xml_read::ItemLabel;
 
-// Whether the attribute of this name is true.
+// Returns whether the attribute of this name is true.
 fn is_true(name: &str, own: &[(Text, Text)]) -> bool
     ensures { result ≡ reason.is_true name.now own.now }
 {
@@ -60,7 +60,7 @@ fn is_attribute(role: ElementRole) -> bool
     )
 }
 
-// The first reason before those that speak of datatypes.
+// Returns the first reason among those that precede the reasons of datatypes.
 fn early_reason(
     role: ElementRole,
     scope: &NamespaceScope<'_, '_>,
@@ -99,7 +99,7 @@ fn left_out_attribute(role: ElementRole, own: &[(Text, Text)]) -> Option<SchemaW
     }
 }
 
-// The place of a left-out datatype in the order of the reasons.
+// Returns the place of an unsupported datatype in the order of the reasons.
 fn rank(why: SchemaWhy) -> u8
     ensures { result ≡ reason.rank why }
 {
@@ -131,7 +131,7 @@ fn rank(why: SchemaWhy) -> u8
     }
 }
 
-// The first of two in the order of the reasons.
+// Returns the first of two in the order of the reasons.
 fn earlier(a: Option<SchemaWhy>, b: Option<SchemaWhy>) -> Option<SchemaWhy>
     ensures { result ≡ reason.earlier a b }
 {
@@ -142,7 +142,7 @@ fn earlier(a: Option<SchemaWhy>, b: Option<SchemaWhy>) -> Option<SchemaWhy>
     }
 }
 
-// Why the datatype of this name is left out, if it is one that is.
+// Returns why the datatype of this name is not supported, if it isn't.
 fn left_out_type(scope: &NamespaceScope<'_, '_>, text: &str) -> Option<SchemaWhy>
     ensures { result ≡ reason.left_out_type (bindings_in scope.now) text.now }
 {
@@ -152,7 +152,7 @@ fn left_out_type(scope: &NamespaceScope<'_, '_>, text: &str) -> Option<SchemaWhy
     }
 }
 
-// The first reason among those of several names.
+// Returns the first reason among those of several names.
 fn left_out_types(scope: &NamespaceScope<'_, '_>, text: &str) -> Option<SchemaWhy>
     ensures { result ≡ reason.earliest None (bindings_in scope.now) (words_of text.now) }
 {
@@ -178,7 +178,7 @@ fn left_out_value(
     }
 }
 
-// The first of the left-out datatypes that it refers to.
+// Returns the first of the unsupported datatypes that it refers to.
 #[tactic(auto, unfolding(crate::specs::Reasons::left_out_reference))]
 fn left_out_reference(scope: &NamespaceScope<'_, '_>, own: &[(Text, Text)]) -> Option<SchemaWhy>
     ensures { result ≡ reason.left_out_reference (bindings_in scope.now) own.now }
@@ -189,7 +189,7 @@ fn left_out_reference(scope: &NamespaceScope<'_, '_>, own: &[(Text, Text)]) -> O
         .or(left_out_value("memberTypes", scope, own))
 }
 
-// The left-out datatype of a declaration without a type.
+// Returns the unsupported datatype of a declaration without a type.
 fn untyped(role: ElementRole, own: &[(Text, Text)], kids: &[Tree<ItemLabel>]) -> Option<SchemaWhy>
     ensures { result ≡ reason.untyped role own.now kids.now }
 {
@@ -205,7 +205,7 @@ fn untyped(role: ElementRole, own: &[(Text, Text)], kids: &[Tree<ItemLabel>]) ->
     }
 }
 
-// Whether the node is a particle that may occur.
+// Returns whether the node is a particle that may occur.
 fn occurs(alloc: Global, label: &ItemLabel) -> Result<bool, Memory>
     ensures { IfOk result (λ occurs. occurs ≡ reason.occurs label.now) }
 {
@@ -219,7 +219,7 @@ fn occurs(alloc: Global, label: &ItemLabel) -> Result<bool, Memory>
     Ok(!never_occurs(&own))
 }
 
-// Whether one of them is a particle that may occur.
+// Returns whether one of the children is a particle that may occur.
 fn one_occurs(alloc: Global, kids: &[Tree<ItemLabel>]) -> Result<bool, Memory>
     ensures { IfOk result (λ found. found ≡ list_any (λ kid. reason.occurs (label_of kid)) kids.now) }
 {
@@ -237,7 +237,7 @@ fn is_choice(role: ElementRole) -> bool
     matches!(role, ElementRole::Choice)
 }
 
-// Whether a choice has to be made and there is none.
+// Returns whether it is a choice that may occur, without an alternative that may occur.
 fn is_empty_choice(
     alloc: Global,
     role: ElementRole,
@@ -254,8 +254,8 @@ fn is_empty_choice(
 }
 
 impl Checker<'_, '_> {
-    /// Returns the first reason against an element of this role, by its attributes, its children, the bindings in scope
-    /// and the number of groups of the same content model round it.
+    /// Returns the first reason against an element of this role, by its attributes, its children, the bindings in scope and the
+    /// number of groups of the same content model around it.
     #[tactic(auto, unfolding(crate::specs::Reasons::reason_against))]
     pub(crate) fn reason_against(
         self,
@@ -281,7 +281,7 @@ impl Checker<'_, '_> {
     }
 }
 
-/// The reason against a text: all of it has to be white space.
+/// Returns the reason against a text: it may consist of white space only.
 pub fn reason_against_text(text: &Text) -> Option<SchemaWhy>
     ensures { result ≡ reason.reason_against_text text.now }
 {

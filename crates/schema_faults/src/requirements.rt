@@ -1,4 +1,4 @@
-//! What an element has to have, and what it may not have at once.
+//! What an element requires, and which forms exclude each other.
 ghost use Rattle.std.specs.Prelude.{◌≡◌};
 ghost use Rattle.schema_faults.specs.Requirements as rule;
 
@@ -7,7 +7,7 @@ use base_trees::Tree;
 use schema_syntax::{ChildSet, ElementRole, has_attribute, has_child, value_of};
 use xml_read::ItemLabel;
 
-// Whether a type stands in an element of this role that takes the place of one by its name.
+// Returns whether an element of this role has a type in place, instead of naming one.
 fn has_inner_type(role: ElementRole, kids: &[Tree<ItemLabel>]) -> bool
     ensures { result ≡ rule.has_inner_type role kids.now }
 {
@@ -23,7 +23,7 @@ fn has_inner_type(role: ElementRole, kids: &[Tree<ItemLabel>]) -> bool
     }
 }
 
-// Whether a union names a member.
+// Returns whether a union names a member.
 fn names_members(own: &[(Text, Text)]) -> bool
     ensures { result ≡ rule.names_members own.now }
 {
@@ -33,7 +33,7 @@ fn names_members(own: &[(Text, Text)]) -> bool
     }
 }
 
-/// Whether an attribute, both of two, or a child is missing.
+/// Returns whether an attribute, both of two, or a child is missing.
 pub fn lacks_required(role: ElementRole, own: &[(Text, Text)], kids: &[Tree<ItemLabel>]) -> bool
     ensures { result ≡ rule.lacks_required role own.now kids.now }
 {
@@ -62,14 +62,14 @@ pub fn lacks_required(role: ElementRole, own: &[(Text, Text)], kids: &[Tree<Item
     }
 }
 
-// Whether it names a type.
+// Returns whether it names a type.
 fn names_type(own: &[(Text, Text)]) -> bool
     ensures { result ≡ rule.names_type own.now }
 {
     has_attribute("type", own) || has_attribute("base", own) || has_attribute("itemType", own)
 }
 
-// Whether it says what only a declaration of its own says, but for a type in place.
+// Returns whether it has an attribute that only a declaration of its own may have.
 fn declares(own: &[(Text, Text)]) -> bool
     ensures { result ≡ rule.declares own.now }
 {
@@ -88,7 +88,7 @@ fn is_optional(own: &[(Text, Text)]) -> bool
     }
 }
 
-// Whether it has a default value that is never taken.
+// Returns whether it has a default value that never applies.
 fn has_idle_default(own: &[(Text, Text)]) -> bool
     ensures { result ≡ rule.has_idle_default own.now }
 {
@@ -104,7 +104,7 @@ fn has_both_values(role: ElementRole, own: &[(Text, Text)]) -> bool
     }
 }
 
-/// Whether it has two forms that exclude each other.
+/// Returns whether it has two forms that exclude each other.
 pub fn has_both_forms(role: ElementRole, own: &[(Text, Text)], kids: &[Tree<ItemLabel>]) -> bool
     ensures { result ≡ rule.has_both_forms role own.now kids.now }
 {
@@ -114,7 +114,7 @@ pub fn has_both_forms(role: ElementRole, own: &[(Text, Text)], kids: &[Tree<Item
         || has_both_values(role, own)
 }
 
-/// Whether it has no type, by its name, in place or by a reference.
+/// Returns whether it has no type: by its name, in place or by a reference.
 pub fn is_untyped(role: ElementRole, own: &[(Text, Text)], kids: &[Tree<ItemLabel>]) -> bool
     ensures { result ≡ rule.is_untyped role own.now kids.now }
 {

@@ -37,7 +37,7 @@ pub use Rattle.schema_read.specs.Private.Held.{BodyHeld, ContentHeld, ElementHel
 pub use Rattle.schema_read.specs.Raw.{Adds, Are, attribute_parts, complex_type_parts, complex_types, document_with, element_parts, global_element, no_parts, Parts, parts_among, parts_by, parts_named, raw_of, simple_type_parts}
 pub use Rattle.schema_read.specs.Settings.{said, Settings, settings_of}
 pub use Rattle.schema_read.specs.SimpleTypes.{and_facet, and_inner, base_by, declared_type, defined, facet_at, facet_makers, facet_of, facets_among, first_or_none, inner_types, joined, made_by, named_in, named_members, placed, simple_type, variety_among, variety_at, with_value}
-pub use Rattle.schema_read.specs.declared.globals.Globals.{Globals}
+pub use Rattle.schema_components.specs.declared.documents.RawComponents.{RawComponents as Globals}
 pub use Rattle.schema_syntax.specs.Attributes.{has, has_unknown, in_use, kept_as_written, own_attributes}
 pub use Rattle.schema_syntax.specs.Children.{child_count, has_child, is_in, names_in}
 pub use Rattle.schema_syntax.specs.Elements.{children, counted_names, element_names, is_counted, is_looked_into, is_schema_name, left_out, may_stand, part, placement_of, refused_or, skipped_names}

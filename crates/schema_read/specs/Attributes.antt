@@ -15,11 +15,11 @@ use Rattle.schema_syntax.specs.declared.children.ChildSet.TheVariants.{Attribute
 use Rattle.schema_read.specs.Names.{referred, value_or_empty, declared_name}
 use Rattle.schema_read.specs.SimpleTypes.{declared_type}
 
--- the attribute says `qualified`, or else the default holds
+-- The attribute is `qualified`, or it is absent and the default is.
 abbrev pub is_qualified : List ℕ → List (List ℕ × List ℕ) → Bool → Bool
 is_qualified name own default = elim (beside name own) [ None ↦ default | Some value ↦ unwrap_or (beside value qualifications) false ]
 
--- a local declaration is in the target namespace where it is qualified
+-- The name of a local declaration, which is in the target namespace if it is qualified.
 abbrev pub local_name : List ℕ → Bool → List (List ℕ × List ℕ) → Name
 local_name target default own =
     record { space = if is_qualified (codes "form") own default then target else []; local = value_or_empty (codes "name") own }
@@ -27,7 +27,8 @@ local_name target default own =
 abbrev pub has_use : List ℕ → List (List ℕ × List ℕ) → Bool
 has_use how own = elim (beside (codes "use") own) [ None ↦ false | Some value ↦ bytes_eq value how ]
 
--- the value constraint, with the text as written; no declaration without a fault has both attributes (section 3.2.3)
+-- The value constraint, with the text as written. A declaration without a fault has at most one of the attributes (section
+-- 3.2.3).
 abbrev pub fixed_of : List (List ℕ × List ℕ) → Standard
 fixed_of own = elim (beside (codes "fixed") own) [ None ↦ Free | Some text ↦ Fixed text ]
 
@@ -42,14 +43,14 @@ abbrev pub own_use : Name → Base → List (List ℕ × List ℕ) → ℕ → U
 own_use name kind own at =
     record { name = name; reference = false; kind = Some kind; standard = standard_of own; required = has_use (codes "required") own; at = at }
 
--- by a reference, or a declaration of its own
+-- The attribute use: a reference, or a declaration of its own.
 abbrev pub use_by : List ℕ → Bool → ℕ → List (List ℕ × List ℕ) → List (List ℕ × List ℕ) → List (Rose ItemLabel) → Use
 use_by target default at scope own kids = elim (beside (codes "ref") own) [
   | None ↦ own_use (local_name target default own) (declared_type scope own (roses_of kids)) own at
   | Some text ↦ use_to (referred scope text) own at
 ]
 
--- unless it is prohibited
+-- The attribute use, unless it is prohibited.
 abbrev pub use_at : List ℕ → Bool → List (List ℕ × List ℕ) → ItemLabel → List (Rose ItemLabel) → Option Use
 use_at target default outer (Element name attributes declares at) kids =
     if is_in Attributes (Element name attributes declares at) && not (has_use (codes "prohibited") (own_attributes attributes))
@@ -61,7 +62,7 @@ abbrev pub and_use : Option Use → List Use → List Use
 and_use None uses = uses
 and_use (Some first) uses = first ∷ uses
 
--- the attributes that these declare, in their order
+-- The attributes that these declare, in their order.
 abbrev pub uses_among : List ℕ → Bool → List (List ℕ × List ℕ) → List (Rose ItemLabel) → List Use
 uses_among target default scope [] = []
 uses_among target default scope (t ∷ ts) = and_use (use_at target default scope (label_of t) (kids_of t)) (uses_among target default scope ts)
@@ -70,7 +71,7 @@ abbrev pub attribute_by : List ℕ → ℕ → List (List ℕ × List ℕ) → L
 attribute_by target at scope own kids =
     record { name = declared_name target own; kind = declared_type scope own (roses_of kids); standard = standard_of own; at = at }
 
--- a global attribute declaration
+-- A global attribute declaration.
 abbrev pub global_attribute : List ℕ → List (List ℕ × List ℕ) → ItemLabel → List (Rose ItemLabel) → Option Attribute
 global_attribute target outer (Element name attributes declares at) kids = Some (attribute_by target at (declares ++ outer) (own_attributes attributes) kids)
 global_attribute target outer (Text text at) kids = None

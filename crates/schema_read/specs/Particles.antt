@@ -1,7 +1,7 @@
 -- Elements, complex types and content models (XML Schema Part 1, sections 3.3.2, 3.4.2, 3.8.2 and 3.9.2).
 --
--- The local declarations of a document have numbers from 0 in the order in which they were written. What follows tells
--- of a part of a document what it is and which local declarations stand in it, given how many stand before it.
+-- The local declarations of a document have numbers from 0 in the order written. The following definitions give the component
+-- that a part of a document makes, and the local declarations in it, given the number of those that precede it.
 use Rattle.std.specs.Prelude.{◌≡◌, ℕ, ◌+◌, Bool, List, [], ◌∷◌, ◌++◌, map, length, bytes_eq, codes, Option, Some, None, if◌then◌else◌}
 use Rattle.base_texts.specs.declared.texts.Name.{Name}
 use Rattle.base_trees.specs.Rose.{Rose, node, Roses, roses_of, list_of}
@@ -38,11 +38,11 @@ made_some m = made (Some m.value) m.locals
 
 -- ---- elements
 
--- the name of the element that a local declaration declares or refers to
+-- The name of the element that a local declaration declares or refers to.
 abbrev pub element_name : Settings → List (List ℕ × List ℕ) → List (List ℕ × List ℕ) → Name
 element_name said scope own = elim (beside (codes "ref") own) [ None ↦ local_name said.target said.elements_qualified own | Some text ↦ referred scope text ]
 
--- the type that it names, or else the one in it
+-- The type that the element names, or else the one in it.
 abbrev pub kind_by : List (List ℕ × List ℕ) → List (List ℕ × List ℕ) → Made Kind → Made Kind
 kind_by scope own inner = elim (beside (codes "type") own) [ None ↦ inner | Some value ↦ made (NamedKind (type_ref scope value)) [] ]
 
@@ -55,7 +55,7 @@ element_by name own at kind = made (element_with name own at kind.value) kind.lo
 abbrev pub reference_to : Name → ℕ → List Local
 reference_to name at = Reference name at ∷ []
 
--- a local declaration, and behind it those that stand in it
+-- A local declaration, followed by those nested in it.
 abbrev pub declared_with : Made raw.Element → List Local
 declared_with element = Own element.value ∷ element.locals
 
@@ -78,7 +78,7 @@ abbrev pub group_of : ℕ → ℕ → List ℕ → List (List ℕ × List ℕ) �
 group_of file at name own particles =
     node (record { kind = compositor name; min = least_of own; max = most_of own; file = file; at = at }) (roses_of particles)
 
--- of an element with the type in it, or of a group with its particles
+-- The particle of an element with the type in it, or of a group with its particles.
 abbrev pub particle_by : Settings → ℕ → List ℕ → ℕ → List (List ℕ × List ℕ) → List (List ℕ × List ℕ) → Made Kind → Made (List (Rose ParticleLabel)) → Made (Rose ParticleLabel)
 particle_by said n name at scope own inner particles =
     if bytes_eq name (codes "element")
@@ -94,12 +94,12 @@ and_particle first rest = made (and_some first.value rest.value) (first.locals +
 
 -- ---- types
 
--- the first type among children
+-- The first type among children.
 abbrev pub first_kind : Option Simple → Made (Option Complex) → Made Kind → Made Kind
 first_kind (Some body) complex rest = made (SimpleKind body) []
 first_kind None complex rest = elim complex.value [ None ↦ made rest.value (complex.locals ++ rest.locals) | Some body ↦ made (ComplexKind body) complex.locals ]
 
--- the first group among children
+-- The first group among children.
 abbrev pub first_group : Made (Option (Rose ParticleLabel)) → Made (Option (Rose ParticleLabel)) → Made (Option (Rose ParticleLabel))
 first_group first rest = elim first.value [ None ↦ made rest.value (first.locals ++ rest.locals) | Some group ↦ made (Some group) first.locals ]
 
@@ -110,7 +110,7 @@ complex_of said at mixed scope kids group = elim (simple_content said scope kids
 ]
 
 abbrev mutual
-  -- the particle that the element is, unless it may not occur
+  -- The particle that the element makes, unless it may not occur.
   pub particle_at : Settings → List (List ℕ × List ℕ) → ℕ → Rose ItemLabel → Made (Option (Rose ParticleLabel))
   particle_at said outer n (node (Text text at) kids) = made None []
   particle_at said outer n (node (Element name attributes declares at) kids) =
@@ -119,25 +119,25 @@ abbrev mutual
       (inner_kind said (declares ++ outer) (n + 1) kids) (particles_among said (declares ++ outer) n kids))
       else made None []
 
-  -- the particles among these, in their order
+  -- The particles among these, in their order.
   pub particles_among : Settings → List (List ℕ × List ℕ) → ℕ → Roses ItemLabel → Made (List (Rose ParticleLabel))
   particles_among said scope n rose.none = made [] []
   particles_among said scope n (rose.more t ts) =
       and_particle (particle_at said scope n t) (particles_among said scope (n + length (particle_at said scope n t).locals) ts)
 
-  -- the first particle among these that may occur
+  -- The first particle among these that may occur.
   pub group_among : Settings → List (List ℕ × List ℕ) → ℕ → Roses ItemLabel → Made (Option (Rose ParticleLabel))
   group_among said scope n rose.none = made None []
   group_among said scope n (rose.more t ts) =
       first_group (particle_at said scope n t) (group_among said scope (n + length (particle_at said scope n t).locals) ts)
 
-  -- the first type among these
+  -- The first type among these.
   pub inner_kind : Settings → List (List ℕ × List ℕ) → ℕ → Roses ItemLabel → Made Kind
   inner_kind said scope n rose.none = made (NamedKind (Other no_name)) []
   inner_kind said scope n (rose.more t ts) =
       first_kind (simple_type scope t) (complex_type said scope n t) (inner_kind said scope (n + length (complex_type said scope n t).locals) ts)
 
-  -- the complex type that the element defines
+  -- The complex type that the element defines.
   pub complex_type : Settings → List (List ℕ × List ℕ) → ℕ → Rose ItemLabel → Made (Option Complex)
   complex_type said outer n (node (Text text at) kids) = made None []
   complex_type said outer n (node (Element name attributes declares at) kids) =
@@ -146,9 +146,9 @@ abbrev mutual
       (group_among said (declares ++ outer) n kids))
       else made None []
 
--- ---- what the code has of it
+-- ---- values of the code
 
--- the value, and the local declarations behind those of before
+-- The value is that of the part, and its local declarations follow those before.
 pub record Makes {A : Type 0} (before after : List RawLocal) (value : A) (m : Made A) : Type 0 where
   pub value_is : value ≡ m.value
   pub locals_are : map local_of after ≡ map local_of before ++ m.locals

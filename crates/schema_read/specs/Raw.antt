@@ -9,7 +9,7 @@ use Rattle.schema_components.specs.Raw.{Simple, Complex, Element, Local, Attribu
 use Rattle.schema_components.specs.Seen.{element_of, attribute_of, type_of, local_of}
 use Rattle.schema_syntax.specs.Elements.{is_schema_name}
 use Rattle.schema_syntax.specs.Attributes.{own_attributes}
-use Rattle.schema_read.specs.declared.globals.Globals.{Globals}
+use Rattle.schema_components.specs.declared.documents.RawComponents.{RawComponents as Globals}
 use Rattle.schema_read.specs.Names.{declared_name}
 use Rattle.schema_read.specs.SimpleTypes.{simple_type}
 use Rattle.schema_read.specs.Attributes.{global_attribute}
@@ -17,7 +17,7 @@ use Rattle.schema_read.specs.Counted.{counted_among}
 use Rattle.schema_read.specs.Settings.{Settings, settings_of}
 use Rattle.schema_read.specs.Particles.{Made, element_by, kind_by, inner_kind, complex_type}
 
--- the components of some children of `schema`, with the local declarations in them
+-- The components of some children of `schema`, with the local declarations in them.
 pub record Parts : Type 0 where
   pub elements : List Element
   pub attributes : List Attribute
@@ -56,7 +56,7 @@ complex_types name (Some body) = ComplexType name body ∷ []
 abbrev pub complex_type_parts : Name → Made (Option Complex) → Parts
 complex_type_parts name m = record { elements = []; attributes = []; types = complex_types name m.value; locals = m.locals }
 
--- a global element declaration (section 3.3.2)
+-- A global element declaration (section 3.3.2).
 abbrev pub global_element : Settings → ℕ → ℕ → List (List ℕ × List ℕ) → List (List ℕ × List ℕ) → List (Rose ItemLabel) → Made Element
 global_element said n at scope own kids = element_by (declared_name said.target own) own at (kind_by scope own (inner_kind said scope n (roses_of kids)))
 
@@ -75,7 +75,7 @@ parts_by said outer n (label.Text text at) t = no_parts
 
 -- ---- all of them
 
--- given how many local declarations stand before them
+-- The components of some children, given the number n of local declarations that precede them.
 abbrev pub parts_among : Settings → List (List ℕ × List ℕ) → ℕ → List (Rose ItemLabel) → Parts
 parts_among said scope n [] = no_parts
 parts_among said scope n (t ∷ ts) =
@@ -97,25 +97,25 @@ abbrev pub document_by : ℕ → List (List ℕ × List ℕ) → List (List ℕ 
 document_by file own scope kids =
     document_with file (settings_of file own).target (counted_among (roses_of kids)) (parts_among (settings_of file own) scope 0 kids)
 
--- `xml` is bound everywhere (Namespaces in XML 1.0, section 3)
+-- The components of a document by its root. `xml` is bound everywhere (Namespaces in XML 1.0, section 3).
 abbrev pub raw_by : ℕ → ItemLabel → List (Rose ItemLabel) → Document
 raw_by file (label.Element name attributes declares at) kids = document_by file (own_attributes attributes) (declares ++ (xml_prefix, xml_space) ∷ []) kids
 raw_by file (label.Text text at) kids = document_with file [] [] no_parts
 
--- the components of the document with this root, which is that file of its set
+-- The components of the document with this root, which has this number in its set.
 abbrev pub raw_of : ℕ → Rose ItemLabel → Document
 raw_of file root = raw_by file (label_of root) (kids_of root)
 
--- ---- what the code has of it
+-- ---- values of the code
 
--- the parts behind those of before
+-- The parts are added after those before.
 pub record Adds (before after : Globals) (parts : Parts) : Type 0 where
   pub elements_are : map element_of after.elements.items ≡ map element_of before.elements.items ++ parts.elements
   pub attributes_are : map attribute_of after.attributes.items ≡ map attribute_of before.attributes.items ++ parts.attributes
   pub types_are : map type_of after.types.items ≡ map type_of before.types.items ++ parts.types
   pub locals_are : map local_of after.locals.items ≡ map local_of before.locals.items ++ parts.locals
 
--- these parts and no others
+-- There are exactly these parts.
 pub record Are (all : Globals) (parts : Parts) : Type 0 where
   pub elements_are : map element_of all.elements.items ≡ parts.elements
   pub attributes_are : map attribute_of all.attributes.items ≡ parts.attributes

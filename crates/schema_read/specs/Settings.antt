@@ -1,4 +1,4 @@
--- What a schema document says of all its declarations (XML Schema Part 1, section 3.15.2).
+-- The settings that a schema document makes for all its declarations (XML Schema Part 1, section 3.15.2).
 use Rattle.std.specs.Prelude.{ℕ, Bool, false, List, codes}
 use Rattle.schema_read.specs.declared.declarations.Setting.{Setting}
 use Rattle.schema_read.specs.Names.{value_or_empty}
@@ -10,7 +10,7 @@ pub record Settings : Type 0 where
   pub elements_qualified : Bool
   pub attributes_qualified : Bool
 
--- by the attributes of `schema`
+-- The settings by the attributes of `schema`.
 abbrev pub settings_of : ℕ → List (List ℕ × List ℕ) → Settings
 settings_of file own =
     record {
@@ -20,6 +20,6 @@ settings_of file own =
       attributes_qualified = is_qualified (codes "attributeFormDefault") own false;
     }
 
--- what the code has of it
+-- The settings that a value of the code represents.
 abbrev pub said : Setting → Settings
 said s = record { file = s.file; target = s.target.now; elements_qualified = s.elements_qualified; attributes_qualified = s.attributes_qualified }

@@ -44,12 +44,12 @@ abbrev pub and_facet : Option Facet → List Facet → List Facet
 and_facet None facets = facets
 and_facet (Some first) facets = first ∷ facets
 
--- the facets among the children of a restriction, in their order
+-- The facets among the children of a restriction, in their order.
 abbrev pub facets_among : List (Rose ItemLabel) → List Facet
 facets_among [] = []
 facets_among (t ∷ ts) = and_facet (facet_at (label_of t)) (facets_among ts)
 
--- ---- what a type is made from
+-- ---- the parts of a type
 
 abbrev pub joined : Bases → Bases → Bases
 joined none others = others
@@ -66,7 +66,7 @@ abbrev pub first_or_none : Bases → Base
 first_or_none none = Named (Other no_name)
 first_or_none (more first bases) = first
 
--- the type that the attribute names, or else the first of those in place
+-- The type that the attribute names, or else the first of those in place.
 abbrev pub base_by : List ℕ → List (List ℕ × List ℕ) → List (List ℕ × List ℕ) → Bases → Base
 base_by attribute scope own inner = elim (beside attribute own) [ None ↦ first_or_none inner | Some value ↦ Named (type_ref scope value) ]
 
@@ -76,7 +76,7 @@ restriction_of scope own inner kids = Restrict (base_by (codes "base") scope own
 abbrev pub list_of_items : List (List ℕ × List ℕ) → List (List ℕ × List ℕ) → Bases → How
 list_of_items scope own inner = ListOf (base_by (codes "itemType") scope own inner)
 
--- those that it names, and then those in it
+-- The members that the union names, and then those in it.
 abbrev pub union_of : List (List ℕ × List ℕ) → List (List ℕ × List ℕ) → Bases → How
 union_of scope own inner = UnionOf (joined (named_members scope own) inner)
 
@@ -100,7 +100,7 @@ and_inner None bases = bases
 and_inner (Some s) bases = more (Inner s.at s.body_at s.how) bases
 
 abbrev mutual
-  -- the restriction, list or union that the element is, with its place
+  -- The restriction, list or union that the element makes, with its place.
   pub variety_at : List (List ℕ × List ℕ) → Rose ItemLabel → Option (ℕ × How)
   variety_at outer (node (Text text at) kids) = None
   variety_at outer (node (Element name attributes declares at) kids) =
@@ -108,27 +108,27 @@ abbrev mutual
       then placed at (made_by name.local (declares ++ outer) (own_attributes attributes) (inner_types (declares ++ outer) kids) (list_of kids))
       else None
 
-  -- the first among these
+  -- The first restriction, list or union among these.
   pub variety_among : List (List ℕ × List ℕ) → Roses ItemLabel → Option (ℕ × How)
   variety_among scope rose.none = None
   variety_among scope (rose.more t ts) = option_or (variety_at scope t) (variety_among scope ts)
 
-  -- the simple type that the element defines
+  -- The simple type that the element defines.
   pub simple_type : List (List ℕ × List ℕ) → Rose ItemLabel → Option Simple
   simple_type outer (node (Text text at) kids) = None
   simple_type outer (node (Element name attributes declares at) kids) =
       if is_in SimpleTypes (Element name attributes declares at) then defined at (variety_among (declares ++ outer) kids) else None
 
-  -- the simple types among these, in their order
+  -- The simple types among these, in their order.
   pub inner_types : List (List ℕ × List ℕ) → Roses ItemLabel → Bases
   inner_types scope rose.none = none
   inner_types scope (rose.more t ts) = and_inner (simple_type scope t) (inner_types scope ts)
 
--- the simple type of a declaration: the one that it names, or the one in it
+-- The simple type of a declaration: the one that it names, or the one in it.
 abbrev pub declared_type : List (List ℕ × List ℕ) → List (List ℕ × List ℕ) → Roses ItemLabel → Base
 declared_type scope own kids = base_by (codes "type") scope own (inner_types scope kids)
 
--- ---- what the code has of it
+-- ---- values of the code
 
 abbrev pub made_seen : ℕ × RawHow → ℕ × How
 made_seen made = (made.0, how_of made.1)

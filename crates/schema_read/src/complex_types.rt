@@ -10,13 +10,13 @@ ghost use Rattle.schema_read.specs.Particles as parts;
 ghost use Rattle.schema_read.specs.Particles.{Makes, made};
 ghost use Rattle.schema_read.specs.Private.Held.{BodyHeld, ElementHeld, FoundHeld, HasRoom, IsHeld, KindHeld};
 
-use crate::contents::{complex_with, is_named, is_true, simple_content};
+use crate::contents::{complex_with, is_named, is_true};
 use crate::declarations::local_name;
 use crate::names::{no_name, referred, type_ref};
-use crate::particles::{element_name, element_with, group_of, leaf_of, push_particle, put_own};
-use crate::reader::Reader;
+use crate::particles::{element_name, element_with, push_particle, put_own};
+use crate::reader::{Reader, StartTag};
 use crate::simple_definitions::simple_type;
-use base_texts::{Memory, Name, Text};
+use base_texts::{Memory, Name};
 use base_trees::Tree;
 use content_models::ParticleLabel;
 use schema_components::{RawComplex, RawElement, RawKind, RawLocal, RawRef};
@@ -86,37 +86,39 @@ impl<'s, 'a, 'b> Reader<'s, 'a, 'b> {
         }
         let inside = NamespaceScope::inside(self.alloc, declares, self.scope)?;
         let reader = Reader {
-            alloc: self.alloc,
-            setting: self.setting,
             scope: &inside,
+            ..self
         };
-        let particle = reader.particle_of(name.local.as_str(), *at, &own, tree.kids(), locals)?;
+        let tag = StartTag {
+            name: name.local.as_str(),
+            at: *at,
+            own: &own,
+        };
+        let particle = reader.particle_of(tag, tree.kids(), locals)?;
         Ok(Some(particle))
     }
 
     #[cycle(complex_types)]
     fn particle_of(
         self,
-        name: &str,
-        at: u64,
-        own: &[(Text, Text)],
+        tag: StartTag<'_>,
         kids: &'a [Tree<ItemLabel>],
         locals: &mut Vec<RawLocal>,
     ) -> Result<Tree<ParticleLabel>, Memory>
-        requires { HasRoom locals.old.items (parts.particle_by (said self.setting) (length locals.old.items) name.now at (bindings_in self.scope.now) own.now
+        requires { HasRoom locals.old.items (parts.particle_by (said self.setting) (length locals.old.items) tag.name.now tag.at (bindings_in self.scope.now) tag.own.now
             (parts.inner_kind (said self.setting) (bindings_in self.scope.now) (length locals.old.items + 1) (roses_of kids.now))
             (parts.particles_among (said self.setting) (bindings_in self.scope.now) (length locals.old.items) (roses_of kids.now))) }
-        ensures { IfOk result (λ particle. Makes locals.old.items locals.new.items particle (parts.particle_by (said self.entry.setting) (length locals.old.items) name.now at (bindings_in self.entry.scope.now) own.now
+        ensures { IfOk result (λ particle. Makes locals.old.items locals.new.items particle (parts.particle_by (said self.entry.setting) (length locals.old.items) tag.entry.name.now tag.entry.at (bindings_in self.entry.scope.now) tag.entry.own.now
             (parts.inner_kind (said self.entry.setting) (bindings_in self.entry.scope.now) (length locals.old.items + 1) (roses_of kids.now))
             (parts.particles_among (said self.entry.setting) (bindings_in self.entry.scope.now) (length locals.old.items) (roses_of kids.now)))) }
     {
-        if name == "element" {
-            let named = element_name(self.alloc, self.setting, self.scope, own)?;
-            let decl = self.declare(at, own, kids, locals)?;
-            Ok(leaf_of(self.alloc, self.setting.file, at, decl, named, own))
+        if tag.name == "element" {
+            let named = element_name(self.alloc, self.setting, self.scope, tag.own)?;
+            let decl = self.declare(tag, kids, locals)?;
+            Ok(self.leaf_of(tag, decl, named))
         } else {
             let particles = self.particles_among(kids, locals)?;
-            Ok(group_of(self.setting.file, at, name, own, particles))
+            Ok(self.group_of(tag, particles))
         }
     }
 
@@ -142,24 +144,23 @@ impl<'s, 'a, 'b> Reader<'s, 'a, 'b> {
     #[cycle(complex_types)]
     fn declare(
         self,
-        at: u64,
-        own: &[(Text, Text)],
+        tag: StartTag<'_>,
         kids: &'a [Tree<ItemLabel>],
         locals: &mut Vec<RawLocal>,
     ) -> Result<u32, Memory>
-        requires { HasRoom locals.old.items (made (length locals.old.items) (parts.declared (said self.setting) at (bindings_in self.scope.now) own.now
+        requires { HasRoom locals.old.items (made (length locals.old.items) (parts.declared (said self.setting) tag.at (bindings_in self.scope.now) tag.own.now
             (parts.inner_kind (said self.setting) (bindings_in self.scope.now) (length locals.old.items + 1) (roses_of kids.now)))) }
-        ensures { IfOk result (λ decl. Makes locals.old.items locals.new.items decl (made (length locals.old.items) (parts.declared (said self.entry.setting) at (bindings_in self.entry.scope.now) own.now
+        ensures { IfOk result (λ decl. Makes locals.old.items locals.new.items decl (made (length locals.old.items) (parts.declared (said self.entry.setting) tag.entry.at (bindings_in self.entry.scope.now) tag.entry.own.now
             (parts.inner_kind (said self.entry.setting) (bindings_in self.entry.scope.now) (length locals.old.items + 1) (roses_of kids.now))))) }
     {
         let decl = next_number(locals);
-        match value_of("ref", own) {
+        match value_of("ref", tag.own) {
             Some(reference) => {
-                refer(self.alloc, self.scope, reference.as_str(), at, locals)?;
+                refer(self.alloc, self.scope, reference.as_str(), tag.at, locals)?;
                 Ok(decl)
             }
             None => {
-                self.declare_own(at, own, kids, locals)?;
+                self.declare_own(tag, kids, locals)?;
                 Ok(decl)
             }
         }
@@ -168,27 +169,26 @@ impl<'s, 'a, 'b> Reader<'s, 'a, 'b> {
     #[cycle(complex_types)]
     fn declare_own(
         self,
-        at: u64,
-        own: &[(Text, Text)],
+        tag: StartTag<'_>,
         kids: &'a [Tree<ItemLabel>],
         locals: &mut Vec<RawLocal>,
     ) -> Result<(), Memory>
         requires { HasRoom locals.old.items (made (length locals.old.items) (parts.declared_with (parts.element_by
-            (attributes.local_name self.setting.target.now self.setting.elements_qualified own.now) own.now at (parts.kind_by (bindings_in self.scope.now) own.now
+            (attributes.local_name self.setting.target.now self.setting.elements_qualified tag.own.now) tag.own.now tag.at (parts.kind_by (bindings_in self.scope.now) tag.own.now
             (parts.inner_kind (said self.setting) (bindings_in self.scope.now) (length locals.old.items + 1) (roses_of kids.now)))))) }
         ensures { OnOk result (map seen.local_of locals.new.items ≡ map seen.local_of locals.old.items ++ parts.declared_with (parts.element_by
-            (attributes.local_name self.entry.setting.target.now self.entry.setting.elements_qualified own.now) own.now at (parts.kind_by (bindings_in self.entry.scope.now) own.now
+            (attributes.local_name self.entry.setting.target.now self.entry.setting.elements_qualified tag.entry.own.now) tag.entry.own.now tag.entry.at (parts.kind_by (bindings_in self.entry.scope.now) tag.entry.own.now
             (parts.inner_kind (said self.entry.setting) (bindings_in self.entry.scope.now) (length locals.old.items + 1) (roses_of kids.now))))) }
     {
         let number = locals.len();
-        hold(self.alloc, at, locals)?;
+        hold(self.alloc, tag.at, locals)?;
         let name = local_name(
             self.alloc,
             self.setting.target,
             self.setting.elements_qualified,
-            own,
+            tag.own,
         )?;
-        let element = self.element_of(name, at, own, kids, locals)?;
+        let element = self.element_of(name, tag, kids, locals)?;
         put_own(locals, number, element);
         Ok(())
     }
@@ -198,24 +198,23 @@ impl<'s, 'a, 'b> Reader<'s, 'a, 'b> {
     pub(crate) fn element_of(
         self,
         name: Name,
-        at: u64,
-        own: &[(Text, Text)],
+        tag: StartTag<'_>,
         kids: &'a [Tree<ItemLabel>],
         locals: &mut Vec<RawLocal>,
     ) -> Result<RawElement, Memory>
-        requires { IsHeld ElementHeld locals.old.items (parts.element_by name own.now at (parts.kind_by (bindings_in self.scope.now) own.now
+        requires { IsHeld ElementHeld locals.old.items (parts.element_by name tag.own.now tag.at (parts.kind_by (bindings_in self.scope.now) tag.own.now
             (parts.inner_kind (said self.setting) (bindings_in self.scope.now) (length locals.old.items) (roses_of kids.now)))) }
-        ensures { IfOk result (λ element. Makes locals.old.items locals.new.items (seen.element_of element) (parts.element_by name own.now at (parts.kind_by (bindings_in self.entry.scope.now) own.now
+        ensures { IfOk result (λ element. Makes locals.old.items locals.new.items (seen.element_of element) (parts.element_by name tag.entry.own.now tag.entry.at (parts.kind_by (bindings_in self.entry.scope.now) tag.entry.own.now
             (parts.inner_kind (said self.entry.setting) (bindings_in self.entry.scope.now) (length locals.old.items) (roses_of kids.now))))) }
     {
-        match value_of("type", own) {
+        match value_of("type", tag.own) {
             Some(value) => {
                 let reference = type_ref(self.alloc, self.scope, value.as_str())?;
-                Ok(element_with(name, own, at, RawKind::Named(reference)))
+                Ok(element_with(name, tag.own, tag.at, RawKind::Named(reference)))
             }
             None => {
                 let kind = self.inner_kind(kids, locals)?;
-                Ok(element_with(name, own, at, kind))
+                Ok(element_with(name, tag.own, tag.at, kind))
             }
         }
     }
@@ -288,9 +287,8 @@ impl<'s, 'a, 'b> Reader<'s, 'a, 'b> {
         let own = own_attributes(self.alloc, attributes.items())?;
         let mixed = is_true("mixed", &own);
         let reader = Reader {
-            alloc: self.alloc,
-            setting: self.setting,
             scope: &inside,
+            ..self
         };
         let body = reader.complex_of(*at, mixed, tree.kids(), locals)?;
         Ok(Some(body))
@@ -309,7 +307,7 @@ impl<'s, 'a, 'b> Reader<'s, 'a, 'b> {
         ensures { IfOk result (λ body. Makes locals.old.items locals.new.items (seen.complex_of body) (parts.complex_of (said self.entry.setting) at mixed (bindings_in self.entry.scope.now) kids.now
             (parts.group_among (said self.entry.setting) (bindings_in self.entry.scope.now) (length locals.old.items) (roses_of kids.now)))) }
     {
-        let simple = simple_content(self.alloc, self.setting, kids, self.scope)?;
+        let simple = self.simple_content(kids)?;
         if let Some(found) = simple {
             return Ok(complex_with(at, found));
         }

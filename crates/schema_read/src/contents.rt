@@ -9,7 +9,6 @@ ghost use Rattle.schema_read.specs.Settings.{said};
 ghost use Rattle.schema_read.specs.Contents as contents;
 ghost use Rattle.schema_read.specs.Private.Held.{BodyHeld, ContentHeld};
 
-use crate::declarations::{Setting, uses_among};
 use crate::names::{no_name, type_ref};
 use crate::reader::Reader;
 use base_texts::{Memory, Text};
@@ -54,85 +53,84 @@ fn extension_base(
     }
 }
 
-// The simple content of a complex type by its extension, with its attributes.
-fn extended<'a, 'b>(
-    alloc: Global,
-    setting: Setting<'_>,
-    tree: &'a Tree<ItemLabel>,
-    scope: &'b NamespaceScope<'a, 'b>,
-) -> Result<Option<(RawContent, RawUses)>, Memory>
-    ensures { IfOk result (λ found. option_map contents.content_seen found ≡ contents.extended (said setting.entry) (bindings_in scope.now) (label_of tree.now) (kids_of tree.now)) }
-{
-    let ItemLabel::Element {
-        attributes,
-        declares,
-        at,
-        ..
-    } = tree.label()
-    else {
-        return Ok(None);
-    };
-    if !is_named("extension", tree.label()) {
-        return Ok(None);
-    }
-    let inside = NamespaceScope::inside(alloc, declares, scope)?;
-    let own = own_attributes(alloc, attributes.items())?;
-    let base = extension_base(alloc, &inside, &own)?;
-    let uses = uses_among(alloc, setting, tree.kids(), &inside)?;
-    Ok(Some((RawContent::Simple { base, at: *at }, uses)))
-}
-
-fn extended_among<'a, 'b>(
-    alloc: Global,
-    setting: Setting<'_>,
-    kids: &'a [Tree<ItemLabel>],
-    scope: &'b NamespaceScope<'a, 'b>,
-) -> Result<Option<(RawContent, RawUses)>, Memory>
-    ensures { IfOk result (λ found. option_map contents.content_seen found ≡ contents.extended_among (said setting.entry) (bindings_in scope.now) kids.now) }
-{
-    for kid in kids {
-        let found = extended(alloc, setting, kid, scope)?;
-        if found.is_some() {
-            return Ok(found);
+impl<'s, 'a, 'b> Reader<'s, 'a, 'b> {
+    // Reads the simple content of a complex type from its `extension`, with its attributes.
+    fn extended(self, tree: &'a Tree<ItemLabel>) -> Result<Option<(RawContent, RawUses)>, Memory>
+        ensures { IfOk result (λ found. option_map contents.content_seen found ≡ contents.extended (said self.entry.setting) (bindings_in self.entry.scope.now) (label_of tree.now) (kids_of tree.now)) }
+    {
+        let ItemLabel::Element {
+            attributes,
+            declares,
+            at,
+            ..
+        } = tree.label()
+        else {
+            return Ok(None);
+        };
+        if !is_named("extension", tree.label()) {
+            return Ok(None);
         }
+        let inside = NamespaceScope::inside(self.alloc, declares, self.scope)?;
+        let own = own_attributes(self.alloc, attributes.items())?;
+        let base = extension_base(self.alloc, &inside, &own)?;
+        let reader = Reader {
+            scope: &inside,
+            ..self
+        };
+        let uses = reader.uses_among(tree.kids())?;
+        Ok(Some((RawContent::Simple { base, at: *at }, uses)))
     }
-    Ok(None)
-}
 
-fn simple_content_at<'a, 'b>(
-    alloc: Global,
-    setting: Setting<'_>,
-    tree: &'a Tree<ItemLabel>,
-    scope: &'b NamespaceScope<'a, 'b>,
-) -> Result<Option<(RawContent, RawUses)>, Memory>
-    ensures { IfOk result (λ found. option_map contents.content_seen found ≡ contents.simple_content_at (said setting.entry) (bindings_in scope.now) (label_of tree.now) (kids_of tree.now)) }
-{
-    let ItemLabel::Element { declares, .. } = tree.label() else {
-        return Ok(None);
-    };
-    if !is_named("simpleContent", tree.label()) {
-        return Ok(None);
-    }
-    let inside = NamespaceScope::inside(alloc, declares, scope)?;
-    extended_among(alloc, setting, tree.kids(), &inside)
-}
-
-/// The simple content among the children of a complex type, with its attributes.
-pub(crate) fn simple_content<'a, 'b>(
-    alloc: Global,
-    setting: Setting<'_>,
-    kids: &'a [Tree<ItemLabel>],
-    scope: &'b NamespaceScope<'a, 'b>,
-) -> Result<Option<(RawContent, RawUses)>, Memory>
-    ensures { IfOk result (λ found. option_map contents.content_seen found ≡ contents.simple_content (said setting.entry) (bindings_in scope.now) kids.now) }
-{
-    for kid in kids {
-        let found = simple_content_at(alloc, setting, kid, scope)?;
-        if found.is_some() {
-            return Ok(found);
+    fn extended_among(
+        self,
+        kids: &'a [Tree<ItemLabel>],
+    ) -> Result<Option<(RawContent, RawUses)>, Memory>
+        ensures { IfOk result (λ found. option_map contents.content_seen found ≡ contents.extended_among (said self.entry.setting) (bindings_in self.entry.scope.now) kids.now) }
+    {
+        for kid in kids {
+            let found = self.extended(kid)?;
+            if found.is_some() {
+                return Ok(found);
+            }
         }
+        Ok(None)
     }
-    Ok(None)
+
+    fn simple_content_at(
+        self,
+        tree: &'a Tree<ItemLabel>,
+    ) -> Result<Option<(RawContent, RawUses)>, Memory>
+        ensures { IfOk result (λ found. option_map contents.content_seen found ≡ contents.simple_content_at (said self.entry.setting) (bindings_in self.entry.scope.now) (label_of tree.now) (kids_of tree.now)) }
+    {
+        let ItemLabel::Element { declares, .. } = tree.label() else {
+            return Ok(None);
+        };
+        if !is_named("simpleContent", tree.label()) {
+            return Ok(None);
+        }
+        let inside = NamespaceScope::inside(self.alloc, declares, self.scope)?;
+        let reader = Reader {
+            scope: &inside,
+            ..self
+        };
+        reader.extended_among(tree.kids())
+    }
+
+    /// Reads the simple content among the children of a complex type, with its attributes.
+    pub(crate) fn simple_content(
+        self,
+        kids: &'a [Tree<ItemLabel>],
+    ) -> Result<Option<(RawContent, RawUses)>, Memory>
+        ensures { IfOk result (λ found. option_map contents.content_seen found ≡ contents.simple_content (said self.entry.setting) (bindings_in self.entry.scope.now) kids.now) }
+    {
+        for kid in kids {
+            let found = self.simple_content_at(kid)?;
+            if found.is_some() {
+                return Ok(found);
+            }
+        }
+        Ok(None)
+    }
 }
 
 // A sequence of nothing, which stands where a mixed type has no group.
@@ -276,7 +274,7 @@ impl<'s, 'a, 'b> Reader<'s, 'a, 'b> {
         requires { BodyHeld (contents.complex_by (said self.setting) at mixed (bindings_in self.scope.now) kids.now group) }
         ensures { IfOk result (λ body. complex_of body ≡ contents.complex_by (said self.entry.setting) at mixed (bindings_in self.entry.scope.now) kids.now group) }
     {
-        let uses = uses_among(self.alloc, self.setting, kids, self.scope)?;
+        let uses = self.uses_among(kids)?;
         let empty_at = empty_place(at, kids);
         let content = content_of(self.alloc, self.setting.file, mixed, empty_at, group);
         Ok(RawComplex { at, uses, content })

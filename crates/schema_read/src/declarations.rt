@@ -8,6 +8,7 @@ ghost use Rattle.schema_syntax.specs.Scopes.{bindings_in};
 ghost use Rattle.schema_read.specs.Attributes as attributes;
 
 use crate::names::{declared_name, empty_text, referred, value_or_empty};
+use crate::reader::Reader;
 use crate::simple_definitions::declared_type;
 use base_texts::{Memory, Name, Text};
 use base_trees::Tree;
@@ -89,156 +90,143 @@ fn standard_of(alloc: Global, own: &[(Text, Text)]) -> Result<Standard, Memory>
     }
 }
 
-fn use_to(
-    alloc: Global,
-    scope: &NamespaceScope<'_, '_>,
-    text: &str,
-    own: &[(Text, Text)],
-    at: u64,
-) -> Result<RawUse, Memory>
-    ensures { IfOk result (λ made. use_of made ≡ attributes.use_to (referred (bindings_in scope.now) text.now) own.now at) }
-{
-    let name = referred(alloc, scope, text)?;
-    let standard = standard_of(alloc, own)?;
-    Ok(RawUse {
-        name,
-        reference: true,
-        kind: None,
-        standard,
-        required: has_use("required", own),
-        at,
-    })
-}
-
-fn own_use<'a, 'b>(
-    alloc: Global,
-    setting: Setting<'_>,
-    at: u64,
-    scope: &'b NamespaceScope<'a, 'b>,
-    own: &[(Text, Text)],
-    kids: &'a [Tree<ItemLabel>],
-) -> Result<RawUse, Memory>
-    ensures { IfOk result (λ made. use_of made ≡ attributes.own_use (attributes.local_name setting.entry.target.now setting.entry.attributes_qualified own.now)
-        (declared_type (bindings_in scope.now) own.now (roses_of kids.now)) own.now at) }
-{
-    let name = local_name(alloc, setting.target, setting.attributes_qualified, own)?;
-    let kind = declared_type(alloc, scope, own, kids)?;
-    let standard = standard_of(alloc, own)?;
-    Ok(RawUse {
-        name,
-        reference: false,
-        kind: Some(kind),
-        standard,
-        required: has_use("required", own),
-        at,
-    })
-}
-
-fn use_by<'a, 'b>(
-    alloc: Global,
-    setting: Setting<'_>,
-    at: u64,
-    scope: &'b NamespaceScope<'a, 'b>,
-    own: &[(Text, Text)],
-    kids: &'a [Tree<ItemLabel>],
-) -> Result<RawUse, Memory>
-    ensures { IfOk result (λ made. use_of made ≡ attributes.use_by setting.entry.target.now setting.entry.attributes_qualified at (bindings_in scope.now) own.now kids.now) }
-{
-    match value_of("ref", own) {
-        Some(reference) => use_to(alloc, scope, reference.as_str(), own, at),
-        None => own_use(alloc, setting, at, scope, own, kids),
+impl<'s, 'a, 'b> Reader<'s, 'a, 'b> {
+    fn use_to(self, text: &str, at: u64, own: &[(Text, Text)]) -> Result<RawUse, Memory>
+        ensures { IfOk result (λ made. use_of made ≡ attributes.use_to (referred (bindings_in self.entry.scope.now) text.now) own.now at) }
+    {
+        let name = referred(self.alloc, self.scope, text)?;
+        let standard = standard_of(self.alloc, own)?;
+        Ok(RawUse {
+            name,
+            reference: true,
+            kind: None,
+            standard,
+            required: has_use("required", own),
+            at,
+        })
     }
-}
 
-// The attribute that the element declares, unless it is prohibited.
-fn use_at<'a, 'b>(
-    alloc: Global,
-    setting: Setting<'_>,
-    tree: &'a Tree<ItemLabel>,
-    scope: &'b NamespaceScope<'a, 'b>,
-) -> Result<Option<RawUse>, Memory>
-    ensures { IfOk result (λ found. option_map use_of found ≡ attributes.use_at setting.entry.target.now setting.entry.attributes_qualified (bindings_in scope.now) (label_of tree.now) (kids_of tree.now)) }
-{
-    let ItemLabel::Element {
-        attributes,
-        declares,
-        at,
-        ..
-    } = tree.label()
-    else {
-        return Ok(None);
-    };
-    if !is_in(ChildSet::Attributes, tree.label()) {
-        return Ok(None);
+    fn own_use(
+        self,
+        at: u64,
+        own: &[(Text, Text)],
+        kids: &'a [Tree<ItemLabel>],
+    ) -> Result<RawUse, Memory>
+        ensures { IfOk result (λ made. use_of made ≡ attributes.own_use (attributes.local_name self.entry.setting.target.now self.entry.setting.attributes_qualified own.now)
+            (declared_type (bindings_in self.entry.scope.now) own.now (roses_of kids.now)) own.now at) }
+    {
+        let default = self.setting.attributes_qualified;
+        let name = local_name(self.alloc, self.setting.target, default, own)?;
+        let kind = declared_type(self.alloc, self.scope, own, kids)?;
+        let standard = standard_of(self.alloc, own)?;
+        Ok(RawUse {
+            name,
+            reference: false,
+            kind: Some(kind),
+            standard,
+            required: has_use("required", own),
+            at,
+        })
     }
-    let own = own_attributes(alloc, attributes.items())?;
-    if has_use("prohibited", &own) {
-        return Ok(None);
-    }
-    let inside = NamespaceScope::inside(alloc, declares, scope)?;
-    let found = use_by(alloc, setting, *at, &inside, &own, tree.kids())?;
-    Ok(Some(found))
-}
 
-/// The attributes that these declare, in their order, without those that are prohibited.
-pub(crate) fn uses_among<'a, 'b>(
-    alloc: Global,
-    setting: Setting<'_>,
-    kids: &'a [Tree<ItemLabel>],
-    scope: &'b NamespaceScope<'a, 'b>,
-) -> Result<RawUses, Memory>
-    ensures { IfOk result (λ uses. uses_of uses ≡ attributes.uses_among setting.entry.target.now setting.entry.attributes_qualified (bindings_in scope.now) kids.now) }
-{
-    let mut uses = Vec::new(alloc);
-    for kid in kids {
-        if let Some(found) = use_at(alloc, setting, kid, scope)? {
-            uses.push(found)?;
+    fn use_by(
+        self,
+        at: u64,
+        own: &[(Text, Text)],
+        kids: &'a [Tree<ItemLabel>],
+    ) -> Result<RawUse, Memory>
+        ensures { IfOk result (λ made. use_of made ≡ attributes.use_by self.entry.setting.target.now self.entry.setting.attributes_qualified at (bindings_in self.entry.scope.now) own.now kids.now) }
+    {
+        match value_of("ref", own) {
+            Some(reference) => self.use_to(reference.as_str(), at, own),
+            None => self.own_use(at, own, kids),
         }
     }
-    Ok(RawUses::of(uses))
-}
 
-fn attribute_by<'a, 'b>(
-    alloc: Global,
-    target: &Text,
-    at: u64,
-    scope: &'b NamespaceScope<'a, 'b>,
-    own: &[(Text, Text)],
-    kids: &'a [Tree<ItemLabel>],
-) -> Result<RawAttribute, Memory>
-    ensures { IfOk result (λ made. attribute_of made ≡ attributes.attribute_by target.now at (bindings_in scope.now) own.now kids.now) }
-{
-    let kind = declared_type(alloc, scope, own, kids)?;
-    let name = declared_name(alloc, target, own)?;
-    let standard = standard_of(alloc, own)?;
-    Ok(RawAttribute {
-        name,
-        kind,
-        standard,
-        at,
-    })
-}
+    // Reads the attribute that the element declares, unless it is prohibited.
+    fn use_at(self, tree: &'a Tree<ItemLabel>) -> Result<Option<RawUse>, Memory>
+        ensures { IfOk result (λ found. option_map use_of found ≡ attributes.use_at self.entry.setting.target.now self.entry.setting.attributes_qualified (bindings_in self.entry.scope.now) (label_of tree.now) (kids_of tree.now)) }
+    {
+        let ItemLabel::Element {
+            attributes,
+            declares,
+            at,
+            ..
+        } = tree.label()
+        else {
+            return Ok(None);
+        };
+        if !is_in(ChildSet::Attributes, tree.label()) {
+            return Ok(None);
+        }
+        let own = own_attributes(self.alloc, attributes.items())?;
+        if has_use("prohibited", &own) {
+            return Ok(None);
+        }
+        let inside = NamespaceScope::inside(self.alloc, declares, self.scope)?;
+        let reader = Reader {
+            scope: &inside,
+            ..self
+        };
+        let found = reader.use_by(*at, &own, tree.kids())?;
+        Ok(Some(found))
+    }
 
-/// The global attribute that the element declares.
-pub(crate) fn global_attribute<'a, 'b>(
-    alloc: Global,
-    target: &Text,
-    tree: &'a Tree<ItemLabel>,
-    scope: &'b NamespaceScope<'a, 'b>,
-) -> Result<Option<RawAttribute>, Memory>
-    ensures { IfOk result (λ found. option_map attribute_of found ≡ attributes.global_attribute target.now (bindings_in scope.now) (label_of tree.now) (kids_of tree.now)) }
-{
-    let ItemLabel::Element {
-        attributes,
-        declares,
-        at,
-        ..
-    } = tree.label()
-    else {
-        return Ok(None);
-    };
-    let own = own_attributes(alloc, attributes.items())?;
-    let inside = NamespaceScope::inside(alloc, declares, scope)?;
-    let found = attribute_by(alloc, target, *at, &inside, &own, tree.kids())?;
-    Ok(Some(found))
+    /// Reads the attributes that these declare, in the order written, without those that are prohibited.
+    pub(crate) fn uses_among(self, kids: &'a [Tree<ItemLabel>]) -> Result<RawUses, Memory>
+        ensures { IfOk result (λ uses. uses_of uses ≡ attributes.uses_among self.entry.setting.target.now self.entry.setting.attributes_qualified (bindings_in self.entry.scope.now) kids.now) }
+    {
+        let mut uses = Vec::new(self.alloc);
+        for kid in kids {
+            if let Some(found) = self.use_at(kid)? {
+                uses.push(found)?;
+            }
+        }
+        Ok(RawUses::of(uses))
+    }
+
+    fn attribute_by(
+        self,
+        at: u64,
+        own: &[(Text, Text)],
+        kids: &'a [Tree<ItemLabel>],
+    ) -> Result<RawAttribute, Memory>
+        ensures { IfOk result (λ made. attribute_of made ≡ attributes.attribute_by self.entry.setting.target.now at (bindings_in self.entry.scope.now) own.now kids.now) }
+    {
+        let kind = declared_type(self.alloc, self.scope, own, kids)?;
+        let name = declared_name(self.alloc, self.setting.target, own)?;
+        let standard = standard_of(self.alloc, own)?;
+        Ok(RawAttribute {
+            name,
+            kind,
+            standard,
+            at,
+        })
+    }
+
+    /// Reads the global attribute that the element declares.
+    pub(crate) fn global_attribute(
+        self,
+        tree: &'a Tree<ItemLabel>,
+    ) -> Result<Option<RawAttribute>, Memory>
+        ensures { IfOk result (λ found. option_map attribute_of found ≡ attributes.global_attribute self.entry.setting.target.now (bindings_in self.entry.scope.now) (label_of tree.now) (kids_of tree.now)) }
+    {
+        let ItemLabel::Element {
+            attributes,
+            declares,
+            at,
+            ..
+        } = tree.label()
+        else {
+            return Ok(None);
+        };
+        let own = own_attributes(self.alloc, attributes.items())?;
+        let inside = NamespaceScope::inside(self.alloc, declares, self.scope)?;
+        let reader = Reader {
+            scope: &inside,
+            ..self
+        };
+        let found = reader.attribute_by(*at, &own, tree.kids())?;
+        Ok(Some(found))
+    }
 }

@@ -3,7 +3,7 @@ ghost use Rattle.std.specs.Prelude.{◌≡◌, ◌++◌, true, IfErr, IfOk, OnOk
 ghost use Rattle.base_trees.specs.Rose.{roses_of};
 ghost use Rattle.xml_read.specs.Sound.{is_element};
 ghost use Rattle.xml_read.specs.Tokens.{tokens, Ascend};
-ghost use Rattle.schema_components.specs.Documents.{doc_of, parts_of};
+ghost use Rattle.schema_components.specs.Documents.{doc_of};
 ghost use Rattle.schema_syntax.specs.Scopes.{bindings_in};
 ghost use Rattle.schema_faults.specs.Shown.{IsSchema};
 ghost use Rattle.schema_read.specs.Counted.{counted_here, counted_at, counted_among};
@@ -14,7 +14,6 @@ ghost use Rattle.schema_read.specs.Settings.{said};
 
 use crate::declarations::{Setting, is_qualified};
 use crate::error::SchemaError;
-use crate::globals::Globals;
 use crate::names::value_or_empty;
 use crate::reader::Reader;
 use base_texts::{Memory, Name, Text};
@@ -69,19 +68,6 @@ fn counted_places(alloc: Global, kids: &[Tree<ItemLabel>]) -> Result<Vec<u64>, M
     Ok(counted)
 }
 
-fn sealed(file: u32, target: Text, globals: Globals, counted: Vec<u64>) -> RawDoc
-    requires { Keeps (parts_of file target globals.elements.items globals.attributes.items globals.types.items globals.locals.items counted.items) }
-    ensures { doc_of result ≡ parts_of file target globals.elements.items globals.attributes.items globals.types.items globals.locals.items counted.items }
-{
-    let Globals {
-        elements,
-        attributes,
-        types,
-        locals,
-    } = globals;
-    RawDoc::of(file, target, elements, attributes, types, locals, counted)
-}
-
 // All that the children of `schema` declare.
 fn described_by<'a, 'b>(
     reader: Reader<'_, 'a, 'b>,
@@ -93,7 +79,7 @@ fn described_by<'a, 'b>(
     let globals = reader.globals_among(kids)?;
     let counted = counted_places(reader.alloc, kids)?;
     let target = reader.setting.target.copy(reader.alloc)?;
-    Ok(sealed(reader.setting.file, target, globals, counted))
+    Ok(RawDoc::of(reader.setting.file, target, globals, counted))
 }
 
 // The components of a document with these attributes of `schema` and these children of it.

@@ -11,49 +11,42 @@ ghost use Rattle.schema_read.specs.Raw as raw;
 ghost use Rattle.schema_read.specs.Raw.{Adds, Are};
 ghost use Rattle.schema_read.specs.Private.Held.{PartsHeld};
 
-use crate::declarations::global_attribute;
 use crate::names::declared_name;
-use crate::reader::Reader;
+use crate::reader::{Reader, StartTag};
 use crate::simple_definitions::simple_type;
 use base_texts::{Memory, Text};
 use base_trees::Tree;
-use schema_components::{RawAttribute, RawElement, RawLocal, RawType};
+use schema_components::{RawComponents, RawType};
 use schema_syntax::{NamespaceScope, is_schema_name, own_attributes};
 use xml_read::ItemLabel;
-
-/// What a document declares, as far as it is read.
-#[derive(Drop)]
-pub(crate) struct Globals {
-    pub elements: Vec<RawElement>,
-    pub attributes: Vec<RawAttribute>,
-    pub types: Vec<RawType>,
-    pub locals: Vec<RawLocal>,
-}
 
 impl<'s, 'a, 'b> Reader<'s, 'a, 'b> {
     // Adds a global element.
     fn add_element(
         self,
-        at: u64,
-        own: &[(Text, Text)],
+        tag: StartTag<'_>,
         kids: &'a [Tree<ItemLabel>],
-        globals: &mut Globals,
+        globals: &mut RawComponents,
     ) -> Result<(), Memory>
-        requires { PartsHeld globals.old.locals.items (raw.element_parts (raw.global_element (said self.setting) (length globals.old.locals.items) at (bindings_in self.scope.now) own.now kids.now)) }
+        requires { PartsHeld globals.old.locals.items (raw.element_parts (raw.global_element (said self.setting) (length globals.old.locals.items) tag.at (bindings_in self.scope.now) tag.own.now kids.now)) }
         ensures { OnOk result (Adds globals.old globals.new (raw.element_parts
-            (raw.global_element (said self.entry.setting) (length globals.old.locals.items) at (bindings_in self.entry.scope.now) own.now kids.now))) }
+            (raw.global_element (said self.entry.setting) (length globals.old.locals.items) tag.entry.at (bindings_in self.entry.scope.now) tag.entry.own.now kids.now))) }
     {
-        let name = declared_name(self.alloc, self.setting.target, own)?;
-        let element = self.element_of(name, at, own, kids, &mut globals.locals)?;
+        let name = declared_name(self.alloc, self.setting.target, tag.own)?;
+        let element = self.element_of(name, tag, kids, &mut globals.locals)?;
         globals.elements.push(element)?;
         Ok(())
     }
 
-    fn add_attribute(self, tree: &'a Tree<ItemLabel>, globals: &mut Globals) -> Result<(), Memory>
+    fn add_attribute(
+        self,
+        tree: &'a Tree<ItemLabel>,
+        globals: &mut RawComponents,
+    ) -> Result<(), Memory>
         ensures { OnOk result (Adds globals.old globals.new (raw.attribute_parts
             (attributes.global_attribute (said self.entry.setting).target (bindings_in self.entry.scope.now) (label_of tree.now) (kids_of tree.now)))) }
     {
-        let found = global_attribute(self.alloc, self.setting.target, tree, self.scope)?;
+        let found = self.global_attribute(tree)?;
         if let Some(attribute) = found {
             globals.attributes.push(attribute)?;
         }
@@ -64,7 +57,7 @@ impl<'s, 'a, 'b> Reader<'s, 'a, 'b> {
         self,
         own: &[(Text, Text)],
         tree: &'a Tree<ItemLabel>,
-        globals: &mut Globals,
+        globals: &mut RawComponents,
     ) -> Result<(), Memory>
         ensures { OnOk result (Adds globals.old globals.new (raw.simple_type_parts
             (declared_name (said self.entry.setting).target own.now) (simple.simple_type (bindings_in self.entry.scope.now) tree.now))) }
@@ -81,7 +74,7 @@ impl<'s, 'a, 'b> Reader<'s, 'a, 'b> {
         self,
         own: &[(Text, Text)],
         tree: &'a Tree<ItemLabel>,
-        globals: &mut Globals,
+        globals: &mut RawComponents,
     ) -> Result<(), Memory>
         requires { PartsHeld globals.old.locals.items (raw.complex_type_parts
             (declared_name (said self.setting).target own.now) (parts.complex_type (said self.setting) (bindings_in self.scope.now) (length globals.old.locals.items) tree.now)) }
@@ -96,38 +89,35 @@ impl<'s, 'a, 'b> Reader<'s, 'a, 'b> {
         Ok(())
     }
 
-    // Adds what a child of `schema` with this name and these attributes declares. `inside` is the scope in it.
+    // Adds the components that a child of `schema` with this start tag declares. `inside` is the scope in it.
     fn add_named(
         self,
         inside: &'b NamespaceScope<'a, 'b>,
-        name: &str,
-        own: &[(Text, Text)],
-        at: u64,
+        tag: StartTag<'_>,
         tree: &'a Tree<ItemLabel>,
-        globals: &mut Globals,
+        globals: &mut RawComponents,
     ) -> Result<(), Memory>
-        requires { PartsHeld globals.old.locals.items (raw.parts_named (said self.setting) (bindings_in self.scope.now) (length globals.old.locals.items) name.now own.now (bindings_in inside.now) at tree.now) }
+        requires { PartsHeld globals.old.locals.items (raw.parts_named (said self.setting) (bindings_in self.scope.now) (length globals.old.locals.items) tag.name.now tag.own.now (bindings_in inside.now) tag.at tree.now) }
         ensures { OnOk result (Adds globals.old globals.new (raw.parts_named (said self.entry.setting) (bindings_in self.entry.scope.now) (length globals.old.locals.items)
-            name.now own.now (bindings_in inside.now) at tree.now)) }
+            tag.entry.name.now tag.entry.own.now (bindings_in inside.now) tag.entry.at tree.now)) }
     {
-        match name {
+        match tag.name {
             "element" => {
                 let reader = Reader {
-                    alloc: self.alloc,
-                    setting: self.setting,
                     scope: inside,
+                    ..self
                 };
-                reader.add_element(at, own, tree.kids(), globals)
+                reader.add_element(tag, tree.kids(), globals)
             }
             "attribute" => self.add_attribute(tree, globals),
-            "simpleType" => self.add_simple_type(own, tree, globals),
-            "complexType" => self.add_complex_type(own, tree, globals),
+            "simpleType" => self.add_simple_type(tag.own, tree, globals),
+            "complexType" => self.add_complex_type(tag.own, tree, globals),
             _ => Ok(()),
         }
     }
 
     // Adds what a child of `schema` declares.
-    fn add(self, tree: &'a Tree<ItemLabel>, globals: &mut Globals) -> Result<(), Memory>
+    fn add(self, tree: &'a Tree<ItemLabel>, globals: &mut RawComponents) -> Result<(), Memory>
         requires { PartsHeld globals.old.locals.items (raw.parts_by (said self.setting) (bindings_in self.scope.now) (length globals.old.locals.items) (label_of tree.now) tree.now) }
         ensures { OnOk result (Adds globals.old globals.new (raw.parts_by (said self.entry.setting) (bindings_in self.entry.scope.now) (length globals.old.locals.items) (label_of tree.now) tree.now)) }
     {
@@ -145,15 +135,20 @@ impl<'s, 'a, 'b> Reader<'s, 'a, 'b> {
         }
         let own = own_attributes(self.alloc, attributes.items())?;
         let inside = NamespaceScope::inside(self.alloc, declares, self.scope)?;
-        self.add_named(&inside, name.local.as_str(), &own, *at, tree, globals)
+        let tag = StartTag {
+            name: name.local.as_str(),
+            at: *at,
+            own: &own,
+        };
+        self.add_named(&inside, tag, tree, globals)
     }
 
     /// What the children of `schema` declare, in their order.
-    pub(crate) fn globals_among(self, kids: &'a [Tree<ItemLabel>]) -> Result<Globals, Memory>
+    pub(crate) fn globals_among(self, kids: &'a [Tree<ItemLabel>]) -> Result<RawComponents, Memory>
         requires { PartsHeld [] (raw.parts_among (said self.setting) (bindings_in self.scope.now) 0 kids.now) }
         ensures { IfOk result (λ globals. Are globals (raw.parts_among (said self.entry.setting) (bindings_in self.entry.scope.now) 0 kids.now)) }
     {
-        let mut globals = Globals {
+        let mut globals = RawComponents {
             elements: Vec::new(self.alloc),
             attributes: Vec::new(self.alloc),
             types: Vec::new(self.alloc),

@@ -11,6 +11,7 @@ ghost use Rattle.schema_read.specs.Particles as parts;
 use crate::contents::is_true;
 use crate::declarations::{Setting, local_name};
 use crate::names::referred;
+use crate::reader::{Reader, StartTag};
 use base_texts::{Memory, Name, Text};
 use base_trees::Tree;
 use content_models::{ParticleKind, ParticleLabel};
@@ -57,45 +58,38 @@ fn compositor(name: &str) -> ParticleKind
     }
 }
 
-/// The particle of a group with these particles in it.
-pub(crate) fn group_of(
-    file: u32,
-    at: u64,
-    name: &str,
-    own: &[(Text, Text)],
-    kids: Vec<Tree<ParticleLabel>>,
-) -> Tree<ParticleLabel>
-    ensures { result ≡ parts.group_of file at name.now own.now kids.items }
-{
-    let label = ParticleLabel {
-        kind: compositor(name),
-        min: least_of(own),
-        max: most_of(own),
-        file,
-        at,
-    };
-    Tree::join(label, kids)
-}
+impl<'s, 'a, 'b> Reader<'s, 'a, 'b> {
+    /// Returns the particle of a group with this start tag and these particles.
+    pub(crate) fn group_of(
+        self,
+        tag: StartTag<'_>,
+        kids: Vec<Tree<ParticleLabel>>,
+    ) -> Tree<ParticleLabel>
+        ensures { result ≡ parts.group_of self.entry.setting.file tag.entry.at tag.entry.name.now tag.entry.own.now kids.items }
+    {
+        let label = ParticleLabel {
+            kind: compositor(tag.name),
+            min: least_of(tag.own),
+            max: most_of(tag.own),
+            file: self.setting.file,
+            at: tag.at,
+        };
+        Tree::join(label, kids)
+    }
 
-/// The particle of an element.
-pub(crate) fn leaf_of(
-    alloc: Global,
-    file: u32,
-    at: u64,
-    decl: u32,
-    name: Name,
-    own: &[(Text, Text)],
-) -> Tree<ParticleLabel>
-    ensures { result ≡ parts.leaf_of file at decl name own.now }
-{
-    let label = ParticleLabel {
-        kind: ParticleKind::Element { decl, name },
-        min: least_of(own),
-        max: most_of(own),
-        file,
-        at,
-    };
-    Tree::leaf(alloc, label)
+    /// Returns the particle of an element with this start tag. `decl` is the number of its local declaration.
+    pub(crate) fn leaf_of(self, tag: StartTag<'_>, decl: u32, name: Name) -> Tree<ParticleLabel>
+        ensures { result ≡ parts.leaf_of self.entry.setting.file tag.entry.at decl name tag.entry.own.now }
+    {
+        let label = ParticleLabel {
+            kind: ParticleKind::Element { decl, name },
+            min: least_of(tag.own),
+            max: most_of(tag.own),
+            file: self.setting.file,
+            at: tag.at,
+        };
+        Tree::leaf(self.alloc, label)
+    }
 }
 
 /// Adds the particle, if there is one.

@@ -10,6 +10,7 @@ ghost use Rattle.base_texts.specs.WhiteSpace.{words_of};
 ghost use Rattle.schema_read.specs.SimpleTypes as simple;
 
 use crate::names::{no_name, type_ref};
+use crate::reader::StartTag;
 use base_texts::{Memory, Text, first_word};
 use base_trees::Tree;
 use schema_components::{RawBase, RawBases, RawHow, RawRef, RawSimple};
@@ -209,18 +210,17 @@ fn union_of(
 // How the element makes a simple type, where it is a restriction, a list or a union.
 fn made_by(
     alloc: Global,
-    name: &str,
     scope: &NamespaceScope<'_, '_>,
-    own: &[(Text, Text)],
+    tag: StartTag<'_>,
     inner: Vec<RawBase>,
     kids: &[Tree<ItemLabel>],
 ) -> Result<Option<RawHow>, Memory>
-    ensures { IfOk result (λ made. option_map how_of made ≡ simple.made_by name.now (bindings_in scope.now) own.now (bases_in inner.items) kids.now) }
+    ensures { IfOk result (λ made. option_map how_of made ≡ simple.made_by tag.entry.name.now (bindings_in scope.now) tag.entry.own.now (bases_in inner.items) kids.now) }
 {
-    match name {
-        "restriction" => Ok(Some(restriction_of(alloc, scope, own, inner, kids)?)),
-        "list" => Ok(Some(list_of(alloc, scope, own, inner)?)),
-        "union" => Ok(Some(union_of(alloc, scope, own, inner)?)),
+    match tag.name {
+        "restriction" => Ok(Some(restriction_of(alloc, scope, tag.own, inner, kids)?)),
+        "list" => Ok(Some(list_of(alloc, scope, tag.own, inner)?)),
+        "union" => Ok(Some(union_of(alloc, scope, tag.own, inner)?)),
         _ => Ok(None),
     }
 }
@@ -267,14 +267,12 @@ fn variety_at<'a, 'b>(
     let inside = NamespaceScope::inside(alloc, declares, scope)?;
     let inner = inner_types(alloc, tree.kids(), &inside)?;
     let own = own_attributes(alloc, attributes.items())?;
-    let made = made_by(
-        alloc,
-        name.local.as_str(),
-        &inside,
-        &own,
-        inner,
-        tree.kids(),
-    )?;
+    let tag = StartTag {
+        name: name.local.as_str(),
+        at: *at,
+        own: &own,
+    };
+    let made = made_by(alloc, &inside, tag, inner, tree.kids())?;
     Ok(placed(*at, made))
 }
 

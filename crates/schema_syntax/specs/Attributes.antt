@@ -12,15 +12,16 @@ use Rattle.schema_syntax.specs.declared.roles.ElementRole.TheVariants.{Schema, C
 
 -- ---- values in use
 
--- those whose values keep their white space: a facet's value (Part 2, section 4.3), and the texts of the type of a declaration
+-- The attributes whose values keep their white space: a facet's value (Part 2, section 4.3), and the texts of the type of a
+-- declaration.
 abbrev pub kept_as_written : List (List ℕ)
 kept_as_written = codes "value" ∷ codes "default" ∷ codes "fixed" ∷ []
 
--- the others are of types whose facet `whiteSpace` is `collapse`
+-- The value in use. The other attributes are of types whose facet `whiteSpace` is `collapse`.
 abbrev pub in_use : List ℕ → List ℕ → List ℕ
 in_use name value = if list_any (bytes_eq name) kept_as_written then value else treated Collapse value
 
--- The attributes without a namespace, each by its name with its value. Others mean nothing to a schema.
+-- The attributes without a namespace, each by its name with its value. Others have no meaning in a schema.
 abbrev pub own_attributes : List (Name × List ℕ) → List (List ℕ × List ℕ)
 own_attributes [] = []
 own_attributes (a ∷ rest) = if is_empty a.0.space then (a.0.local, in_use a.0.local a.1) ∷ own_attributes rest else own_attributes rest
@@ -28,9 +29,9 @@ own_attributes (a ∷ rest) = if is_empty a.0.space then (a.0.local, in_use a.0.
 abbrev pub has : List ℕ → List (List ℕ × List ℕ) → Bool
 has name own = is_some (beside name own)
 
--- ---- which may stand
+-- ---- attributes that may appear
 
--- on every element, without effect here
+-- The attributes that every element may have, without effect here.
 abbrev pub common_attributes : List (List ℕ)
 common_attributes = codes "id" ∷ codes "version" ∷ codes "block" ∷ codes "final" ∷ codes "blockDefault" ∷ codes "finalDefault" ∷ []
 

@@ -1,4 +1,4 @@
--- The children that a rule counts or asks for.
+-- The children that a rule counts or requires.
 use Rattle.std.specs.Prelude.{ℕ, Bool, false, ◌&&◌, List, [], ◌∷◌, bytes_eq, codes, count_by}
 use Rattle.std.specs.List.{list_any}
 use Rattle.base_trees.specs.Rose.{Rose, label_of}
@@ -8,7 +8,7 @@ use Rattle.schema_syntax.specs.Elements.{is_schema_name}
 use Rattle.schema_syntax.specs.declared.children.ChildSet.{ChildSet}
 use Rattle.schema_syntax.specs.declared.children.ChildSet.TheVariants.{Types, SimpleTypes, Varieties, Derivations, Particles, TakenParticles, Attributes, Enumerations}
 
--- the names of the elements in a set, with those that are left out where they take the place of others
+-- The names of the elements in a set, including unsupported ones that replace supported ones.
 abbrev pub names_in : ChildSet → List (List ℕ)
 names_in Types = codes "simpleType" ∷ codes "complexType" ∷ []
 names_in SimpleTypes = codes "simpleType" ∷ []

@@ -7,13 +7,13 @@ use Rattle.base_texts.specs.Limits.{is_empty}
 abbrev pub is_zero : List ℕ → Bool
 is_zero text = not (is_empty text) && list_all (λ b. b == 48) text
 
--- a number below 2^32
+-- The number, if it is below 2^32.
 abbrev pub small : ℕ → Option ℕ
 small n = if nat_lt n 4294967296 then Some n else None
 
 abbrev pub is_large : List ℕ → Bool
 is_large text = is_numeral text && nat_le 4294967296 (number_of text)
 
--- both are numbers, and the first is greater
+-- Both are numbers, and the first is greater.
 abbrev pub is_over : List ℕ → List ℕ → Bool
 is_over a b = is_numeral a && is_numeral b && nat_lt (number_of b) (number_of a)

@@ -1,4 +1,4 @@
--- The elements of schema documents and where they stand (XML Schema Part 1, section 3, and Part 2, section 4.3).
+-- The elements of schema documents and where they may appear (XML Schema Part 1, section 3, and Part 2, section 4.3).
 use Rattle.std.specs.Prelude.{ℕ, Bool, true, false, ◌&&◌, not, List, [], ◌∷◌, bytes_eq, codes, Option, Some, None, if◌then◌else◌}
 use Rattle.std.specs.List.{list_any}
 use Rattle.std.specs.Option.{option_or}
@@ -17,7 +17,7 @@ use Rattle.schema_syntax.specs.declared.elements.Placement.TheVariants.{Skipped,
 
 -- ---- names
 
--- the elements that this profile leaves out, each with its reason
+-- The elements that this profile does not support, each with its reason.
 abbrev pub left_out_elements : List (List ℕ × SchemaWhy)
 left_out_elements =
     (codes "any", why.Wildcard) ∷ (codes "anyAttribute", why.Wildcard) ∷ (codes "redefine", why.Redefine) ∷ (codes "notation", why.NotationElement)
@@ -25,7 +25,7 @@ left_out_elements =
     ∷ (codes "group", why.Group) ∷ (codes "attributeGroup", why.Group) ∷ (codes "complexContent", why.ComplexContent)
     ∷ (codes "pattern", why.Pattern) ∷ (codes "totalDigits", why.TotalDigits) ∷ (codes "fractionDigits", why.FractionDigits) ∷ []
 
--- those that it leaves out in one parent alone
+-- The elements that it does not support in one parent only.
 abbrev pub left_out_there : ElementRole → List (List ℕ × SchemaWhy)
 left_out_there SimpleContent = (codes "restriction", why.SimpleContentRestriction) ∷ []
 left_out_there _ = []
@@ -33,7 +33,7 @@ left_out_there _ = []
 abbrev pub left_out : ElementRole → List ℕ → Option SchemaWhy
 left_out parent name = option_or (beside name (left_out_there parent)) (beside name left_out_elements)
 
--- the others, but for `annotation`
+-- The other elements, except `annotation`.
 abbrev pub element_names : List (List ℕ)
 element_names =
     codes "schema" ∷ codes "include" ∷ codes "import" ∷ codes "element" ∷ codes "attribute" ∷ codes "simpleType" ∷ codes "restriction" ∷ codes "list"
@@ -43,7 +43,7 @@ element_names =
 
 -- ---- places
 
--- what a child is in its parent, and where among the children it stands
+-- The role of a child in its parent, and where it may appear among the children.
 abbrev pub part : ElementRole → Position → Part
 part role position = record { role = role; position = position }
 
@@ -83,7 +83,7 @@ extension_children = (codes "attribute", part LocalAttribute Anywhere) ∷ []
 abbrev pub group_children : List (List ℕ × Part)
 group_children = (codes "element", part LocalElement Anywhere) ∷ (codes "sequence", part Sequence Anywhere) ∷ (codes "choice", part Choice Anywhere) ∷ []
 
--- an `all` is made of elements alone (Part 1, section 3.8.2)
+-- An `all` has elements only (Part 1, section 3.8.2).
 abbrev pub all_children : List (List ℕ × Part)
 all_children = (codes "element", part AllElement Anywhere) ∷ []
 
@@ -109,14 +109,14 @@ children Sequence = group_children
 children Choice = group_children
 children All = all_children
 
--- one of this position may stand behind the one before, if there is one
+-- An element of this position may follow the one before, if there is one.
 abbrev pub may_stand : Option Position → Position → Bool
 may_stand None position = true
 may_stand (Some Alone) position = false
 may_stand (Some before) Anywhere = true
 may_stand (Some before) position = false
 
--- ---- what an element is
+-- ---- the placement of an element
 
 abbrev pub placed : Option Position → Option Part → Placement
 placed before None = Refused why.Misplaced
@@ -135,14 +135,14 @@ placement_of parent before name =
 abbrev pub is_schema_name : Name → Bool
 is_schema_name name = bytes_eq name.space schema_space
 
--- An annotation may stand anywhere.
+-- An annotation may appear anywhere.
 abbrev pub placement : ElementRole → Option Position → Name → Placement
 placement parent before name =
     if not (is_schema_name name) then Refused why.UnknownElement
     else if bytes_eq name.local (codes "annotation") then Skipped
     else placement_of parent before name.local
 
--- ---- what is counted
+-- ---- counted elements
 
 abbrev pub counted_names : List (List ℕ)
 counted_names = codes "element" ∷ codes "attribute" ∷ codes "simpleType" ∷ codes "complexType" ∷ codes "sequence" ∷ codes "choice" ∷ codes "all" ∷ []

@@ -3,7 +3,7 @@ use Rattle.std.specs.Prelude.{ℕ, List, codes}
 use Rattle.schema_syntax.specs.declared.why.SchemaWhy.{SchemaWhy}
 use Rattle.schema_syntax.specs.declared.why.SchemaWhy.TheVariants as schema
 
--- the name of a reason against a schema document
+-- The name of a reason against a schema document.
 abbrev pub schema_reason : SchemaWhy → List ℕ
 schema_reason schema.NotASchema = codes "NotASchema"
 schema_reason schema.UnknownElement = codes "UnknownElement"

@@ -24,21 +24,21 @@ abbrev pub in_space : Option (List ℕ) → List ℕ → Option Name
 in_space None local = None
 in_space (Some space) local = Some (record { space = space; local = local })
 
--- an NCName has the default namespace
+-- The expanded name of an NCName: it has the default namespace.
 abbrev pub unprefixed : List (List ℕ × List ℕ) → List ℕ → Option Name
 unprefixed scope text = if is_ncname (chars text) then Some (record { space = or_absent (beside [] scope); local = text }) else None
 
 abbrev pub prefixed : List (List ℕ × List ℕ) → List ℕ → List ℕ → Option Name
 prefixed scope prefix local = if is_ncname (chars prefix) && is_ncname (chars local) then in_space (beside prefix scope) local else None
 
--- the expanded name of a QName whose prefix is bound
+-- The expanded name of a QName whose prefix is bound.
 unfoldable pub resolved : List (List ℕ × List ℕ) → List ℕ → Option Name
 resolved scope text =
     if has_colon text then prefixed scope (before_first is_colon text) (after_first is_colon text) else unprefixed scope text
 
 -- ---- datatypes (Part 2, section 3)
 
--- those of this profile
+-- The datatypes of this profile.
 abbrev pub builtins : List (List ℕ × Builtin)
 builtins =
     (codes "boolean", builtin.Boolean) ∷ (codes "byte", builtin.Byte) ∷ (codes "short", builtin.Short) ∷ (codes "int", builtin.Int)
@@ -50,7 +50,7 @@ builtins =
     ∷ (codes "anyURI", builtin.AnyUri) ∷ (codes "language", builtin.Language) ∷ (codes "NMTOKEN", builtin.NmToken) ∷ (codes "Name", builtin.Name)
     ∷ (codes "NCName", builtin.NcName) ∷ (codes "NMTOKENS", builtin.NmTokens) ∷ []
 
--- those that it leaves out, each with its reason, in the order of the reasons
+-- The datatypes that it does not support, each with its reason, in the order of the reasons.
 abbrev pub left_out_datatypes : List (List ℕ × SchemaWhy)
 left_out_datatypes =
     (codes "decimal", why.Decimal) ∷ (codes "float", why.Float) ∷ (codes "double", why.Double) ∷ (codes "duration", why.Duration)
@@ -60,7 +60,7 @@ left_out_datatypes =
     ∷ (codes "ID", why.ID) ∷ (codes "IDREF", why.IDREF) ∷ (codes "IDREFS", why.IDREFS) ∷ (codes "ENTITY", why.ENTITY)
     ∷ (codes "ENTITIES", why.ENTITIES) ∷ (codes "anySimpleType", why.AnySimpleType) ∷ (codes "anyType", why.AnyType) ∷ []
 
--- what a type's name stands for
+-- The type that a name denotes.
 pub data TypeName : Type 0 where
   Known : Builtin → TypeName
   LeftOut : SchemaWhy → TypeName
@@ -74,7 +74,7 @@ abbrev pub left_out_type : Option SchemaWhy → Option TypeName
 left_out_type (Some reason) = Some (LeftOut reason)
 left_out_type None = None
 
--- a name of the schema namespace is that of a datatype
+-- The datatype that a name of the schema namespace denotes.
 unfoldable pub datatype : List ℕ → Option TypeName
 datatype local = known_or (beside local builtins) (left_out_type (beside local left_out_datatypes))
 

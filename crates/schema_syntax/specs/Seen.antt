@@ -1,4 +1,4 @@
--- What parts of a reference stand for.
+-- The name and the type that a reference of the code denotes.
 use Rattle.base_texts.specs.declared.texts.Name.{Name}
 use Rattle.schema_syntax.specs.References.{TypeName, Known, LeftOut, Elsewhere}
 use Rattle.schema_syntax.specs.declared.references.Resolved.{Resolved}

@@ -17,7 +17,7 @@ use Rattle.schema_syntax.specs.declared.roles.ElementRole.TheVariants.{GlobalAtt
 use Rattle.schema_syntax.specs.declared.values.ValueForm.{ValueForm}
 use Rattle.schema_syntax.specs.declared.values.ValueForm.TheVariants.{Truth, Qualification, Prescription, Digits, DigitsOrUnbounded, NcName, Reference, TypeName, TypeNames, TargetNamespace}
 
--- the form of the value of each attribute that has one
+-- The form of the value of each attribute that has one.
 abbrev pub forms : List (List ℕ × ValueForm)
 forms =
     (codes "targetNamespace", TargetNamespace) ∷ (codes "elementFormDefault", Qualification) ∷ (codes "attributeFormDefault", Qualification)
@@ -34,11 +34,11 @@ prescriptions = codes "optional" ∷ codes "required" ∷ codes "prohibited" ∷
 abbrev pub unbounded : List ℕ
 unbounded = codes "unbounded"
 
--- a name that is declared: an NCName within the limit
+-- The text is a name that may be declared: an NCName within the limit.
 abbrev pub is_declared_name : List ℕ → Bool
 is_declared_name text = is_ncname (chars text) && is_short_part text
 
--- a namespace that names of documents may have, but for those that are taken
+-- A namespace that names of documents may have: any except the reserved ones.
 abbrev pub is_target : List ℕ → Bool
 is_target space =
     not (is_empty space) && is_short_space space && not (bytes_eq space schema_space) && not (bytes_eq space xsi_space)
@@ -66,7 +66,7 @@ is_well_formed scope name value = formed scope (beside name forms) value
 abbrev pub has_malformed : List (List ℕ × List ℕ) → List (List ℕ × List ℕ) → Bool
 has_malformed scope own = list_any (λ a. not (is_well_formed scope a.0 a.1)) own
 
--- no attribute is named `xmlns` (Part 1, section 3.2.6)
+-- The attribute `name` has this value. No attribute is named `xmlns` (Part 1, section 3.2.6).
 abbrev pub is_named : List ℕ → List (List ℕ × List ℕ) → Bool
 is_named name own = elim (beside (codes "name") own) [ None ↦ false | Some value ↦ bytes_eq value name ]
 
@@ -78,7 +78,7 @@ declares_xmlns role own = false
 abbrev pub digits_of : List ℕ → List (List ℕ × List ℕ) → List ℕ
 digits_of name own = elim (beside name own) [ None ↦ codes "1" | Some value ↦ value ]
 
--- `minOccurs` over `maxOccurs` (Part 1, section 3.9.6); both are 1 where they don't stand
+-- `minOccurs` is over `maxOccurs` (Part 1, section 3.9.6); both are 1 by default.
 abbrev pub is_crossed : List (List ℕ × List ℕ) → Bool
 is_crossed own = is_over (digits_of (codes "minOccurs") own) (digits_of (codes "maxOccurs") own)
 
@@ -90,15 +90,15 @@ occurrences text = if is_numeral text then small (number_of text) else None
 abbrev pub least_of : List (List ℕ × List ℕ) → ℕ
 least_of own = unwrap_or (occurrences (digits_of (codes "minOccurs") own)) 1
 
--- none where it is unbounded
+-- The greatest number of occurrences; none if it is unbounded.
 abbrev pub most_of : List (List ℕ × List ℕ) → Option ℕ
 most_of own = occurrences (digits_of (codes "maxOccurs") own)
 
--- a particle that is dropped (Part 1, section 3.9.6)
+-- The particle is dropped (Part 1, section 3.9.6): its `maxOccurs` is zero.
 abbrev pub never_occurs : List (List ℕ × List ℕ) → Bool
 never_occurs own = elim (beside (codes "maxOccurs") own) [ None ↦ false | Some value ↦ is_zero value ]
 
--- it may occur more than once
+-- It may occur more than once.
 abbrev pub recurs : List (List ℕ × List ℕ) → Bool
 recurs own = elim (most_of own) [ None ↦ true | Some most ↦ nat_lt 1 most ]
 

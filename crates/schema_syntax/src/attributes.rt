@@ -14,7 +14,7 @@ fn is_kept_as_written(name: &str) -> bool
     matches!(name, "value" | "default" | "fixed")
 }
 
-// The value as it is used.
+// Returns the value as it is used, with its white space treated.
 fn in_use(alloc: Global, name: &Text, value: &Text) -> Result<Text, Memory>
     ensures { IfOk result (λ used. used ≡ table.in_use name.now value.now) }
 {
@@ -25,7 +25,7 @@ fn in_use(alloc: Global, name: &Text, value: &Text) -> Result<Text, Memory>
     }
 }
 
-/// The attributes without a namespace, each by its name with its value as it is used, in the order written.
+/// Returns the attributes without a namespace, each by its name with its value as it is used, in the order written.
 pub fn own_attributes(
     alloc: Global,
     attributes: &[(Name, Text)],
@@ -43,7 +43,7 @@ pub fn own_attributes(
     Ok(own)
 }
 
-/// The value of the attribute of this name.
+/// Returns the value of the attribute of this name.
 pub fn value_of<'a>(name: &str, own: &'a [(Text, Text)]) -> Option<&'a Text>
     ensures { option_map (λ value. value.now) result ≡ beside name.now own.now }
 {
@@ -55,7 +55,7 @@ pub fn value_of<'a>(name: &str, own: &'a [(Text, Text)]) -> Option<&'a Text>
     None
 }
 
-/// Whether the element has the attribute of this name.
+/// Returns whether the element has the attribute of this name.
 pub fn has_attribute(name: &str, own: &[(Text, Text)]) -> bool
     ensures { result ≡ table.has name.now own.now }
 {
@@ -133,7 +133,7 @@ fn is_of_group(name: &str) -> bool
     matches!(name, "minOccurs" | "maxOccurs")
 }
 
-// Whether an element of this role has such an attribute, beside those that every element has.
+// Returns whether an element of this role has such an attribute, in addition to those that every element has.
 fn is_of(role: ElementRole, name: &str) -> bool
     ensures { result ≡ list_any (bytes_eq name.now) (table.attributes_of role) }
 {
@@ -162,7 +162,7 @@ fn is_listed(role: ElementRole, name: &str) -> bool
     is_common(name) || is_of(role, name)
 }
 
-/// Whether one of the attributes isn't of an element of this role.
+/// Returns whether one of the attributes isn't of an element of this role.
 pub fn has_unknown(role: ElementRole, own: &[(Text, Text)]) -> bool
     ensures { result ≡ table.has_unknown role own.now }
 {

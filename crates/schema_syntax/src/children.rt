@@ -1,4 +1,4 @@
-//! The children of an element that a rule counts or asks for.
+//! The children of an element that a rule counts or requires.
 ghost use Rattle.std.specs.Prelude.{◌≡◌, bytes_eq};
 ghost use Rattle.std.specs.List.{list_any};
 ghost use Rattle.schema_syntax.specs.Children as children;
@@ -7,21 +7,21 @@ use crate::elements::is_schema_name;
 use base_trees::Tree;
 use xml_read::ItemLabel;
 
-/// Elements that stand for one another in a rule, by their names. Those that are left out are among them where they
-/// take the place of others.
+/// Elements that a rule treats alike, by their names. Elements that are not supported are included if they replace supported
+/// ones.
 #[derive(Clone, Copy, Debug, PartialEq, Eq)]
 pub enum ChildSet {
     /// `simpleType` and `complexType`.
     Types,
     /// `simpleType`.
     SimpleTypes,
-    /// What a simple type is: a restriction, a list or a union.
+    /// The varieties of a simple type: a restriction, a list or a union.
     Varieties,
-    /// What stands in simple content.
+    /// The derivations of simple content.
     Derivations,
-    /// What a group is made of.
+    /// The particles of a group.
     Particles,
-    /// The particles of the profile: those above without the ones that it leaves out.
+    /// The particles of the profile: those above without the unsupported ones.
     TakenParticles,
     /// `attribute`.
     Attributes,
@@ -65,7 +65,7 @@ fn belongs(set: ChildSet, name: &str) -> bool
     }
 }
 
-/// Whether the node is one of the set.
+/// Returns whether the node is one of the set.
 pub fn is_in(set: ChildSet, label: &ItemLabel) -> bool
     ensures { result ≡ children.is_in set label.now }
 {
@@ -77,14 +77,14 @@ pub fn is_in(set: ChildSet, label: &ItemLabel) -> bool
     }
 }
 
-/// Whether one of them is of the set.
+/// Returns whether one of the children is of the set.
 pub fn has_child(set: ChildSet, kids: &[Tree<ItemLabel>]) -> bool
     ensures { result ≡ children.has_child set kids.now }
 {
     kids.iter().any(|kid| is_in(set, kid.label()))
 }
 
-/// How many of them are of the set.
+/// Returns the number of children that are of the set.
 pub fn child_count(set: ChildSet, kids: &[Tree<ItemLabel>]) -> usize
     ensures { result ≡ children.child_count set kids.now }
 {

@@ -8,14 +8,14 @@ use crate::roles::{ElementRole, Part, Position, child_of};
 use crate::why::SchemaWhy;
 use base_texts::{Name, SCHEMA_SPACE};
 
-/// What an element is in its parent.
+/// The result of looking up an element in its parent.
 #[derive(Clone, Copy, Debug, PartialEq, Eq)]
 pub enum Placement {
-    /// An annotation, which isn't looked at.
+    /// An annotation, which is skipped.
     Skipped,
-    /// It is left out, or may not stand here.
+    /// It is not supported, or may not appear here.
     Refused(SchemaWhy),
-    /// It may stand here.
+    /// It may appear here.
     Placed(Part),
 }
 
@@ -36,7 +36,7 @@ fn left_out_element(name: &str) -> Option<SchemaWhy>
     }
 }
 
-// Why an element of this name is left out in this parent.
+// Returns why an element of this name is not supported in this parent, if it isn't.
 fn left_out(parent: ElementRole, name: &str) -> Option<SchemaWhy>
     ensures { result ≡ table.left_out parent name.now }
 {
@@ -80,7 +80,7 @@ fn is_known(name: &str) -> bool
     )
 }
 
-// Whether one of this position may stand behind the one before.
+// Returns whether an element of this position may follow the one before.
 fn may_stand(before: Option<Position>, position: Position) -> bool
     ensures { result ≡ table.may_stand before position }
 {
@@ -101,14 +101,14 @@ fn placed(before: Option<Position>, found: Option<Part>) -> Placement
     }
 }
 
-/// Whether the name is of the namespace of schema documents.
+/// Returns whether the name is of the namespace of schema documents.
 pub fn is_schema_name(name: &Name) -> bool
     ensures { result ≡ table.is_schema_name name.now }
 {
     name.space.bytes() == SCHEMA_SPACE.as_bytes()
 }
 
-// What an element of the schema namespace is, but for an annotation.
+// Returns the placement of an element of the schema namespace other than an annotation.
 fn placement_of(parent: ElementRole, before: Option<Position>, name: &str) -> Placement
     ensures { result ≡ table.placement_of parent before name.now }
 {
@@ -121,7 +121,8 @@ fn placement_of(parent: ElementRole, before: Option<Position>, name: &str) -> Pl
     placed(before, child_of(parent, name))
 }
 
-/// What an element of this name is in a parent of this role, behind one of this position where there is one.
+/// Returns the placement of an element of this name in a parent of this role, after an element of position `before`, if there is
+/// one.
 pub fn placement_in(parent: ElementRole, before: Option<Position>, name: &Name) -> Placement
     ensures { result ≡ table.placement parent before name.now }
 {
@@ -134,7 +135,7 @@ pub fn placement_in(parent: ElementRole, before: Option<Position>, name: &Name) 
     }
 }
 
-/// Whether the limit of components counts an element of this name.
+/// Returns whether the limit of components counts an element of this name.
 pub fn is_counted(name: &Name) -> bool
     ensures { result ≡ table.is_counted name.now }
 {
@@ -145,7 +146,7 @@ pub fn is_counted(name: &Name) -> bool
         )
 }
 
-/// Whether what stands in an element of this name is looked at.
+/// Returns whether the children of an element of this name are checked.
 pub fn is_looked_into(name: &Name) -> bool
     ensures { result ≡ table.is_looked_into name.now }
 {

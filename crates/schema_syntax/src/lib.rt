@@ -1,6 +1,6 @@
 //! Lists the elements of schema documents, where each may appear, its attributes and their values.
 //!
-//! Read first: the tables of docs/SCHEMAS.md as data: `specs/Elements`, `Attributes`, `Children`, `Values`.
+//! Read first: the tables of docs/reference/SCHEMAS.md as data: `specs/Elements`, `Attributes`, `Children`, `Values`.
 #![tactic(auto)]
 
 mod attributes;

@@ -13,14 +13,14 @@ fn are_zeros(text: &[u8]) -> bool
     text.iter().all(|byte| *byte == b'0')
 }
 
-/// Whether the text is zeros alone.
+/// Returns whether the text consists of zeros only.
 pub fn is_zero(text: &[u8]) -> bool
     ensures { result ≡ numbers.is_zero text.now }
 {
     !text.is_empty() && are_zeros(text)
 }
 
-/// The number in digits, if it is below 2^32.
+/// Returns the number in digits, if it is below 2^32.
 pub fn small_number(digits: &[u8]) -> Option<u32>
     requires { list_all decimal.is_digit digits.now ≡ true }
     ensures { result ≡ numbers.small (decimal.number_of digits.now) }
@@ -37,14 +37,14 @@ pub fn small_number(digits: &[u8]) -> Option<u32>
     Some(number as u32)
 }
 
-/// Whether the text is a number of 2^32 or more.
+/// Returns whether the text is a number of 2^32 or more.
 pub fn is_large(text: &[u8]) -> bool
     ensures { result ≡ numbers.is_large text.now }
 {
     is_numeral(text) && small_number(text).is_none()
 }
 
-// The digits from the first one on that isn't zero.
+// Returns the digits without leading zeros.
 fn without_zeros(digits: &[u8]) -> &[u8]
     ensures { result.now ≡ comparing.without_zeros digits.now }
 {
@@ -55,7 +55,7 @@ fn without_zeros(digits: &[u8]) -> &[u8]
     rest
 }
 
-// Whether the first digit that differs is greater in the first.
+// Returns whether the first digit that differs is greater in `a`.
 fn is_later(a: &[u8], b: &[u8]) -> bool
     ensures { result ≡ comparing.is_later a.now b.now }
 {
@@ -74,7 +74,7 @@ fn is_later(a: &[u8], b: &[u8]) -> bool
     false
 }
 
-// Whether the first of two numbers without leading zeros is greater.
+// Returns whether `a` is greater than `b`, both numbers without leading zeros.
 fn is_greater(a: &[u8], b: &[u8]) -> bool
     ensures { result ≡ comparing.is_greater a.now b.now }
 {
@@ -85,7 +85,7 @@ fn is_greater(a: &[u8], b: &[u8]) -> bool
     }
 }
 
-/// Whether both are numbers and the first is greater. They may have any number of digits.
+/// Returns whether both are numbers and `a` is greater. They may have any number of digits.
 pub fn is_over(a: &[u8], b: &[u8]) -> bool
     ensures { result ≡ numbers.is_over a.now b.now }
 {

@@ -10,7 +10,7 @@ use crate::why::SchemaWhy;
 use base_texts::{SCHEMA_SPACE, is_ncname_text};
 use simple_types::Builtin;
 
-/// The expanded name that a reference stands for. The empty namespace stands for none.
+/// The expanded name that a reference denotes. The empty namespace means none.
 #[derive(Clone, Copy)]
 pub struct Resolved<'s, 't> {
     /// The namespace, as an element binds it.
@@ -19,12 +19,12 @@ pub struct Resolved<'s, 't> {
     pub local: &'t str,
 }
 
-/// What a type's name stands for.
+/// The type that a name denotes.
 #[derive(Clone, Copy)]
 pub enum TypeName<'s, 't> {
     /// A datatype of this profile.
     Known(Builtin),
-    /// A datatype that this profile leaves out.
+    /// A datatype that this profile does not support.
     LeftOut(SchemaWhy),
     /// A type that some document of the set has to define.
     Elsewhere(Resolved<'s, 't>),
@@ -61,7 +61,7 @@ fn prefixed<'s, 't>(
     }
 }
 
-/// The expanded name of a QName, if its prefix is bound.
+/// Returns the expanded name of a QName, if its prefix is bound.
 #[tactic(auto, unfolding(crate::specs::References::resolved))]
 pub fn resolve<'s, 't>(scope: &NamespaceScope<'s, '_>, text: &'t str) -> Option<Resolved<'s, 't>>
     ensures { option_map name_seen result ≡ table.resolved (bindings_in scope.now) text.now }
@@ -134,7 +134,7 @@ fn left_out_datatype(name: &str) -> Option<SchemaWhy>
     }
 }
 
-// A datatype by its name in the schema namespace.
+// Returns the datatype of this name in the schema namespace.
 #[tactic(auto, unfolding(crate::specs::References::datatype))]
 fn datatype<'s, 't>(name: &str) -> Option<TypeName<'s, 't>>
     ensures { option_map type_seen result ≡ table.datatype name.now }
@@ -158,8 +158,8 @@ fn type_named<'s, 't>(found: Option<Resolved<'s, 't>>) -> Option<TypeName<'s, 't
     }
 }
 
-/// What a type's name stands for. `None` where it is no QName, where its prefix isn't bound, and where it has the
-/// schema namespace and no datatype has the name.
+/// Returns the type that a name denotes. `None` if the text is no QName, if its prefix isn't bound, or if it is of the schema
+/// namespace and no datatype has the name.
 #[tactic(auto, unfolding(crate::specs::References::type_name))]
 pub fn type_of<'s, 't>(scope: &NamespaceScope<'s, '_>, text: &'t str) -> Option<TypeName<'s, 't>>
     ensures { option_map type_seen result ≡ table.type_name (bindings_in scope.now) text.now }

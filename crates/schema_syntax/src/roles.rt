@@ -1,10 +1,10 @@
-//! What elements of a schema document are.
+//! The roles of the elements of a schema document.
 ghost use Rattle.std.specs.Prelude.{◌≡◌, Some};
 ghost use Rattle.base_texts.specs.Entries.{beside};
 ghost use Rattle.schema_syntax.specs.Elements as table;
 
-/// What an element of the schema namespace is, by its name and where it stands. A declaration or definition that stands
-/// in `schema` is global; other declarations are local, and other types are inner ones.
+/// The role of an element of the schema namespace, by its name and its parent. A declaration or definition in `schema` is global;
+/// other declarations are local, and other types are inner ones.
 #[derive(Clone, Copy, Debug, PartialEq, Eq)]
 pub enum ElementRole {
     /// `schema`, the root.
@@ -45,27 +45,27 @@ pub enum ElementRole {
     Sequence,
     /// `choice`, a group.
     Choice,
-    /// `all`, a group that stands in no other.
+    /// `all`, a group that is in no other.
     All,
 }
 
-/// Where an element may stand among the elements of its parent.
+/// Where an element may appear among the elements of its parent.
 #[derive(Clone, Copy, Debug, PartialEq, Eq)]
 pub enum Position {
-    /// Behind all that may have others behind it.
+    /// Anywhere, except after an element that must be the last.
     Anywhere,
     /// Before all others.
     First,
-    /// Before all others, and none stands behind it.
+    /// Before all others, and none may follow it.
     Alone,
 }
 
-/// An element that may stand in its parent.
+/// An element that may appear in its parent.
 #[derive(Clone, Copy, Debug, PartialEq, Eq)]
 pub struct Part {
-    /// What it is there.
+    /// Its role there.
     pub role: ElementRole,
-    /// Where among the elements of the parent it may stand.
+    /// Where it may appear among the elements of the parent.
     pub position: Position,
 }
 
@@ -100,7 +100,7 @@ fn child_of_element(name: &str) -> Option<Part>
     }
 }
 
-// Also of a list.
+// A list has the same children.
 fn child_of_attribute(name: &str) -> Option<Part>
     ensures { result ≡ beside name.now table.attribute_children }
 {
@@ -199,7 +199,7 @@ fn child_of_all(name: &str) -> Option<Part>
     }
 }
 
-/// What an element of this name is in a parent of this role, if it may stand there.
+/// Returns the part that an element of this name is in a parent of this role, if it may appear there.
 pub(crate) fn child_of(parent: ElementRole, name: &str) -> Option<Part>
     ensures { result ≡ beside name.now (table.children parent) }
 {

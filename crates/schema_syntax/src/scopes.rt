@@ -29,7 +29,7 @@ impl<'a> Model for Declared<'a> {
     ghost invariant = { λ a. Finds a.bindings.now a.spaces };
 }
 
-// The namespace of each prefix: that of the first binding of it.
+// Returns the namespace of each prefix: that of its first binding.
 fn spaces_of<'a>(
     alloc: Global,
     bindings: &'a [(Text, Text)],
@@ -61,17 +61,17 @@ impl<'a> Declared<'a> {
     }
 }
 
-/// The bindings of the elements that are open, the innermost first, each a prefix with a namespace: those that a
-/// document lends for `'a`, of elements that are open for `'b`.
+/// The bindings of the elements that are open, the innermost first, each a prefix with a namespace. The document lends them for
+/// `'a`, and the elements are open for `'b`.
 #[derive(Drop)]
 pub enum NamespaceScope<'a, 'b> {
-    /// Outside the root, where `xml` alone is bound.
+    /// Outside the root, where only `xml` is bound.
     Document,
-    /// In an element, with the scope round it.
+    /// In an element, with the scope around it.
     Element(Declared<'a>, &'b NamespaceScope<'a, 'b>),
 }
 
-// What is bound outside the root.
+// Returns the namespace that a prefix is bound to outside the root.
 fn outside<'a>(prefix: &[u8]) -> Option<&'a str>
     ensures { option_map (λ space. space.now) result ≡ beside prefix.now (bindings_in NamespaceScope.Document) }
 {
@@ -83,8 +83,8 @@ fn outside<'a>(prefix: &[u8]) -> Option<&'a str>
 }
 
 impl<'a, 'b> NamespaceScope<'a, 'b> {
-    /// The scope in an element with these bindings, where `outer` is the scope round the element. Its bindings are put
-    /// in order here, once, so that each prefix is then found in logarithmic time.
+    /// Returns the scope in an element with these bindings, where `outer` is the scope around the element. It sorts the bindings
+    /// once, so that each prefix is then found in logarithmic time.
     pub fn inside(
         alloc: Global,
         bindings: &'a Bindings,
@@ -96,7 +96,7 @@ impl<'a, 'b> NamespaceScope<'a, 'b> {
         Ok(NamespaceScope::Element(declared, outer))
     }
 
-    /// The namespace that the prefix is bound to. The time grows with the number of open elements, and for each of them
+    /// Returns the namespace that the prefix is bound to. The time grows with the number of open elements, and for each of them
     /// with the logarithm of the number of its bindings.
     pub fn bound_to(&self, prefix: &[u8]) -> Option<&'a str>
         ensures { option_map (λ space. space.now) result ≡ beside prefix.now (bindings_in self.now) }

@@ -44,7 +44,7 @@ pub enum ValueForm {
     TargetNamespace,
 }
 
-// The form of the value of the attribute with this name, if it has one.
+// Returns the form of the value of the attribute with this name, if it has one.
 fn form_of(name: &str) -> Option<ValueForm>
     ensures { result ≡ beside name.now table.forms }
 {
@@ -63,7 +63,7 @@ fn form_of(name: &str) -> Option<ValueForm>
     }
 }
 
-/// Whether the text says `qualified`, if it says that or `unqualified`.
+/// Returns whether the text is `qualified`, if it is that or `unqualified`.
 pub fn qualification_of(text: &str) -> Option<bool>
     ensures { result ≡ beside text.now table.qualifications }
 {
@@ -96,7 +96,7 @@ fn is_target(space: &[u8]) -> bool
         && space != XMLNS_SPACE.as_bytes()
 }
 
-// Whether each word is the name of a type.
+// Returns whether each word is the name of a type.
 fn are_type_names(scope: &NamespaceScope<'_, '_>, text: &str) -> bool
     ensures { result ≡ list_all (λ word. is_some (type_name (bindings_in scope.now) word)) (words_of text.now) }
 {
@@ -110,7 +110,7 @@ fn are_type_names(scope: &NamespaceScope<'_, '_>, text: &str) -> bool
     true
 }
 
-// Whether the value has the form.
+// Returns whether the value has the form.
 fn has_form(scope: &NamespaceScope<'_, '_>, form: ValueForm, value: &Text) -> bool
     ensures { result ≡ table.has_form (bindings_in scope.now) form value.now }
 {
@@ -130,7 +130,7 @@ fn has_form(scope: &NamespaceScope<'_, '_>, form: ValueForm, value: &Text) -> bo
     }
 }
 
-// Whether the value of the attribute has the form that it is to have.
+// Returns whether the value of the attribute has the form that it must have.
 #[tactic(auto, unfolding(crate::specs::Values::is_well_formed))]
 fn is_well_formed(scope: &NamespaceScope<'_, '_>, name: &str, value: &Text) -> bool
     ensures { result ≡ table.is_well_formed (bindings_in scope.now) name.now value.now }
@@ -147,7 +147,7 @@ fn has_malformed(scope: &NamespaceScope<'_, '_>, own: &[(Text, Text)]) -> bool
     own.iter().any(|attribute| !is_well_formed(scope, attribute.0.as_str(), &attribute.1))
 }
 
-// Whether this declares an attribute of the name `xmlns`.
+// Returns whether this declares an attribute of the name `xmlns`.
 fn declares_xmlns(role: ElementRole, own: &[(Text, Text)]) -> bool
     ensures { result ≡ table.declares_xmlns role own.now }
 {
@@ -160,7 +160,7 @@ fn declares_xmlns(role: ElementRole, own: &[(Text, Text)]) -> bool
     }
 }
 
-// The number of occurrences of this name as written, or else one.
+// Returns the number of occurrences of this name as written, or else one.
 fn digits_of<'a>(name: &str, own: &'a [(Text, Text)]) -> &'a [u8]
     ensures { result.now ≡ table.digits_of name.now own.now }
 {
@@ -170,14 +170,14 @@ fn digits_of<'a>(name: &str, own: &'a [(Text, Text)]) -> &'a [u8]
     }
 }
 
-// Whether it has to occur more often than it may.
+// Returns whether its least number of occurrences is over its greatest.
 fn is_crossed(own: &[(Text, Text)]) -> bool
     ensures { result ≡ table.is_crossed own.now }
 {
     is_over(digits_of("minOccurs", own), digits_of("maxOccurs", own))
 }
 
-// The number of occurrences that the text is, below 2^32.
+// Returns the number of occurrences that the text gives, if it is below 2^32.
 fn occurrences(text: &[u8]) -> Option<u32>
     ensures { result ≡ table.occurrences text.now }
 {
@@ -188,21 +188,21 @@ fn occurrences(text: &[u8]) -> Option<u32>
     }
 }
 
-/// How often it has to occur.
+/// Returns the least number of occurrences.
 pub fn least_of(own: &[(Text, Text)]) -> u32
     ensures { result ≡ table.least_of own.now }
 {
     occurrences(digits_of("minOccurs", own)).unwrap_or(1)
 }
 
-/// How often it may occur, or `None` where there is no bound.
+/// Returns the greatest number of occurrences, or `None` if it is unbounded.
 pub fn most_of(own: &[(Text, Text)]) -> Option<u32>
     ensures { result ≡ table.most_of own.now }
 {
     occurrences(digits_of("maxOccurs", own))
 }
 
-/// Whether it may not occur: its greatest number of occurrences is zero.
+/// Returns whether it may not occur: its greatest number of occurrences is zero.
 pub fn never_occurs(own: &[(Text, Text)]) -> bool
     ensures { result ≡ table.never_occurs own.now }
 {
@@ -212,7 +212,7 @@ pub fn never_occurs(own: &[(Text, Text)]) -> bool
     }
 }
 
-// Whether it may occur more than once.
+// Returns whether it may occur more than once.
 fn recurs(own: &[(Text, Text)]) -> bool
     ensures { result ≡ table.recurs own.now }
 {
@@ -222,8 +222,8 @@ fn recurs(own: &[(Text, Text)]) -> bool
     }
 }
 
-// Whether it is an `all` or an element in one that would occur otherwise than at most once, or an `all` that never
-// occurs.
+// Returns whether it is an `all`, or an element in one, that may occur more than once or must occur more than once, or an `all`
+// that never occurs.
 fn is_no_all(role: ElementRole, own: &[(Text, Text)]) -> bool
     ensures { result ≡ table.is_no_all role own.now }
 {
@@ -236,7 +236,8 @@ fn is_no_all(role: ElementRole, own: &[(Text, Text)]) -> bool
     }
 }
 
-/// Whether a value isn't of its form, or two don't fit together, or an `all` doesn't occur as one may.
+/// Returns whether a value isn't of its form, or two values contradict each other, or the occurrences of an `all` are not
+/// allowed.
 pub fn has_bad_value(
     role: ElementRole,
     scope: &NamespaceScope<'_, '_>,

@@ -1,4 +1,4 @@
--- What one facet asks, and which facets a base has (XML Schema Part 2, section 4.3). A facet's text is read with its
+-- The constraint of one facet, and the facets that a base has (XML Schema Part 2, section 4.3). A facet's text is read with its
 -- white space collapsed.
 use Rattle.std.specs.Prelude.{ℕ, ◌^◌, Bool, true, false, ◌&&◌, ◌||◌, not, nat_lt, int_lt, ℤ, ◌+ℤ◌, Option, Some, None, is_some, Result, Ok, Err, List, bytes_eq, codes, if◌then◌else◌}
 use Rattle.std.specs.Str.Parse.{digits_value}
@@ -11,7 +11,7 @@ use Rattle.simple_types.specs.Lexical.{whole_number, is_128_bits, is_at_most}
 use Rattle.simple_facets.specs.declared.refusals.FacetWhy.{FacetWhy}
 use Rattle.simple_facets.specs.declared.refusals.FacetWhy.TheVariants as why
 
--- a length is digits alone, and has 32 bits
+-- A length has only digits and at most 32 bits.
 abbrev pub length_in : List ℕ → Result ℕ FacetWhy
 length_in digits =
     if is_numeral digits
@@ -21,8 +21,8 @@ length_in digits =
 abbrev pub length_of : List ℕ → Result ℕ FacetWhy
 length_of text = length_in (treated Collapse text)
 
--- A bound is a whole number of 128 bits. An exclusive one counts as the next inclusive one, so many further, which has to
--- have 128 bits too.
+-- A bound is a whole number of 128 bits. An exclusive one counts as the next inclusive one, which is `further` away and must have
+-- 128 bits too.
 abbrev pub bound_in : ℤ → Option ℤ → Result ℤ FacetWhy
 bound_in further None = Err why.BadNumber
 bound_in further (Some z) = if is_128_bits z && is_128_bits (z +ℤ further) then Ok (z +ℤ further) else Err why.TooWide
@@ -41,7 +41,7 @@ treatment_in word =
 abbrev pub treatment_of : List ℕ → Result WhiteSpace FacetWhy
 treatment_of text = treatment_in (treated Collapse text)
 
--- The facets that a base may have, as section 4.1.5 lists them. The profile has none on unions.
+-- The facets that a base may have, as section 4.1.5 lists them. The profile allows none on unions.
 abbrev pub has_bounds : Space → Bool
 has_bounds (Wholes least greatest) = true
 has_bounds (Numbers numbers) = true
@@ -53,14 +53,14 @@ has_lengths (Characters how least most class) = true
 has_lengths (ListOf item least most) = true
 has_lengths _ = false
 
--- what a base does to the white space of a text
+-- The treatment of the white space of a text by a base.
 abbrev pub base_treatment : Space → Option WhiteSpace
 base_treatment (UnionOf members) = None
 base_treatment (Words how words) = Some how
 base_treatment (Characters how least most class) = Some how
 base_treatment _ = Some Collapse
 
--- the bounds of a base, where it has them beside its enumeration
+-- The bounds of a base, where it has some that aren't given by an enumeration.
 abbrev pub base_least : Space → Option ℤ
 base_least (Wholes least greatest) = least
 base_least _ = None
@@ -79,7 +79,7 @@ base_max_length (Characters how least most class) = most
 base_max_length (ListOf item least most) = most
 base_max_length _ = None
 
--- a facet reaches outside the base's bound on its own side
+-- The number is outside the base's bound on this side.
 abbrev pub is_below : ℤ → Option ℤ → Bool
 is_below z None = false
 is_below z (Some least) = int_lt z least
@@ -103,7 +103,7 @@ max_length_widens base n = not (is_at_most n (base_max_length base))
 abbrev pub exact_length_widens : Space → ℕ → Bool
 exact_length_widens base n = min_length_widens base n || max_length_widens base n
 
--- one treatment does less than another
+-- One treatment does less than another.
 abbrev pub is_looser : WhiteSpace → WhiteSpace → Bool
 is_looser Preserve Preserve = false
 is_looser Preserve base = true
@@ -114,7 +114,7 @@ abbrev pub treatment_widens : Option WhiteSpace → WhiteSpace → Bool
 treatment_widens None how = false
 treatment_widens (Some base) how = is_looser how base
 
--- The reasons against one facet, in their order: it stood before or the base has no such facet; its text; it widens.
+-- The reasons against one facet, in their order: it occurs twice or the base has no such facet; its text; it widens.
 abbrev pub unless_wider : {A : Type 0} → (A → Bool) → Result A FacetWhy → Result A FacetWhy
 unless_wider widens (Err w) = Err w
 unless_wider widens (Ok x) = if widens x then Err why.Widens else Ok x

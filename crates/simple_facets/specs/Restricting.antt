@@ -1,5 +1,5 @@
--- Restricting a simple type by facets (XML Schema Part 2, section 4.3), in three steps: the facets but `enumeration`, in
--- their order; then whether a value is left; then each `enumeration`, in order.
+-- Restricting a simple type by facets (XML Schema Part 2, section 4.3), in three steps. First the facets except `enumeration` are
+-- applied, in their order. Then a value must be left. Then each `enumeration` is applied, in order.
 use Rattle.std.specs.Prelude.{◌≡◌, ◌↔◌, ℕ, Bool, true, false, ◌&&◌, not, nat_le, max, min, int_lt, ℤ, pos, negsuc, Option, Some, None, Result, Ok, Err, MatchResult, List, [], ◌∷◌, length, filter, bytes_eq, if◌then◌else◌}
 use Rattle.std.specs.Bool.{MatchBool}
 use Rattle.std.specs.Option.{option_or, unwrap_or}
@@ -23,7 +23,7 @@ use Rattle.simple_facets.specs.declared.refusals.FacetWhy.TheVariants as why
 use Rattle.simple_facets.specs.declared.constraints.Constraints.{Constraints}
 use Rattle.simple_facets.specs.Applying.{exact_length_applied, min_length_applied, max_length_applied, lower_applied, upper_applied, treatment_applied}
 
--- the first step: what the facets ask, or the first reason against one
+-- The first step: the constraints of the facets, or the first reason against one.
 abbrev pub no_constraints : Constraints
 no_constraints = record { exact_length = None; min_length = None; max_length = None; lower_bound = None; upper_bound = None; white_space = None }
 
@@ -31,7 +31,7 @@ abbrev pub set_by : {A : Type 0} → (A → Constraints) → Result A FacetWhy �
 set_by set (Ok x) = Ok (set x)
 set_by set (Err w) = Err w
 
--- the inclusive and the exclusive bound of one side count as the same facet: section 4.3.9.4 and its like forbid both
+-- The inclusive and the exclusive bound of one side count as the same facet, since sections such as 4.3.9.4 forbid both together.
 abbrev pub with_facet : Space → Constraints → Facet → Result Constraints FacetWhy
 with_facet base c (facet.Length text) = set_by (λ n. record c { exact_length = Some n }) (exact_length_applied base c.exact_length text)
 with_facet base c (facet.MinLength text) = set_by (λ n. record c { min_length = Some n }) (min_length_applied base c.min_length text)
@@ -53,7 +53,7 @@ lesser None most = most
 lesser (Some n) None = Some n
 lesser (Some n) (Some most) = Some (min n most)
 
--- `length`, `minLength` and `maxLength` hold together
+-- The length satisfies `length`, `minLength` and `maxLength` together.
 abbrev pub least_length : Constraints → ℕ → ℕ
 least_length c least = max (max least (unwrap_or c.min_length 0)) (unwrap_or c.exact_length 0)
 
@@ -63,7 +63,7 @@ greatest_length c most = lesser c.exact_length (lesser c.max_length most)
 abbrev pub is_length : Constraints → ℕ → Bool
 is_length c n = nat_le (least_length c 0) n && is_at_most n (greatest_length c None)
 
--- over numbers and words those drop out that don't meet a bound or that a new treatment would change
+-- Numbers and words are dropped if they don't meet a bound, or if a new treatment would change them.
 abbrev pub keeps_number : Constraints → ℤ → Bool
 keeps_number c z = is_from c.lower_bound z && is_to c.upper_bound z
 
@@ -92,7 +92,7 @@ is_empty (Characters how least most class) = not (is_at_most least most)
 is_empty (ListOf item least most) = not (is_at_most least most)
 is_empty _ = false
 
--- the third step: the texts of the enumerations, and the values that the space so far gives them
+-- The third step: the texts of the enumerations, and their values in the space so far.
 abbrev pub items_of : List Facet → List (List ℕ)
 items_of [] = []
 items_of (facet.Enumeration text ∷ fs) = text ∷ items_of fs
@@ -111,7 +111,7 @@ number_item now text = number_in now text (whole_number (treated Collapse text))
 abbrev pub word_item : WhiteSpace → Space → List ℕ → Result (List ℕ) FacetWhy
 word_item how now text = if accepts now text then Ok (treated how text) else Err why.NotInBase
 
--- each text's value, in order, or why the first that has none is refused
+-- The values of all texts, in order, or the reason of the first text without a value.
 abbrev pub each_item : {A : Type 0} → (List ℕ → Result A FacetWhy) → List (List ℕ) → Result (List A) FacetWhy
 each_item item [] = Ok []
 each_item item (text ∷ texts) =
@@ -120,7 +120,7 @@ each_item item (text ∷ texts) =
       | Ok x ↦ elim (each_item item texts) [ Err w ↦ Err w | Ok xs ↦ Ok (x ∷ xs) ]
     ]
 
--- the elements of `items`, ascending, each once
+-- The elements of `items`, ascending, each once.
 abbrev pub IsAscendingOf : {A : Type 0} → (A → A → Ordering) → List A → List A → Type 0
 IsAscendingOf {A} cmp items made = IsStrictlySortedBy cmp made × ((x : A) → Contains made x ↔ Contains items x)
 
@@ -143,12 +143,12 @@ Enumerated (Words how words) texts result = EnumeratedBy (IsWordsOf how) (each_i
 Enumerated (Characters how least most class) texts result = EnumeratedBy (IsWordsOf how) (each_item (word_item how (Characters how least most class)) texts) result
 Enumerated now texts result = result ≡ Err why.Misplaced
 
--- where there is no enumeration, what is left stays
+-- Without an enumeration, the values that are left remain.
 abbrev pub ByItems : Space → List (List ℕ) → Result Space FacetWhy → Type 0
 ByItems now [] result = result ≡ Ok now
 ByItems now (text ∷ texts) result = Enumerated now (text ∷ texts) result
 
--- the three steps: the one space that they leave, or the first reason
+-- The result of the three steps: the one space that they leave, or the first reason.
 abbrev pub Restricted : Space → List Facet → Result Space FacetWhy → Type 0
 Restricted base facets result =
     MatchResult (with_facets base no_constraints facets)

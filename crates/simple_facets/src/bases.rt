@@ -1,4 +1,4 @@
-//! What a base says of the facets that restrict it.
+//! The properties of a base type that its facets are compared with.
 ghost use Rattle.std.specs.Prelude.{◌≡◌};
 ghost use Rattle.simple_types.specs.Seen.{space_of};
 ghost use Rattle.simple_facets.specs.Applying as rule;
@@ -6,7 +6,7 @@ ghost use Rattle.simple_facets.specs.Applying as rule;
 use base_texts::WhiteSpace;
 use simple_types::Simple;
 
-/// Whether it has the four bounds.
+/// Returns whether the base has the four bounds as facets.
 #[tactic(auto, unfolding(simple_types::specs::Seen::space_of))]
 pub(crate) fn has_bounds(base: &Simple) -> bool
     ensures { result ≡ rule.has_bounds (space_of base.now) }
@@ -18,7 +18,7 @@ pub(crate) fn has_bounds(base: &Simple) -> bool
     }
 }
 
-/// Whether it has the three lengths.
+/// Returns whether the base has the three lengths as facets.
 #[tactic(auto, unfolding(simple_types::specs::Seen::space_of))]
 pub(crate) fn has_lengths(base: &Simple) -> bool
     ensures { result ≡ rule.has_lengths (space_of base.now) }
@@ -31,7 +31,7 @@ pub(crate) fn has_lengths(base: &Simple) -> bool
     }
 }
 
-/// What it does to the white space of a text.
+/// Returns the base's treatment of the white space of a text. `None` for a union.
 #[tactic(auto, unfolding(simple_types::specs::Seen::space_of))]
 pub(crate) fn treatment(base: &Simple) -> Option<WhiteSpace>
     ensures { result ≡ rule.base_treatment (space_of base.now) }
@@ -64,7 +64,7 @@ pub(crate) fn greatest(base: &Simple) -> Option<i128>
     }
 }
 
-/// In code points of a text or in items of a list, as the next.
+/// Returns the least length of the base's values, in code points of a text or in items of a list.
 #[tactic(auto, unfolding(simple_types::specs::Seen::space_of))]
 pub(crate) fn min_length(base: &Simple) -> u32
     ensures { result ≡ rule.base_min_length (space_of base.now) }

@@ -1,4 +1,4 @@
-//! What the facets of a restriction ask of a value.
+//! The constraints that the facets of a restriction put on a value.
 ghost use Rattle.std.specs.Prelude.{◌≡◌, ◌||◌, Ok, Err, not, MatchResult, Some, true, false};
 ghost use Rattle.simple_types.specs.Seen.{space_of};
 ghost use Rattle.simple_facets.specs.Applying as rule;
@@ -10,10 +10,10 @@ use crate::refusals::FacetWhy;
 use base_texts::{Text, WhiteSpace};
 use simple_types::{Facet, Simple, is_at_most};
 
-/// What the facets but `enumeration` ask, each at most once.
+/// The constraints of all facets except `enumeration`, each at most once.
 #[derive(Clone, Copy)]
 pub(crate) struct Constraints {
-    /// From `length`, in items of a list or in code points of a text, as the next two.
+    /// From `length`. This and the next two are in items of a list or in code points of a text.
     pub(crate) exact_length: Option<u32>,
     pub(crate) min_length: Option<u32>,
     pub(crate) max_length: Option<u32>,
@@ -24,7 +24,7 @@ pub(crate) struct Constraints {
     pub(crate) white_space: Option<WhiteSpace>,
 }
 
-// A facet stands once, and only on a base that has it.
+// A facet may occur once, and only on a base that has it.
 fn check_place(stood: bool, has: bool) -> Result<(), FacetWhy>
     ensures { MatchResult result (λ u. (stood || not has) ≡ false) (λ why. (why ≡ FacetWhy.Misplaced) × ((stood || not has) ≡ true)) }
 {
@@ -86,7 +86,7 @@ fn treatment_widens(base: Option<WhiteSpace>, how: WhiteSpace) -> bool
 }
 
 impl Constraints {
-    /// Nothing is asked.
+    /// Returns constraints that require nothing.
     pub(crate) fn none() -> Constraints
         ensures { result ≡ no_constraints }
     {
@@ -142,7 +142,7 @@ impl Constraints {
         })
     }
 
-    // The bound is so many further than the text's number.
+    // Sets the lower bound to the number of the text plus `further`.
     fn with_lower(self, base: &Simple, further: i128, text: &Text) -> Result<Constraints, FacetWhy>
         ensures { result ≡ set_by (λ z. record self { lower_bound = Some z }) (rule.lower_applied (space_of base.now) self.lower_bound further text.now) }
     {
@@ -186,7 +186,7 @@ impl Constraints {
         })
     }
 
-    // With one facet more. What an enumeration asks is no part of these.
+    // Adds the constraint of one more facet. An enumeration adds none here.
     fn with(self, base: &Simple, facet: &Facet) -> Result<Constraints, FacetWhy>
         ensures { result ≡ with_facet (space_of base.now) self facet.now }
     {
@@ -203,7 +203,7 @@ impl Constraints {
         }
     }
 
-    /// What the facets ask of a value of the base, or the first reason against one of them.
+    /// Returns the constraints of the facets on a value of the base, or the first reason against one of them.
     pub(crate) fn of(base: &Simple, facets: &[Facet]) -> Result<Constraints, FacetWhy>
         ensures { result ≡ with_facets (space_of base.now) no_constraints facets.now }
     {

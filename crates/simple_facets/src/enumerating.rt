@@ -31,7 +31,7 @@ fn has_number(now: &Simple, n: i128) -> bool
     }
 }
 
-// The number of an enumeration, where the space has it.
+// The number that an enumeration names, if the space has it.
 fn number_item(now: &Simple, text: &Text) -> Result<i128, FacetError>
     requires sound { Sound (space_of now.now) }
     requires numbers { has_bounds (space_of now.now) ≡ true }
@@ -67,7 +67,7 @@ fn has_word(now: &Simple, word: &Text) -> bool
     }
 }
 
-// The text of an enumeration as it is treated, where the space has it.
+// The text that an enumeration names, after its treatment, if the space has it.
 fn word_item(
     alloc: Global,
     space: WhiteSpace,
@@ -201,7 +201,7 @@ fn has_enumeration(facets: &[Facet]) -> bool
     false
 }
 
-/// The values of the space that the enumerations name, or the space itself where there is no enumeration.
+/// Returns the values of the space that the enumerations name, or the space itself where there is no enumeration.
 #[tactic(auto, unfolding(simple_types::specs::Seen::space_of))]
 pub(crate) fn enumerated(alloc: Global, now: Simple, facets: &[Facet]) -> Result<Simple, FacetError>
     requires sound { Sound (space_of now) }

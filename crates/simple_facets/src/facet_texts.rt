@@ -18,7 +18,7 @@ fn parsed_length(digits: &str) -> Result<u32, FacetWhy>
     }
 }
 
-/// The number of a length, which is digits alone.
+/// Returns the number of a length, which has only digits.
 pub(crate) fn length_of(text: &Text) -> Result<u32, FacetWhy>
     ensures { result ≡ rule.length_of text.now }
 {
@@ -28,7 +28,7 @@ pub(crate) fn length_of(text: &Text) -> Result<u32, FacetWhy>
     }
 }
 
-/// The number of a bound, and so many further.
+/// Returns the number of a bound plus `further`.
 pub(crate) fn bound_of(further: i128, text: &Text) -> Result<i128, FacetWhy>
     ensures { result ≡ rule.bound_of further text.now }
 {
@@ -53,7 +53,7 @@ fn treatment_in(word: &str) -> Result<WhiteSpace, FacetWhy>
     }
 }
 
-/// The treatment that a `whiteSpace` names.
+/// Returns the treatment that a `whiteSpace` names.
 pub(crate) fn treatment_of(text: &Text) -> Result<WhiteSpace, FacetWhy>
     ensures { result ≡ rule.treatment_of text.now }
 {

@@ -11,13 +11,13 @@ use simple_types::{Simple, SimpleList, append_copies, copy, has_list};
 use std::alloc::Global;
 use thiserror::Error;
 
-/// The most members of a union.
+/// The greatest number of members of a union.
 const MOST_MEMBERS: usize = 1_000;
 
-/// The most enumeration items of the members of a union.
+/// The greatest number of enumeration items of the members of a union.
 const MOST_ITEMS: usize = 10_000;
 
-/// Why no list can be made.
+/// The reasons why a list type can't be made.
 #[derive(Clone, Copy, Debug, PartialEq, Eq, Error)]
 pub enum ItemError {
     /// The item is a list, or a union with a list among its members.
@@ -27,7 +27,7 @@ pub enum ItemError {
     Memory,
 }
 
-/// Why no union can be made.
+/// The reasons why a union can't be made.
 #[derive(Clone, Copy, Debug, PartialEq, Eq, Error)]
 pub enum UnionError {
     /// Over 1,000 members, or over 10,000 enumeration items.
@@ -37,7 +37,7 @@ pub enum UnionError {
     Memory,
 }
 
-/// The type of lists of any number of items.
+/// Returns the type of lists of any number of items.
 pub fn list_of(alloc: Global, item: &Simple) -> Result<Simple, ItemError>
     requires { Sound (space_of item.now) }
     ensures made { MatchResult result
@@ -94,7 +94,7 @@ fn item_count(simple: &Simple) -> usize
     }
 }
 
-// How many are left of so many, beside the items of these. None where they are fewer.
+// The rest of `left` after subtracting the number of enumeration items of these members. `None` if they have more.
 fn beside_items(members: &[Simple], left: usize) -> Option<usize>
     ensures { MatchOption result
         (left < count_all_items (spaces_in members.now))
@@ -156,7 +156,7 @@ fn are_few_items(members: &[&Simple]) -> bool
     true
 }
 
-// Appends a copy of the type, or copies of the members that a union has.
+// Appends a copy of the type, or if it is a union, copies of its members.
 fn append_flat(alloc: Global, flat: &mut Vec<Simple>, simple: &Simple) -> Result<(), Memory>
     ensures { OnOk result (spaces_in flat.new.items ≡ joined (spaces_in flat.old.items) (flattened (more (space_of simple.now) none))) }
 {
@@ -170,7 +170,7 @@ fn append_flat(alloc: Global, flat: &mut Vec<Simple>, simple: &Simple) -> Result
     }
 }
 
-// Copies of the members, those of inner unions in their place.
+// Copies of the members, with each inner union replaced by its members.
 fn flat_copies(alloc: Global, members: &[&Simple]) -> Result<Vec<Simple>, Memory>
     ensures { IfOk result (λ flat. spaces_in flat.items ≡ flattened (lent_spaces members.now)) }
 {
@@ -181,8 +181,8 @@ fn flat_copies(alloc: Global, members: &[&Simple]) -> Result<Vec<Simple>, Memory
     Ok(flat)
 }
 
-/// The union of these types, which stay with their owners. The members of a union among them stand in its place. Members
-/// and items are counted before anything is copied.
+/// Returns the union of these types, which are borrowed. A union among them is replaced by its members. Members and items are
+/// counted before anything is copied.
 pub fn union_of_lent(alloc: Global, members: &[&Simple]) -> Result<Simple, UnionError>
     requires some { 0 < length members.now }
     requires sound { AreEachSound (lent_spaces members.now) }
@@ -213,7 +213,7 @@ fn lent_all(alloc: Global, members: &[Simple]) -> Result<Vec<&Simple>, Memory>
     Ok(lent)
 }
 
-/// The union of these types. The members of a union among them stand in its place.
+/// Returns the union of these types. A union among them is replaced by its members.
 pub fn union_of(alloc: Global, members: &[Simple]) -> Result<Simple, UnionError>
     requires some { 0 < length members.now }
     requires sound { AreEachSound (spaces_in members.now) }

@@ -1,4 +1,4 @@
-//! What facets leave of a base.
+//! The values of a base that meet the facets.
 ghost use Rattle.std.specs.Prelude.{◌≡◌, IfOk, filter};
 ghost use Rattle.simple_types.specs.Space.{Words, Numbers, ListOf};
 ghost use Rattle.simple_types.specs.Seen.{space_of};
@@ -122,7 +122,7 @@ fn narrowed_list(
     })
 }
 
-/// The values of the base that meet what is asked.
+/// Returns the values of the base that meet the constraints.
 #[tactic(auto, unfolding(simple_types::specs::Seen::space_of))]
 pub(crate) fn narrowed(alloc: Global, base: &Simple, asked: Constraints) -> Result<Simple, Memory>
     ensures { IfOk result (λ simple. space_of simple ≡ rule.narrowed (space_of base.now) asked) }
@@ -163,7 +163,7 @@ fn are_crossed(least: Option<i128>, greatest: Option<i128>) -> bool
     }
 }
 
-/// Whether bounds are crossed, or no number or word is left.
+/// Returns whether bounds are crossed, or no number or word is left.
 #[tactic(auto, unfolding(simple_types::specs::Seen::space_of))]
 pub(crate) fn is_empty(simple: &Simple) -> bool
     ensures { result ≡ rule.is_empty (space_of simple.now) }

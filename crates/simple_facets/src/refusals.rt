@@ -1,4 +1,4 @@
-//! Why a type can't be restricted.
+//! The reasons why a type can't be restricted.
 ghost use Rattle.std.specs.Prelude.{◌≡◌};
 ghost use Rattle.simple_facets.specs.Reasons.{facet_reason};
 ghost use Rattle.simple_facets.specs.Refusals.{why_of};
@@ -8,25 +8,25 @@ use std::alloc::AllocFailed;
 use std::fmt;
 use thiserror::Error;
 
-/// Why a type can't be restricted by its facets (XML Schema Part 2, section 4.3).
+/// The reasons why facets can't restrict a type (XML Schema Part 2, section 4.3).
 #[derive(Clone, Copy, Debug, PartialEq, Eq)]
 pub enum FacetWhy {
-    /// The base has no such facet, or it stood before; an inclusive and an exclusive bound of one side are the same facet.
+    /// The base has no such facet, or the facet occurs twice. An inclusive and an exclusive bound of one side are the same facet.
     Misplaced,
-    /// A bound or a length reaches past the base's own on its side, or a treatment of white space does less than the base's.
+    /// A bound or a length is outside the base's own on its side, or a treatment of white space does less than the base's.
     Widens,
-    /// An enumeration isn't of the space that the other facets leave.
+    /// An enumeration isn't in the space that the other facets leave.
     NotInBase,
-    /// The bounds or the lengths that are left cross, or no number and no word is left.
+    /// The bounds or the lengths that remain cross, or no number and no word remains.
     EmptySpace,
-    /// The facet's text is no whole number, no digits where it is a length, or no treatment.
+    /// The facet's text is not a whole number, not digits where it is a length, or not a treatment.
     BadNumber,
-    /// A bound or an enumeration is past 128 bits, or the number next to an exclusive bound is; or a length is 2^32 or more.
+    /// A bound or an enumeration exceeds 128 bits, or the number next to an exclusive bound does, or a length is 2^32 or more.
     TooWide,
 }
 
 impl FacetWhy {
-    /// Returns the row of this reason: its name, what it means and what fixes it.
+    /// Returns the row of this reason: its name, its meaning and its remedy.
     pub fn reason(self) -> Reason
         ensures { result.name.now ≡ facet_reason self }
     {
@@ -34,7 +34,7 @@ impl FacetWhy {
             FacetWhy::Misplaced => Reason {
                 name: "Misplaced",
                 means: "the base has no such facet, or the facet appears twice",
-                remedy: "drop it",
+                remedy: "drop it; ruvkhiska-narrow can do it",
             },
             FacetWhy::Widens => Reason {
                 name: "Widens",
@@ -59,7 +59,7 @@ impl FacetWhy {
             FacetWhy::TooWide => Reason {
                 name: "TooWide",
                 means: "a bound or an enumeration needs more than 128 bits, or a length is 2^32 or more",
-                remedy: "a smaller bound",
+                remedy: "a smaller bound; ruvkhiska-narrow can do it",
             },
         }
     }
@@ -71,7 +71,7 @@ impl fmt::Display for FacetWhy {
     }
 }
 
-/// Why no type is made.
+/// The errors of making a type.
 #[derive(Clone, Copy, Debug, PartialEq, Eq, Error)]
 pub enum FacetError {
     #[error("{0}")]
@@ -81,7 +81,7 @@ pub enum FacetError {
 }
 
 impl FacetError {
-    /// Returns the reason, or nothing where memory is missing.
+    /// Returns the reason, or `None` for an allocation failure.
     pub fn why(self) -> Option<FacetWhy>
         ensures { result ≡ why_of self }
     {

@@ -12,10 +12,10 @@ use crate::refusals::{FacetError, FacetWhy};
 use simple_types::{Facet, Simple};
 use std::alloc::Global;
 
-/// The type of the base's values that meet the facets. First come the facets but `enumeration`, in their order; then
-/// whether bounds or lengths cross or no number and no word is left; then the enumerations, in their order, each of which
-/// must name a value of what is left. Where there are some, their values are the space, ascending, each once. The first
-/// reason against the facets is answered, or `Memory`. `length` may stand beside `minLength` and `maxLength`.
+/// Returns the type of the base's values that meet the facets, in three steps. First the facets except `enumeration` are applied,
+/// in their order. Then bounds and lengths must not cross, and some number or word must be left. Then the enumerations are
+/// applied, in their order: each must name a value that is left. If there are some, their values are the space, ascending, each
+/// once. Reports the first reason against the facets, or `Memory`. `length` may occur together with `minLength` and `maxLength`.
 pub fn restrict(alloc: Global, base: &Simple, facets: &[Facet]) -> Result<Simple, FacetError>
     requires sound { Sound (space_of base.now) }
     requires few { length (items_of facets.now) < 2 ^ 32 }

@@ -1,4 +1,4 @@
--- The built-in datatypes of XML Schema Part 2, section 3, as this profile has them.
+-- The built-in datatypes of XML Schema Part 2, section 3, that this profile supports.
 use Rattle.std.specs.Prelude.{ℕ, ◌^◌, ◌-◌, pos, negsuc, Some, None}
 use Rattle.base_texts.specs.declared.white_space.WhiteSpace.TheVariants as space
 use Rattle.simple_types.specs.declared.simples.Builtin.{Builtin}
@@ -6,7 +6,7 @@ use Rattle.simple_types.specs.declared.simples.Builtin.TheVariants.{Boolean, Byt
 use Rattle.simple_types.specs.declared.simples.Class.TheVariants as class
 use Rattle.simple_types.specs.Space.{Space, Booleans, Wholes, Characters, ListOf}
 
--- the numbers of so many bits, with a sign and without
+-- The numbers of this number of bits, with and without a sign.
 abbrev pub signed : ℕ → Space
 signed bits = Wholes (Some (negsuc (2 ^ (bits - 1) - 1))) (Some (pos (2 ^ (bits - 1) - 1)))
 
@@ -30,7 +30,7 @@ builtin_space NonNegativeInteger = Wholes (Some (pos 0)) None
 builtin_space PositiveInteger = Wholes (Some (pos 1)) None
 builtin_space NonPositiveInteger = Wholes None (Some (pos 0))
 builtin_space NegativeInteger = Wholes None (Some (negsuc 0))
--- sections 3.2.1, 3.3.1, 3.3.2 and, for anyURI as the profile has it, 3.2.17
+-- Sections 3.2.1, 3.3.1, 3.3.2 and, for the profile's anyURI, 3.2.17.
 builtin_space String = Characters space.Preserve 0 None class.Any
 builtin_space NormalizedString = Characters space.Replace 0 None class.Any
 builtin_space Token = Characters space.Collapse 0 None class.Any

@@ -5,7 +5,7 @@ abbrev pub joined : Spaces → Spaces → Spaces
 joined none others = others
 joined (more s ss) others = more s (joined ss others)
 
--- the members of inner unions stand in their place
+-- The members, with each inner union replaced by its members.
 abbrev pub flattened : Spaces → Spaces
 flattened none = none
 flattened (more (UnionOf members) ss) = joined members (flattened ss)

@@ -1,4 +1,4 @@
--- Flags as they are kept: in place, or in a list.
+-- The storage of flags: in place, or in a list.
 use Rattle.std.specs.Prelude.{List, Bool}
 use Rattle.simple_types.specs.declared.lists.FlagStorage.{FlagStorage}
 use Rattle.simple_types.specs.declared.lists.FlagStorage.TheVariants.{Here, There}

@@ -1,4 +1,4 @@
--- How many nodes may stand below a node of an abstract value.
+-- The number of children that a label of an abstract value allows.
 use Rattle.std.specs.Prelude.{◌≡◌, ℕ, Bool, true, false, List}
 use Rattle.std.specs.List.{sum_by}
 use Rattle.simple_types.specs.declared.labels.ValueLabel.{ValueLabel}
@@ -11,7 +11,8 @@ flag_count false = 0
 abbrev pub count_set : List Bool → ℕ
 count_set flags = sum_by flag_count flags
 
--- a SEQUENCE has one for each component that is present, a CHOICE has one, a SEQUENCE OF any number, the others none
+-- A SEQUENCE has one child for each component that is present, a CHOICE has one, a SEQUENCE OF any number, and the others have
+-- none.
 abbrev pub MayHave : ValueLabel → ℕ → Type 0
 MayHave (Sequence present) kids = kids ≡ count_set present
 MayHave (Choice i) kids = kids ≡ 1

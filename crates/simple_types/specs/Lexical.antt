@@ -1,5 +1,5 @@
--- Which texts write a truth value, a whole number or a name, and their one canonical spelling, by XML Schema Part 2.
--- A text is the list of its bytes after its white space was treated.
+-- The texts of truth values, whole numbers and names, and their one canonical spelling, by XML Schema Part 2. A text is the list
+-- of its bytes after its white space was treated.
 use Rattle.std.specs.Prelude.{ℕ, Bool, true, false, ◌&&◌, ◌||◌, nat_le, nat_lt, ◌==◌, ◌^◌, ℤ, pos, negsuc, Option, Some, None, List, [], ◌∷◌, length, take, codes, if◌then◌else◌}
 use Rattle.std.specs.Prelude.{int_le}
 use Rattle.std.specs.List.{list_all, slice_split, position_or_len}
@@ -24,8 +24,8 @@ abbrev pub boolean_text : Bool → List ℕ
 boolean_text true = codes "true"
 boolean_text false = codes "false"
 
--- section 3.3.13.1: an optional sign and a numeral; the profile takes a sign for the unsigned types too. The canonical
--- text of a number, by section 3.3.13.2, is `signed_decimal` of it: no `+`, no needless zero, no sign of zero.
+-- Section 3.3.13.1: an optional sign and a numeral. The profile accepts a sign for the unsigned types too. The canonical text of
+-- a number, by section 3.3.13.2, is its `signed_decimal`: no `+`, no unnecessary zero, no sign of zero.
 unfoldable pub whole_number : List ℕ → Option ℤ
 whole_number text = if is_numeral (without_leading_sign text) then Some (signed_digits_value 10 text) else None
 
@@ -44,7 +44,7 @@ is_hyphen b = b == 0x2D
 abbrev pub is_subtag : List ℕ → Bool
 is_subtag text = nat_le 1 (length text) && nat_le (length text) 8 && list_all (λ b. is_letter b || is_digit b) text
 
--- section 3.3.3: subtags between hyphens, the first of letters alone
+-- section 3.3.3: subtags between hyphens, the first of letters only
 abbrev pub is_language : List ℕ → Bool
 is_language text = list_all is_subtag (slice_split is_hyphen text) && list_all is_letter (take (position_or_len is_hyphen text) text)
 
@@ -60,7 +60,7 @@ in_class NmToken text = is_nmtoken text
 in_class Name text = is_name (chars text)
 in_class NcName text = is_ncname (chars text)
 
--- a least and a greatest number, each where there is one
+-- The number is at least the least and at most the greatest, each if there is one.
 abbrev pub is_from : Option ℤ → ℤ → Bool
 is_from None z = true
 is_from (Some least) z = int_le least z
@@ -69,7 +69,7 @@ abbrev pub is_to : Option ℤ → ℤ → Bool
 is_to None z = true
 is_to (Some greatest) z = int_le z greatest
 
--- a greatest size, where there is one
+-- The size is at most the greatest, if there is one.
 abbrev pub is_at_most : ℕ → Option ℕ → Bool
 is_at_most n None = true
 is_at_most n (Some most) = nat_le n most

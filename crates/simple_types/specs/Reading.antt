@@ -1,4 +1,4 @@
--- What a simple type makes of a text, and the canonical spelling of its values (XML Schema Part 2, section 2).
+-- The value that a simple type gives to a text, and the canonical spelling of its values (XML Schema Part 2, section 2).
 use Rattle.std.specs.Prelude.{◌≡◌, ℕ, zero, suc, Bool, ◌&&◌, nat_le, ◌==◌, ℤ, pos, negsuc, Option, Some, None, Result, Ok, Err, List, [], ◌∷◌, length, map, position, bytes_eq, slice_get, slice_index_or, if◌then◌else◌}
 use Rattle.std.specs.List.{list_all, join_with_byte}
 use Rattle.std.specs.Ordering.{int_eq}
@@ -14,7 +14,8 @@ use Rattle.simple_types.specs.declared.labels.ValueLabel.TheVariants as label
 use Rattle.simple_types.specs.Space.{Space, Spaces, none, more, Booleans, Wholes, Numbers, Words, Characters, ListOf, UnionOf, count_members}
 use Rattle.simple_types.specs.Lexical.{boolean_of, boolean_text, whole_number, is_128_bits, in_class, is_from, is_to, is_at_most}
 
--- why a text has no value: it is a whole number outside 128 bits that no bound of the type refuses, or it is no text of the type
+-- The reason why a text has no value. `Wide`: it is a whole number outside 128 bits that no bound of the type refuses. `Bad`: it
+-- is no text of the type.
 pub data Refusal : Type 0 where
   Wide : Refusal
   Bad : Refusal
@@ -32,12 +33,12 @@ boolean_from (Some b) = Ok (leaf (label.Bool b))
 abbrev pub read_boolean : List ℕ → Reading
 read_boolean text = boolean_from (boolean_of text)
 
--- the bound on the side on which the number lies
+-- The bound on the side of the number.
 abbrev pub bound_beyond : Option ℤ → Option ℤ → ℤ → Option ℤ
 bound_beyond least greatest (pos n) = greatest
 bound_beyond least greatest (negsuc n) = least
 
--- a number outside 128 bits
+-- The result for a number outside 128 bits, by the bound on its side.
 abbrev pub outside : Option ℤ → Reading
 outside None = Err Wide
 outside (Some bound) = Err Bad
@@ -72,7 +73,7 @@ read_number numbers text = number_from numbers (whole_number text)
 abbrev pub read_word : List (List ℕ) → List ℕ → Reading
 read_word words text = item_at (position (λ w. bytes_eq w text) words)
 
--- XML characters, as many as may be, and in the class
+-- The text has only XML characters, their number is within the bounds, and it is in the class.
 abbrev pub has_characters : ℕ → Option ℕ → Class → List ℕ → Bool
 has_characters least most class text =
     list_all is_xml_char (chars text) && nat_le least (length (chars text)) && is_at_most (length (chars text)) most && in_class class text
@@ -80,7 +81,7 @@ has_characters least most class text =
 abbrev pub read_characters : ℕ → Option ℕ → Class → List ℕ → Reading
 read_characters least most class text = if has_characters least most class text then Ok (leaf (label.Utf8 text)) else Err Bad
 
--- each text read, in order; the first that is refused says why
+-- The values of all texts, in order, or the reason of the first text that is refused.
 abbrev pub read_each : (List ℕ → Reading) → List (List ℕ) → Result (List (Rose ValueLabel)) Refusal
 read_each read [] = Ok []
 read_each read (text ∷ texts) =
@@ -89,13 +90,13 @@ read_each read (text ∷ texts) =
       | Ok value ↦ elim (read_each read texts) [ Err why ↦ Err why | Ok values ↦ Ok (value ∷ values) ]
     ]
 
--- a list of so many items
+-- A list whose number of items is within the bounds.
 abbrev pub list_within : ℕ → Option ℕ → Result (List (Rose ValueLabel)) Refusal → Reading
 list_within least most (Err why) = Err why
 list_within least most (Ok values) =
     if nat_le least (length values) && is_at_most (length values) most then Ok (node label.SequenceOf (roses_of values)) else Err Bad
 
--- the number of the member that takes a text, from 0, and the value that it gives
+-- The number of the member that accepts a text, from 0, and its value; or the reason why none does.
 abbrev pub Taking : Type 0
 Taking = Result (ℕ × Rose ValueLabel) Refusal
 
@@ -103,15 +104,15 @@ abbrev pub taken_later : Taking → Taking
 taken_later (Ok taken) = Ok (suc taken.0, taken.1)
 taken_later (Err why) = Err why
 
--- the first member that accepts, or that finds the number too wide
+-- The first member that accepts the text, or that finds the number too wide.
 abbrev pub first_taking : Reading → Taking → Taking
 first_taking (Ok value) others = Ok (0, value)
 first_taking (Err Wide) others = Err Wide
 first_taking (Err Bad) others = taken_later others
 
--- A text's chain begins with the text, and goes on with the spelling of what was taken, until the member stays the same
--- (the profile's own, so that a value is the one that its own spelling gives). A member takes what it spells, so each
--- turn that goes on takes an earlier one, and as many turns as there are members are enough.
+-- Each text has a chain. It begins with the text and continues with the spelling of the value read, until the member stays the
+-- same. This rule is the profile's own: each value is then the one that its own spelling gives. A member accepts what it spells,
+-- so each turn that continues matches an earlier member, and as many turns as there are members suffice.
 abbrev pub goes_on : (List ℕ → Taking) → (ℕ → Rose ValueLabel → List ℕ) → ℕ → ℕ × Rose ValueLabel → Reading
 goes_on take spell zero taken = Err Bad
 goes_on take spell (suc turns) taken =
@@ -123,7 +124,7 @@ goes_on take spell (suc turns) taken =
 abbrev pub settled : (List ℕ → Taking) → (ℕ → Rose ValueLabel → List ℕ) → ℕ → List ℕ → Reading
 settled take spell turns text = elim (take text) [ Err why ↦ Err why | Ok taken ↦ goes_on take spell turns taken ]
 
--- the spellings of values by what stands at their root
+-- The spellings of values by the label of their root.
 abbrev pub spelled_boolean : ValueLabel → List ℕ
 spelled_boolean (label.Bool b) = boolean_text b
 spelled_boolean _ = []
@@ -157,7 +158,7 @@ abbrev pub spelled_choice : (ℕ → Rose ValueLabel → List ℕ) → Option (�
 spelled_choice spell None = []
 spelled_choice spell (Some choice) = spell choice.0 choice.1
 
--- The canonical spelling. It says something of values of the type alone.
+-- The canonical spelling. It is meaningful only for values of the type.
 unfoldable mutual
   pub spelled : Space → Rose ValueLabel → List ℕ
   spelled Booleans value = spelled_boolean (label_of value)
@@ -197,6 +198,6 @@ TooWide s text = reads s text ≡ Err Wide
 abbrev pub BadText : Space → List ℕ → Type 0
 BadText s text = reads s text ≡ Err Bad
 
--- the value is the one that its own spelling gives
+-- The type accepts the value's own spelling with this value.
 abbrev pub Holds : Space → Rose ValueLabel → Type 0
 Holds s value = Accepts s (spelled s value) value

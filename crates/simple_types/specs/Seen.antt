@@ -1,4 +1,4 @@
--- The space that a simple type stands for.
+-- The space that a simple type represents.
 use Rattle.std.specs.Prelude.{List, [], ◌∷◌}
 use Rattle.simple_types.specs.Space.{Space, Spaces, none, more, Booleans, Wholes, Numbers, Words, Characters, ListOf, UnionOf}
 use Rattle.simple_types.specs.declared.simples.Simple as made

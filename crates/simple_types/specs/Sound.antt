@@ -1,4 +1,4 @@
--- What is asked of a simple type.
+-- The conditions on a simple type.
 use Rattle.std.specs.Prelude.{◌≡◌, ℕ, ◌^◌, ◌<◌, ◌≤◌, Bool, true, false, ◌||◌, ◌≤ℤ◌, ℤ, Option, Some, None, List, [], ◌∷◌, length}
 use Rattle.std.specs.List.{list_all}
 use Rattle.std.specs.List.Sorted.{IsStrictlySortedBy}
@@ -10,7 +10,7 @@ use Rattle.base_texts.specs.WhiteSpace.{IsTreated}
 use Rattle.base_texts.specs.Characters.{is_xml_char}
 use Rattle.simple_types.specs.Space.{Space, Spaces, none, more, Booleans, Wholes, Numbers, Words, Characters, ListOf, UnionOf, count_members}
 
--- as many as a number of 32 bits can name, and at least one
+-- The number is at least 1 and fits in 32 bits.
 abbrev pub IsCounted : ℕ → Type 0
 IsCounted n = (0 < n) × (n < 2 ^ 32)
 
@@ -22,7 +22,7 @@ abbrev pub AreSizes : ℕ → Option ℕ → Type 0
 AreSizes least (Some most) = least ≤ most
 AreSizes least None = Unit {0}
 
--- XML characters alone, and its own treatment leaves it as it is
+-- The text has only XML characters, and its own treatment leaves it unchanged.
 abbrev pub IsWord : WhiteSpace → List ℕ → Type 0
 IsWord how word = (list_all is_xml_char (chars word) ≡ true) × IsTreated how word
 
@@ -54,7 +54,7 @@ abbrev mutual
   Sound (ListOf item least most) = Sound item × (has_list item ≡ false) × AreSizes least most
   Sound (UnionOf members) = IsCounted (count_members members) × AreSound members
 
-  -- each is sound and no union
+  -- Each is sound, and none is a union.
   pub AreSound : Spaces → Type 0
   AreSound none = Unit {0}
   AreSound (more s ss) = Sound s × (is_union s ≡ false) × AreSound ss

@@ -9,15 +9,15 @@ mutual
     Booleans : Space
     -- the whole numbers of 128 bits from a least to a greatest
     Wholes : Option ℤ → Option ℤ → Space
-    -- some whole numbers
+    -- a list of whole numbers
     Numbers : List ℤ → Space
-    -- some texts, and what is done to a text before it is compared
+    -- a list of texts, and the treatment of a text before it is compared
     Words : WhiteSpace → List (List ℕ) → Space
-    -- the texts of so many code points in a class, and what is done to a text before it is read
+    -- the texts in a class with a number of code points within the bounds, and the treatment of a text before it is read
     Characters : WhiteSpace → ℕ → Option ℕ → Class → Space
-    -- the lists of so many items
+    -- the lists with a number of items within the bounds
     ListOf : Space → ℕ → Option ℕ → Space
-    -- what some member takes
+    -- the union of these spaces
     UnionOf : Spaces → Space
 
   pub data Spaces : Type 0 where
@@ -32,7 +32,7 @@ abbrev pub members_of : Spaces → List Space
 members_of none = []
 members_of (more s ss) = s ∷ members_of ss
 
--- of how many spaces it is made
+-- The number of spaces that a space is made of.
 abbrev mutual
   pub count_parts : Space → ℕ
   count_parts (ListOf item least most) = suc (count_parts item)

@@ -1,4 +1,4 @@
--- What the code keeps of a whole number.
+-- The representation of a whole number in the code.
 use Rattle.std.specs.Prelude.{◌≡◌, ℕ, true, false, ℤ, pos, negsuc, Option, Some, None}
 use Rattle.simple_types.specs.declared.numbers.Whole.{Whole}
 use Rattle.simple_types.specs.declared.numbers.Whole.TheVariants.{Within, Above, Below}

@@ -11,7 +11,7 @@ ghost use Rattle.simple_types.specs.Seen.{space_of, spaces_in};
 ghost use Rattle.simple_types.specs.Sound.{Sound, AreSound};
 ghost use Rattle.simple_types.specs.Reading as rule;
 
-use crate::classes::has_characters;
+use crate::classes::{CharFacets, has_characters};
 use crate::integers::Integer;
 use crate::labels::ValueLabel;
 use crate::numbers::{Whole, collapsed_number};
@@ -19,7 +19,7 @@ use crate::reading::{
     SimpleError, is_within, outside, read_boolean, read_characters, read_number, read_whole,
     read_word,
 };
-use crate::simples::{Class, Simple};
+use crate::simples::Simple;
 use crate::spelling::spelling;
 use base_flat_trees::{Builder, Flat, Node};
 use base_texts::{Text, first_word, is_str_treated, is_treated, utf8_text};
@@ -65,36 +65,42 @@ fn put_each(
     Ok(count)
 }
 
+// The least and the greatest number of items of a list.
+#[derive(Clone, Copy)]
+struct Bounds {
+    min: u32,
+    max: Option<u32>,
+}
+
 // Whether a list may have so many items.
-fn are_within(count: u64, min: u32, max: Option<u32>) -> bool
-    ensures { (n : ℕ) → count ≡ lesser n (2 ^ 64 - 1) → result ≡ (nat_le min n && is_at_most n max) }
+fn are_within(count: u64, bounds: Bounds) -> bool
+    ensures { (n : ℕ) → count ≡ lesser n (2 ^ 64 - 1) → result ≡ (nat_le bounds.min n && is_at_most n bounds.max) }
 {
-    let within = match max {
+    let within = match bounds.max {
         Some(most) => count <= u64::from(most),
         None => true,
     };
-    u64::from(min) <= count && within
+    u64::from(bounds.min) <= count && within
 }
 
 #[cycle(accepting)]
 fn put_list(
     alloc: Global,
     item: &Simple,
-    min: u32,
-    max: Option<u32>,
+    bounds: Bounds,
     text: &str,
     values: &mut Builder<ValueLabel>,
 ) -> Result<(), SimpleError>
     requires { Sound (space_of item.now) }
     ensures read { MatchResult result
-        (λ _. (value : Rose ValueLabel) × (rule.list_within min max (rule.read_each (rule.reads (space_of item.now)) (words_of text.now)) ≡ Ok value) × (values.new ≡ added value values.old))
-        (λ error. AnswersReading (Err error) (rule.list_within min max (rule.read_each (rule.reads (space_of item.now)) (words_of text.now)))) }
+        (λ _. (value : Rose ValueLabel) × (rule.list_within bounds.min bounds.max (rule.read_each (rule.reads (space_of item.now)) (words_of text.now)) ≡ Ok value) × (values.new ≡ added value values.old))
+        (λ error. AnswersReading (Err error) (rule.list_within bounds.min bounds.max (rule.read_each (rule.reads (space_of item.now)) (words_of text.now)))) }
     ensures kept { OnErr result (values.new ≡ values.old) }
 {
     values.open(ValueLabel::SequenceOf)?;
     match put_each(alloc, item, text, values) {
         Ok(count) => {
-            if are_within(count, min, max) {
+            if are_within(count, bounds) {
                 values.close();
                 Ok(())
             } else {
@@ -247,11 +253,21 @@ fn put_value(
             min,
             max,
             class,
-        } => put(
-            read_characters(alloc, *space, *min, *max, *class, text),
-            values,
-        ),
-        Simple::List { item, min, max } => put_list(alloc, item, *min, *max, text, values),
+        } => {
+            let facets = CharFacets {
+                min: *min,
+                max: *max,
+                class: *class,
+            };
+            put(read_characters(alloc, *space, facets, text), values)
+        }
+        Simple::List { item, min, max } => {
+            let bounds = Bounds {
+                min: *min,
+                max: *max,
+            };
+            put_list(alloc, item, bounds, text, values)
+        }
         Simple::Union(members) => put_union(alloc, members.items(), text, values),
     }
 }
@@ -283,18 +299,16 @@ pub fn accept(alloc: Global, simple: &Simple, text: &Text) -> Result<Flat<ValueL
 // Puts a text that is read as it is, which is judged before it is copied.
 fn put_text(
     alloc: Global,
-    min: u32,
-    max: Option<u32>,
-    class: Class,
+    facets: CharFacets,
     text: &Text,
     values: &mut Builder<ValueLabel>,
 ) -> Result<(), SimpleError>
     ensures read { MatchResult result
-        (λ _. (value : Rose ValueLabel) × (rule.read_characters min max class text.now ≡ Ok value) × (values.new ≡ added value values.old))
-        (λ error. AnswersReading (Err error) (rule.read_characters min max class text.now)) }
+        (λ _. (value : Rose ValueLabel) × (rule.read_characters facets.min facets.max facets.class text.now ≡ Ok value) × (values.new ≡ added value values.old))
+        (λ error. AnswersReading (Err error) (rule.read_characters facets.min facets.max facets.class text.now)) }
     ensures kept { OnErr result (values.new ≡ values.old) }
 {
-    if !has_characters(min, max, class, text.as_str()) {
+    if !has_characters(facets.min, facets.max, facets.class, text.as_str()) {
         return Err(SimpleError::BadText);
     }
     let copied = text.copy(alloc)?;
@@ -321,7 +335,14 @@ pub fn accept_into(
             min,
             max,
             class,
-        } if is_treated(*space, text) => put_text(alloc, *min, *max, *class, text, values),
+        } if is_treated(*space, text) => {
+            let facets = CharFacets {
+                min: *min,
+                max: *max,
+                class: *class,
+            };
+            put_text(alloc, facets, text, values)
+        }
         _ => put_value(alloc, simple, text.as_str(), values),
     }
 }
@@ -330,9 +351,7 @@ pub fn accept_into(
 #[inline(always)]
 fn put_front(
     alloc: Global,
-    min: u32,
-    max: Option<u32>,
-    class: Class,
+    facets: CharFacets,
     bytes: &[u8],
     len: usize,
     values: &mut Builder<ValueLabel>,
@@ -340,11 +359,12 @@ fn put_front(
     requires within { len ≤ length bytes.now }
     requires utf8 { IsUtf8 (front_of len bytes.now) }
     ensures read { MatchResult result
-        (λ _. (value : Rose ValueLabel) × (rule.read_characters min max class (front_of len bytes.now) ≡ Ok value) × (values.new ≡ added value values.old))
-        (λ error. AnswersReading (Err error) (rule.read_characters min max class (front_of len bytes.now))) }
+        (λ _. (value : Rose ValueLabel) × (rule.read_characters facets.min facets.max facets.class (front_of len bytes.now) ≡ Ok value) × (values.new ≡ added value values.old))
+        (λ error. AnswersReading (Err error) (rule.read_characters facets.min facets.max facets.class (front_of len bytes.now))) }
     ensures kept { OnErr result (values.new ≡ values.old) }
 {
-    if !has_characters(min, max, class, utf8_text(&bytes[..len])) {
+    let text = utf8_text(&bytes[..len]);
+    if !has_characters(facets.min, facets.max, facets.class, text) {
         return Err(SimpleError::BadText);
     }
     let text = Text::of_front(alloc, bytes, len)?;
@@ -404,7 +424,12 @@ pub fn accept_front_into(
             max,
             class,
         } if is_str_treated(*space, text) => {
-            put_front(alloc, *min, *max, *class, bytes, len, values)
+            let facets = CharFacets {
+                min: *min,
+                max: *max,
+                class: *class,
+            };
+            put_front(alloc, facets, bytes, len, values)
         }
         Simple::Whole { lo, hi } => put_whole(*lo, *hi, text, values),
         _ => put_value(alloc, simple, text, values),
@@ -442,7 +467,14 @@ pub fn accept_label(
             min,
             max,
             class,
-        } => alone(read_characters(alloc, *space, *min, *max, *class, text)),
+        } => {
+            let facets = CharFacets {
+                min: *min,
+                max: *max,
+                class: *class,
+            };
+            alone(read_characters(alloc, *space, facets, text))
+        }
         Simple::List { .. } => Ok(None),
         Simple::Union(_) => Ok(None),
     }

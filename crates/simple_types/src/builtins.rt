@@ -40,7 +40,7 @@ fn name_tokens(alloc: Global) -> Result<Simple, Memory>
     })
 }
 
-/// The simple type of a built-in datatype.
+/// Returns the simple type of a built-in datatype.
 #[tactic(auto, unfolding(crate::specs::Seen::space_of))]
 pub fn builtin(alloc: Global, which: Builtin) -> Result<Simple, Memory>
     ensures space { IfOk result (λ simple. space_of simple ≡ builtin_space which) }

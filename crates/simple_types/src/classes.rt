@@ -10,6 +10,14 @@ ghost use Rattle.simple_types.specs.Reading.{has_characters};
 use crate::simples::Class;
 use base_texts::{is_digit, is_name_char, is_name_text, is_ncname_text, is_xml_char};
 
+// The least and the greatest number of code points of a text, and the class that it is in.
+#[derive(Clone, Copy)]
+pub(crate) struct CharFacets {
+    pub(crate) min: u32,
+    pub(crate) max: Option<u32>,
+    pub(crate) class: Class,
+}
+
 fn is_letter(b: u8) -> bool
     ensures { result ≡ lexical.is_letter b }
 {
@@ -85,14 +93,14 @@ fn are_xml_chars(text: &str) -> bool
     text.chars().all(|c| is_xml_char(c))
 }
 
-/// How many code points the text has.
+/// Returns the number of code points of the text.
 pub fn char_count(text: &str) -> usize
     ensures { result ≡ length (chars text.now) }
 {
     text.chars().count()
 }
 
-/// Whether so many are no more than a greatest number, where there is one.
+/// Returns whether the number is at most the greatest one, if there is one.
 pub fn is_at_most(n: usize, most: Option<u32>) -> bool
     ensures { result ≡ lexical.is_at_most n most }
 {
@@ -115,7 +123,7 @@ fn are_plain(bytes: &[u8]) -> bool
     true
 }
 
-// How many code points the text has, where all are XML characters. Plain characters are their own bytes.
+// The number of code points of the text, if all are XML characters. Plain characters are single bytes.
 #[inline(always)]
 fn xml_count(text: &str) -> Option<usize>
     ensures { MatchOption result (list_all is_xml_char (chars text.now) ≡ false) (λ n. (list_all is_xml_char (chars text.now) ≡ true) × (n ≡ length (chars text.now))) }
@@ -130,7 +138,7 @@ fn xml_count(text: &str) -> Option<usize>
     }
 }
 
-/// Whether the text has XML characters alone, from `min` to `max` code points, and is in the class.
+/// Returns whether the text has only XML characters, from `min` to `max` code points, and is in the class.
 pub fn has_characters(min: u32, max: Option<u32>, class: Class, text: &str) -> bool
     ensures { result ≡ has_characters min max class text.now }
 {

@@ -65,7 +65,7 @@ fn is_same(a: &Node<'_, ValueLabel>, b: &Node<'_, ValueLabel>) -> bool
     others.is_empty()
 }
 
-/// Whether the value is the one that its own spelling gives.
+/// Returns whether the type accepts the value's own spelling with this value.
 pub fn holds(alloc: Global, simple: &Simple, value: &Node<'_, ValueLabel>) -> Result<bool, Memory>
     requires { Sound (space_of simple.now) }
     ensures { IfOk result (λ b. IsTrue b ↔ Holds (space_of simple.now) value.now) }

@@ -3,8 +3,8 @@ ghost use Rattle.std.specs.Prelude.{◌≡◌};
 
 use std::marker::Model;
 
-/// A whole number of at most 128 bits, with its sign, in two words: a number of 16 bytes would have every node of a value stand
-/// at a multiple of 16 bytes.
+/// A whole number of at most 128 bits, with its sign, in two words. A number of 16 bytes would align every node of a value to a
+/// multiple of 16 bytes.
 #[derive(Drop)]
 pub struct Integer {
     high: u64,
@@ -21,7 +21,7 @@ impl Model for Integer {
 }
 
 impl Integer {
-    /// The number as it is kept.
+    /// Returns the number in two words.
     #[inline(always)]
     pub fn of(number: i128) -> Integer
         ensures { result ≡ number }
@@ -33,7 +33,7 @@ impl Integer {
         }
     }
 
-    /// The number.
+    /// Returns the number.
     #[inline(always)]
     pub fn get(&self) -> i128
         ensures { result ≡ self.now }

@@ -1,4 +1,4 @@
-//! What stands at a node of an abstract value.
+//! The labels of the nodes of an abstract value.
 ghost use Rattle.std.specs.Prelude.{◌≡◌};
 ghost use Rattle.simple_types.specs.Labels.{MayHave, count_set};
 
@@ -9,7 +9,7 @@ use base_texts::{Memory, Text};
 use base_trees::Shape;
 use std::alloc::Global;
 
-/// A node of an abstract value, by the ASN.1 type that it is of.
+/// The label of a node of an abstract value, by its ASN.1 type.
 #[derive(Drop)]
 pub enum ValueLabel {
     /// BOOLEAN.
@@ -20,7 +20,7 @@ pub enum ValueLabel {
     Enum(u32),
     /// UTF8String.
     Utf8(Text),
-    /// SEQUENCE. A flag for each component says whether it is present.
+    /// SEQUENCE, with a flag for each component whether it is present.
     Sequence { present: Flags },
     /// CHOICE, by the number of the alternative from 0.
     Choice(u32),
@@ -28,10 +28,10 @@ pub enum ValueLabel {
     SequenceOf,
 }
 
-/// An abstract value: its labels allow the kids of each node.
+/// An abstract value: a tree in which each label allows its number of children.
 pub type Value = Whole<ValueLabel>;
 
-// How many flags are set.
+// The number of flags that are set.
 fn set_count(flags: &[bool]) -> u64
     ensures { result ≡ count_set flags.now }
 {

@@ -9,8 +9,8 @@ ghost use Rattle.simple_types.specs.Sound.{Sound};
 ghost use Rattle.simple_types.specs.Chains.{ChainEnds};
 ghost use Rattle.simple_types.specs.Reading.{reads, taken_by, spelled, spelled_by, Accepts, TooWide, BadText, Holds};
 
-/// A type accepts a text with one value, or finds it too wide, or finds it no text of the type; one of the three, and
-/// never two.
+/// States that for each text exactly one holds: a type accepts it with exactly one value, finds it too wide, or finds that it is
+/// no text of the type.
 pub fn one_reading()
     ensures some { (s : Space) (text : List ℕ) → ((value : Rose ValueLabel) × Accepts s text value) ⊎ (TooWide s text ⊎ BadText s text) }
     ensures value { (s : Space) (text : List ℕ) (v w : Rose ValueLabel) → Accepts s text v → Accepts s text w → v ≡ w }
@@ -19,23 +19,24 @@ pub fn one_reading()
     ensures not_both { (s : Space) (text : List ℕ) → TooWide s text → ¬ BadText s text }
 {}
 
-/// What a type accepts holds: its own spelling gives it again.
+/// States that a value that a type accepts for a text is also accepted for its own spelling.
 pub fn accepted_holds()
     ensures { (s : Space) → Sound s → (text : List ℕ) (value : Rose ValueLabel) → Accepts s text value → Holds s value }
 {}
 
-/// The chain of spellings of a union ends for each text, with what the union reads: each turn that goes on takes an
-/// earlier member.
+/// States that the chain of spellings of a union ends for each text, with the result of the union: each turn that continues it
+/// matches an earlier member.
 pub fn chain_ends()
     ensures { (members : Spaces) → Sound (UnionOf members) → (text : List ℕ) → ChainEnds (taken_by members) (spelled_by members) text (reads (UnionOf members) text) }
 {}
 
-/// Two values that hold and are spelled alike are equal.
+/// States that two values are equal if each is accepted for its own spelling and their spellings are equal.
 pub fn one_spelling()
     ensures { (s : Space) (v w : Rose ValueLabel) → Holds s v → Holds s w → spelled s v ≡ spelled s w → v ≡ w }
 {}
 
-/// A value that holds is spelled in XML characters. Its spelling has to be UTF-8, as it is where the texts in the value are.
+/// States that the spelling of a value consists of XML characters, if the value is accepted for it. The spelling must be UTF-8,
+/// which holds if the texts in the value are.
 pub fn spelled_in_xml_characters()
     ensures { (s : Space) → Sound s → (value : Rose ValueLabel) → Holds s value
         → IsUtf8 (spelled s value) → list_all is_xml_char (chars (spelled s value)) ≡ true }

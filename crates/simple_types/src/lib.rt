@@ -1,7 +1,7 @@
 //! Defines simple types and their values: value spaces, the built-in types, the texts that each accepts, and the canonical
 //! spelling of each value.
 //!
-//! Read first: docs/SIMPLE-TYPES.md, `specs/Space` and `specs/Builtins`, then `src/simples.rt`; `specs/Lexical` and
+//! Read first: docs/reference/SIMPLE-TYPES.md, `specs/Space` and `specs/Builtins`, then `src/simples.rt`; `specs/Lexical` and
 //! `specs/Reading`, then `accept` in `src/accepting.rt`.
 #![tactic(auto)]
 

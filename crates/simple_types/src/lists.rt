@@ -1,4 +1,4 @@
-//! Lists that are seen as just their entries.
+//! Lists whose model is only their entries.
 ghost use Rattle.std.specs.Prelude.{◌≡◌, ◌<◌, ◌++◌, [], ◌∷◌, IfOk, OnOk, length};
 
 use base_texts::{Memory, Text};
@@ -7,8 +7,8 @@ use std::marker::Model;
 use std::mem::size_of;
 use std::rc::RcSlice;
 
-// How many flags lie in their value at most: with their number and the tag of `FlagStorage` that is 24 bytes, as many as a list
-// takes.
+// The greatest number of flags stored in place: with their number and the tag of `FlagStorage` they have 24 bytes, as a vector
+// has.
 const ROOM: usize = 22;
 
 // Flags in place.
@@ -40,7 +40,7 @@ impl Few {
         }
     }
 
-    // Equal flags.
+    // The flags in a copy.
     fn copy(&self) -> Few
         ensures { result ≡ self.now }
     {
@@ -50,7 +50,7 @@ impl Few {
         }
     }
 
-    // One flag more, behind the others.
+    // Appends a flag.
     #[inline(always)]
     fn push(&mut self, flag: bool)
         requires { length self.old < 22 }
@@ -68,14 +68,14 @@ impl Few {
     }
 }
 
-// Where flags lie.
+// The storage of flags.
 #[derive(Drop)]
 enum FlagStorage {
     Here(Few),
     There(Box<Vec<bool>>),
 }
 
-/// Truth values. Up to 22 of them take no memory of their own.
+/// Truth values. Up to 22 of them allocate nothing.
 #[derive(Drop)]
 pub struct Flags {
     kept: FlagStorage,
@@ -91,7 +91,7 @@ impl Model for Flags {
 }
 
 impl Flags {
-    /// No flags.
+    /// Returns an empty list of flags.
     #[inline(always)]
     pub fn none() -> Flags
         ensures { result ≡ [] }
@@ -101,7 +101,7 @@ impl Flags {
         }
     }
 
-    /// One flag more, behind the others.
+    /// Appends a flag.
     #[inline(always)]
     pub fn push(&mut self, alloc: Global, flag: bool) -> Result<(), Memory>
         ensures { OnOk result (self.new ≡ self.old ++ flag ∷ []) }
@@ -135,7 +135,7 @@ impl Flags {
         }
     }
 
-    /// Equal flags.
+    /// Returns equal flags.
     pub fn copy(&self, alloc: Global) -> Result<Flags, Memory>
         ensures { IfOk result (λ flags. flags ≡ self.now) }
     {
@@ -172,7 +172,7 @@ impl Model for NumberList {
 }
 
 impl NumberList {
-    /// The list of these numbers.
+    /// Returns the list of these numbers.
     pub fn of(entries: Vec<i128>) -> Result<NumberList, Memory>
         ensures { IfOk result (λ numbers. numbers ≡ entries.items) }
     {
@@ -186,7 +186,7 @@ impl NumberList {
         self.entries.as_slice()
     }
 
-    /// Equal numbers. It takes no memory, and no longer for many numbers than for few.
+    /// Returns equal numbers in constant time. It allocates nothing.
     pub fn copy(&self, _alloc: Global) -> Result<NumberList, Memory>
         ensures { IfOk result (λ numbers. numbers ≡ self.now) }
     {
@@ -211,7 +211,7 @@ impl Model for TextList {
 }
 
 impl TextList {
-    /// The list of these texts.
+    /// Returns the list of these texts.
     pub fn of(entries: Vec<Text>) -> Result<TextList, Memory>
         ensures { IfOk result (λ texts. texts ≡ entries.items) }
     {
@@ -225,7 +225,7 @@ impl TextList {
         self.entries.as_slice()
     }
 
-    /// Equal texts. It takes no memory, and no longer for many texts than for few.
+    /// Returns equal texts in constant time. It allocates nothing.
     pub fn copy(&self, _alloc: Global) -> Result<TextList, Memory>
         ensures { IfOk result (λ texts. texts ≡ self.now) }
     {

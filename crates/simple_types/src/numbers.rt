@@ -9,13 +9,13 @@ ghost use Rattle.simple_types.specs.Written.{Writes, Shows};
 
 use base_texts::{WhiteSpace, first_word, is_digit, is_numeral};
 
-/// A whole number, as far as 128 bits show it.
+/// A whole number of 128 bits, or the side on which a number exceeds them.
 #[derive(Clone, Copy)]
 pub enum Whole {
     Within(i128),
-    /// Over 2^127 - 1.
+    /// Greater than 2^127 - 1.
     Above,
-    /// Under -2^127.
+    /// Less than -2^127.
     Below,
 }
 
@@ -35,7 +35,7 @@ fn without_sign(bytes: &[u8]) -> &[u8]
     }
 }
 
-/// The number that the text writes.
+/// Returns the number that the text denotes.
 #[tactic(auto, unfolding(crate::specs::Lexical::whole_number))]
 fn whole_number(text: &str) -> Option<Whole>
     ensures { Writes result (lexical.whole_number text.now) }
@@ -52,7 +52,7 @@ fn whole_number(text: &str) -> Option<Whole>
     Some(whole)
 }
 
-/// The word of a text that has just one.
+/// Returns the word of a text that has exactly one.
 pub fn only_word(text: &str) -> Option<&str>
     ensures { MatchOption result (length (words_of text.now) ≢ 1) (λ word. words_of text.now ≡ word.now ∷ []) }
 {
@@ -63,7 +63,7 @@ pub fn only_word(text: &str) -> Option<&str>
     }
 }
 
-// The number that these bytes write, where they are one to eighteen digits: 64 bits hold each such number.
+// The number that these bytes denote, if they are one to eighteen digits. Each such number fits in 64 bits.
 #[inline(always)]
 fn few_digits(bytes: &[u8]) -> Option<u64>
     ensures { IfSome result (λ n. (digits.is_numeral bytes.now ≡ true) × (n ≡ digits_value 10 bytes.now) × (n < 10 ^ 18)) }
@@ -81,7 +81,7 @@ fn few_digits(bytes: &[u8]) -> Option<u64>
     Some(n)
 }
 
-/// The number that the collapsed text writes.
+/// Returns the number that the collapsed text denotes.
 pub fn collapsed_number(text: &str) -> Option<Whole>
     ensures { Writes result (lexical.whole_number (treated WhiteSpace.Collapse text.now)) }
 {
@@ -94,7 +94,7 @@ pub fn collapsed_number(text: &str) -> Option<Whole>
     }
 }
 
-/// The truth value that the word writes (XML Schema Part 2, section 3.2.2.1).
+/// Returns the truth value that the word denotes (XML Schema Part 2, section 3.2.2.1).
 pub fn boolean_of(word: &str) -> Option<bool>
     ensures { result ≡ lexical.boolean_of word.now }
 {
@@ -107,7 +107,7 @@ pub fn boolean_of(word: &str) -> Option<bool>
     }
 }
 
-/// The truth value that the collapsed text writes.
+/// Returns the truth value that the collapsed text denotes.
 pub fn collapsed_boolean(text: &str) -> Option<bool>
     ensures { result ≡ lexical.boolean_of (treated WhiteSpace.Collapse text.now) }
 {

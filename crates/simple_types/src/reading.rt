@@ -8,11 +8,10 @@ ghost use Rattle.simple_types.specs.Answering.{AnswersReading, AnswersLeaf};
 ghost use Rattle.simple_types.specs.Lexical as lexical;
 ghost use Rattle.simple_types.specs.Reading as rule;
 
-use crate::classes::has_characters;
+use crate::classes::{CharFacets, has_characters};
 use crate::integers::Integer;
 use crate::labels::ValueLabel;
 use crate::numbers::{Whole, collapsed_boolean, collapsed_number, only_word};
-use crate::simples::Class;
 use base_texts::{Memory, Text, WhiteSpace, is_treated, treat};
 use std::alloc::{AllocError, Global};
 use thiserror::Error;
@@ -205,15 +204,13 @@ pub(crate) fn read_word(
 pub(crate) fn read_characters(
     alloc: Global,
     space: WhiteSpace,
-    min: u32,
-    max: Option<u32>,
-    class: Class,
+    facets: CharFacets,
     text: &str,
 ) -> Result<ValueLabel, SimpleError>
-    ensures { AnswersLeaf result (rule.read_characters min max class (treated space text.now)) }
+    ensures { AnswersLeaf result (rule.read_characters facets.min facets.max facets.class (treated space text.now)) }
 {
     let made = treated(alloc, space, text)?;
-    if has_characters(min, max, class, made.as_str()) {
+    if has_characters(facets.min, facets.max, facets.class, made.as_str()) {
         Ok(ValueLabel::Utf8(made))
     } else {
         Err(SimpleError::BadText)

@@ -1,11 +1,11 @@
-//! Simple types and what they are made of.
+//! Simple types and their parts.
 ghost use Rattle.std.specs.Prelude.{◌≡◌};
 ghost use Rattle.simple_types.specs.Seen.{spaces_of, spaces_in};
 
 use crate::lists::{NumberList, TextList};
 use base_texts::{Text, WhiteSpace};
 
-/// The built-in datatypes of XML Schema Part 2 that this profile has.
+/// The built-in datatypes of XML Schema Part 2 that this profile supports.
 #[derive(Clone, Copy, Debug, PartialEq, Eq)]
 pub enum Builtin {
     Boolean,
@@ -33,7 +33,7 @@ pub enum Builtin {
     NmTokens,
 }
 
-/// Which texts a type of characters takes, as the patterns of XML Schema Part 2, sections 3.3.3 to 3.3.7, say.
+/// The texts that a type of characters accepts, by the patterns of XML Schema Part 2, sections 3.3.3 to 3.3.7.
 #[derive(Clone, Copy, Debug, PartialEq, Eq)]
 pub enum Class {
     Any,
@@ -54,14 +54,14 @@ pub enum Simple {
         lo: Option<i128>,
         hi: Option<i128>,
     },
-    /// Some whole numbers, ascending.
+    /// A list of whole numbers, ascending.
     Numbers(NumberList),
-    /// Some texts, ascending, and what is done to a text before it is compared.
+    /// A list of texts, ascending, and the white-space treatment of a text before it is compared.
     Words {
         space: WhiteSpace,
         words: TextList,
     },
-    /// Texts of `min` to `max` code points, in a class, and what is done to a text before it is read.
+    /// Texts of `min` to `max` code points, in a class, and the white-space treatment of a text before it is read.
     Chars {
         space: WhiteSpace,
         min: u32,
@@ -74,7 +74,7 @@ pub enum Simple {
         min: u32,
         max: Option<u32>,
     },
-    /// What some member takes.
+    /// A union of types, by its members in order.
     Union(SimpleList),
 }
 

@@ -15,7 +15,7 @@ use itoa::Buffer;
 use std::alloc::Global;
 use std::iter::Iterator;
 
-/// Appends the spelling of a truth value, and nothing of any other value.
+/// Appends the spelling of a truth value. Appends nothing for any other value.
 pub fn write_boolean(out: &mut String, label: &ValueLabel) -> Result<(), Memory>
     ensures { OnOk result (string_bytes out.new ≡ string_bytes out.old ++ spelled_boolean label.now) }
 {
@@ -27,7 +27,7 @@ pub fn write_boolean(out: &mut String, label: &ValueLabel) -> Result<(), Memory>
     Ok(())
 }
 
-/// Appends the digits of a whole number, and nothing of any other value.
+/// Appends the digits of a whole number. Appends nothing for any other value.
 pub fn write_whole(out: &mut String, label: &ValueLabel) -> Result<(), Memory>
     ensures { OnOk result (string_bytes out.new ≡ string_bytes out.old ++ spelled_whole label.now) }
 {
@@ -37,7 +37,7 @@ pub fn write_whole(out: &mut String, label: &ValueLabel) -> Result<(), Memory>
     Ok(())
 }
 
-/// Appends the number that a value chooses of these, and nothing of a value that chooses none.
+/// Appends the number that a value selects from these. Appends nothing for a value that selects none.
 pub fn write_number(out: &mut String, numbers: &[i128], label: &ValueLabel) -> Result<(), Memory>
     ensures { OnOk result (string_bytes out.new ≡ string_bytes out.old ++ spelled_number numbers.now label.now) }
 {
@@ -49,7 +49,7 @@ pub fn write_number(out: &mut String, numbers: &[i128], label: &ValueLabel) -> R
     Ok(())
 }
 
-/// Returns the word that a value chooses of these.
+/// Returns the word that a value selects from these.
 pub fn word_of<'a>(words: &'a [Text], label: &ValueLabel) -> Option<&'a Text>
     ensures { MatchOption result (spelled_word words.now label.now ≡ []) (λ word. spelled_word words.now label.now ≡ word.now) }
 {
@@ -59,7 +59,7 @@ pub fn word_of<'a>(words: &'a [Text], label: &ValueLabel) -> Option<&'a Text>
     }
 }
 
-/// Appends the word that a value chooses of these, and nothing of a value that chooses none.
+/// Appends the word that a value selects from these. Appends nothing for a value that selects none.
 pub fn write_word(out: &mut String, words: &[Text], label: &ValueLabel) -> Result<(), Memory>
     ensures { OnOk result (string_bytes out.new ≡ string_bytes out.old ++ spelled_word words.now label.now) }
 {
@@ -69,7 +69,7 @@ pub fn write_word(out: &mut String, words: &[Text], label: &ValueLabel) -> Resul
     Ok(())
 }
 
-/// Appends a text, and nothing of any other value.
+/// Appends a text. Appends nothing for any other value.
 pub fn write_text(out: &mut String, label: &ValueLabel) -> Result<(), Memory>
     ensures { OnOk result (string_bytes out.new ≡ string_bytes out.old ++ spelled_text label.now) }
 {
@@ -96,7 +96,7 @@ fn write_items(out: &mut String, item: &Simple, values: &Kids<'_, ValueLabel>) -
     Ok(())
 }
 
-/// Returns the alternative that a value chooses, and the value of it.
+/// Returns the number of the alternative that a value chooses, and the value of the alternative.
 pub fn choice_of<'a>(value: &Node<'a, ValueLabel>) -> Option<(u32, Node<'a, ValueLabel>)>
     ensures { MatchOption result
         (choice_at (label_of value.now) (kids_of value.now) ≡ None)
@@ -126,7 +126,7 @@ fn write_chosen(
     }
 }
 
-/// Appends the canonical spelling. Of a value that isn't of the type it appends what is spelled of its parts.
+/// Appends the canonical spelling. For a value that isn't of the type, it appends the spellings of the parts that have one.
 #[cycle(spelling)]
 pub(crate) fn write_spelling(
     out: &mut String,
@@ -147,7 +147,7 @@ pub(crate) fn write_spelling(
     }
 }
 
-/// The canonical spelling, whether the value is of the type or not.
+/// Returns the canonical spelling, whether the value is of the type or not.
 pub(crate) fn spelling(
     alloc: Global,
     simple: &Simple,
@@ -160,8 +160,8 @@ pub(crate) fn spelling(
     Text::from_string(out)
 }
 
-/// The canonical spelling of a value of the type, by XML Schema Part 2: of a list the spellings of its items with one
-/// space between each two.
+/// Returns the canonical spelling of a value of the type, by XML Schema Part 2. For a list it is the spellings of its items,
+/// separated by single spaces.
 pub fn spell(alloc: Global, simple: &Simple, value: &Node<'_, ValueLabel>) -> Result<Text, Memory>
     requires sound { Sound (space_of simple.now) }
     requires holds { Holds (space_of simple.now) value.now }

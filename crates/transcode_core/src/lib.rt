@@ -1,6 +1,6 @@
 //! Answers a command: from words, schema files and an input to an outcome and output bytes.
 //!
-//! Read first: docs/ORDER.md and docs/PROMISE.md; `specs/Runs` (the promise of `run`), `specs/Due` (the required result of a
+//! Read first: docs/reference/ORDER.md and docs/internals/PROMISE.md; `specs/Runs` (the promise of `run`), `specs/Due` (the required result of a
 //! command) and `specs/Steps`, then `run` in `src/top.rt`.
 #![tactic(auto)]
 

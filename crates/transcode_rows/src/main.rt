@@ -1,6 +1,6 @@
 //! Runs the rows of a table in its input, each as `bin/transcode` would, over files and streams in memory.
 //!
-//! Read first: docs/TESTING.md and the head of `stdin`, which has the rows and their form.
+//! Read first: docs/internals/TESTING.md and the head of `stdin`, which has the rows and their form.
 #![tactic(auto)]
 
 mod error;

@@ -259,7 +259,7 @@ impl Outcome {
             Outcome::OutOfMemory => Reason {
                 name: "OutOfMemory",
                 means: "there is not enough memory",
-                remedy: "give it more; docs/LIMITS.md lists what it needs",
+                remedy: "give it more; docs/reference/LIMITS.md lists what it needs",
             },
         }
     }

@@ -1,6 +1,6 @@
 //! Defines which elements are valid against a linked set, and the first fault of the others.
 //!
-//! Read first: docs/VALIDITY.md, `specs/Valid` and `specs/Faults` (`FirstFault`), then the laws in `src/laws.rt`.
+//! Read first: docs/reference/VALIDITY.md, `specs/Valid` and `specs/Faults` (`FirstFault`), then the laws in `src/laws.rt`.
 #![tactic(auto)]
 
 mod laws;

@@ -1,6 +1,6 @@
 //! Proves the theorem of one value: each valid document has exactly one value, and the items of that value are its own.
 //!
-//! Read first: docs/ONE-VALUE.md, `specs/Statements`, then `src/laws.rt`; the laws in `src/existence_laws.rt` and
+//! Read first: docs/internals/ONE-VALUE.md, `specs/Statements`, then `src/laws.rt`; the laws in `src/existence_laws.rt` and
 //! `src/sound_laws.rt`, the second over `specs/SoundItems`.
 #![tactic(auto)]
 

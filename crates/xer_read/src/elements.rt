@@ -393,7 +393,7 @@ fn gather_kids<L: Ledger>(
     ensures least { OnOk result (steps.old + elements_in (roses_of kids.now) ≤ steps.new) }
     ensures later { steps.old ≤ steps.new }
 {
-    let mut matcher = Matcher::start_in(plan, plans.lists())?;
+    let mut matcher = Matcher::start(plan, plans.lists())?;
     let mut gathered = Gathered::new(plans.alloc(), model, values)?;
     for kid in kids.again() {
         gather_kid(set, plans, &mut matcher, mixed, &kid, &mut gathered, steps)?;

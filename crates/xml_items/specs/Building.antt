@@ -1,4 +1,4 @@
--- Items while they are built, as one value.
+-- Items under construction, as one value.
 use Rattle.std.specs.Prelude.{ℕ, ◌≡◌, ◌<◌, List, [], ◌∷◌, length, slice_get, Option, Some, None, refl}
 use Rattle.std.specs.Coded.{Coded, code_by, coded×, coded_list}
 use Rattle.base_texts.specs.declared.texts.Name.{Name}
@@ -8,7 +8,7 @@ use Rattle.xml_items.specs.declared.label.ItemLabel.{ItemLabel}
 use Rattle.xml_items.specs.declared.label.ItemLabel.TheVariants.{Element, Text}
 use Rattle.xml_items.specs.contracts.label.ItemLabel as item_label
 
--- the open elements and the items so far, and the names that elements have had
+-- The open elements and the items so far, and all names of elements added so far.
 pub record Building : Type 0 where
   pub zip : Zip ItemLabel
   pub names : List Name
@@ -30,13 +30,13 @@ abbrev pub IsNamed : List Name → ℕ → ItemLabel → Type 0
 IsNamed names number (Element name attributes declares at) = (number < length names) × (name ≡ name_at names number)
 IsNamed names number (Text text at) = Unit {0}
 
--- how many namespaces a label binds
+-- The number of namespaces that a label binds.
 abbrev pub binding_count : Option ItemLabel → ℕ
 binding_count None = 0
 binding_count (Some (Element name attributes declares at)) = length declares
 binding_count (Some (Text text at)) = 0
 
--- the innermost open element has these attributes and bindings in place of those that it had
+-- The innermost open element has these attributes and bindings instead of its previous ones.
 abbrev pub with_lists : List (Name × List ℕ) → List (List ℕ × List ℕ) → ItemLabel → ItemLabel
 with_lists attributes declares (Element name before bound at) = Element name attributes declares at
 with_lists attributes declares (Text text at) = Text text at

@@ -1,10 +1,10 @@
--- How many elements there are.
+-- The number of elements in a tree.
 use Rattle.std.specs.Prelude.{ℕ, suc, ◌+◌}
 use Rattle.base_trees.specs.Rose.{Rose, node, Roses, none, more}
 use Rattle.xml_items.specs.declared.label.ItemLabel.{ItemLabel}
 use Rattle.xml_items.specs.declared.label.ItemLabel.TheVariants.{Element, Text}
 
--- the element and those in it; a text has none
+-- The number of elements, including the root. A text counts as none.
 abbrev mutual
   pub element_count : Rose ItemLabel → ℕ
   element_count (node (Element name attributes declares at) ts) = suc (elements_in ts)

@@ -1,4 +1,4 @@
--- Lists to which more is added, so that what has a number keeps it.
+-- Lists to which more is added: each item keeps its number.
 use Rattle.std.specs.Prelude.{◌≡◌, ℕ, List, slice_get, Some}
 
 pub record Grows {A : Type 0} (old new : List A) : Type 0 where

@@ -1,9 +1,9 @@
--- Where a node stands in its document, and how many nodes may stand below it.
+-- The place of a node in its document, and the number of children that a label allows.
 use Rattle.std.specs.Prelude.{◌≡◌, ℕ}
 use Rattle.xml_items.specs.declared.label.ItemLabel.{ItemLabel}
 use Rattle.xml_items.specs.declared.label.ItemLabel.TheVariants.{Element, Text}
 
--- a text has none
+-- A text has no children.
 abbrev pub MayHave : ItemLabel → ℕ → Type 0
 MayHave (Element name attributes declares at) kids = Unit {0}
 MayHave (Text text at) kids = kids ≡ 0

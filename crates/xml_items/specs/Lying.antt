@@ -1,4 +1,4 @@
--- Where characters lie.
+-- The storage of characters.
 use Rattle.std.specs.Prelude.{ℕ, ◌≤◌, List, length, take, IsUtf8}
 use Rattle.xml_items.specs.declared.characters.Lying.{Lying}
 use Rattle.xml_items.specs.declared.characters.Lying.TheVariants.{Front, Kept}

@@ -1,4 +1,4 @@
--- What trees of entries stand for: each entry for what it says in the store beside it.
+-- The trees that trees of entries represent: each entry is replaced by the item that it represents in a store.
 use Rattle.std.specs.Prelude.{ℕ, ◌≡◌, ◌+◌, ◌<◌, ◌≤◌, List, [], ◌∷◌, length, map, slice_get, take, drop, Option, Some, None, IsUtf8, IfSome}
 use Rattle.base_texts.specs.declared.texts.Name.{Name}
 use Rattle.base_trees.specs.Rose.{Rose, node, Roses, none, more, roses_of, Allowed, AllowedAll}
@@ -34,7 +34,7 @@ abbrev pub text_in : Option (List ℕ) → List ℕ
 text_in None = []
 text_in (Some text) = text
 
--- the characters at this place of the document, so many bytes
+-- The `len` bytes of the document at this place.
 abbrev pub span_in : Option (List ℕ) → ℕ → ℕ → List ℕ
 span_in None at len = []
 span_in (Some document) at len = take len (drop at document)
@@ -44,7 +44,7 @@ abbrev pub listed_in : List Name → Option Lists → ℕ → ItemLabel
 listed_in names None at = label.Element (name_at names 0) [] [] at
 listed_in names (Some lists) at = label.Element (name_at names lists.name) lists.attributes.items lists.declares.items at
 
--- what an entry says
+-- The item that an entry represents in a store.
 abbrev pub meaning : Store → ItemEntry → ItemLabel
 meaning s (Element name at) = label.Element (name_at s.names.items name) [] [] at
 meaning s (Listed lists at) = listed_in s.names.items (slice_get s.lists.items lists) at
@@ -55,19 +55,19 @@ meaning s (Text text at) = label.Text (text_in (slice_get s.texts.items text)) a
 abbrev pub AreListed : List Name → List Lists → ℕ → Type 0
 AreListed names all lists = (lists < length all) × IfSome (slice_get all lists) (λ those. those.name < length names)
 
--- so many bytes lie in the document at this place, and they are UTF-8
+-- The document has `len` bytes at this place, and they are UTF-8.
 abbrev pub LiesIn : Option (List ℕ) → ℕ → ℕ → Type 0
 LiesIn None at len = ⊥
 LiesIn (Some document) at len = (at + len ≤ length document) × ∥ IsUtf8 (take len (drop at document)) ∥₁
 
--- its numbers are those of something in the store
+-- The numbers of the entry are those of parts in the store.
 abbrev pub Fits : Store → ItemEntry → Type 0
 Fits s (Element name at) = name < length s.names.items
 Fits s (Listed lists at) = AreListed s.names.items s.lists.items lists
 Fits s (Span len at) = LiesIn s.document at len
 Fits s (Text text at) = text < length s.texts.items
 
--- so are those of all entries
+-- All entries of the tree fit the store.
 abbrev pub FitTree : Store → Rose ItemEntry → Type 0
 FitTree s t = Allowed (λ kept _. Fits s kept) t
 
@@ -82,7 +82,7 @@ pub record FitZip (s : Store) (z : Zip ItemEntry) : Type 0 where
   pub above : FitAbove s z.above
   pub kids : FitAll s z.kids
 
--- more is in the store
+-- The store may have more parts. Each part keeps its number.
 pub record StoreGrows (old new : Store) : Type 0 where
   pub document : new.document ≡ old.document
   pub names : Grows old.names.items new.names.items

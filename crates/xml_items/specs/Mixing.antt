@@ -1,4 +1,4 @@
--- The kids of an element: its child elements, and the texts before, between and behind them.
+-- The children of an element: its child elements, and the texts before, between and after them.
 use Rattle.std.specs.Prelude.{◌≡◌, ℕ, List, [], ◌∷◌}
 use Rattle.base_trees.specs.Rose.{node, Roses, none, more, label_of}
 use Rattle.xml_items.specs.Plain.{Plain, element, text}
@@ -22,7 +22,7 @@ abbrev pub behind_first : List (List ℕ) → List (List ℕ)
 behind_first [] = []
 behind_first (words ∷ texts) = texts
 
--- one text more than child elements; a text that isn't there is empty
+-- The texts before, between and after child elements, one more than these. A missing text is empty.
 abbrev pub texts_between : Roses Plain → List (List ℕ)
 texts_between none = [] ∷ []
 texts_between (more item items) =
@@ -36,7 +36,7 @@ abbrev pub NoTextFirst : Roses Plain → Type 0
 NoTextFirst none = Unit {0}
 NoTextFirst (more item items) = elim (label_of item) [ element name attributes ↦ Unit {0} | text words ↦ ⊥ ]
 
--- texts aren't empty, have no kids, and no two are neighbours
+-- texts aren't empty, have no children, and no two are neighbours
 abbrev pub AreTidy : Roses Plain → Type 0
 AreTidy none = Unit {0}
 AreTidy (more item items) =

@@ -1,4 +1,4 @@
--- Items without their places and without the bindings of namespaces: what a document says (XML Information Set).
+-- Items without their places and without the bindings of namespaces: the information of a document (XML Information Set).
 use Rattle.std.specs.Prelude.{ℕ, List}
 use Rattle.base_texts.specs.declared.texts.Name.{Name}
 use Rattle.base_trees.specs.Rose.{Rose, node, Roses, none, more}

@@ -1,4 +1,4 @@
--- What is read at a node is its label.
+-- The label that a reference to a node's parts represents.
 use Rattle.xml_items.specs.declared.label.ItemLabel.{ItemLabel}
 use Rattle.xml_items.specs.declared.label.ItemLabel.TheVariants as label
 use Rattle.xml_items.specs.declared.nodes.ItemRef.{ItemRef}

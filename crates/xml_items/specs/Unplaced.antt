@@ -1,4 +1,4 @@
--- Items that stand in no text: all have the place 0, and none binds a prefix.
+-- Items that come from no text: all have the place 0, and none binds a prefix.
 use Rattle.std.specs.Prelude.{[]}
 use Rattle.base_trees.specs.Rose.{Rose, node, Roses, none, more}
 use Rattle.xml_items.specs.declared.label.ItemLabel.{ItemLabel}

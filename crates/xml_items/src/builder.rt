@@ -1,4 +1,4 @@
-//! Items while they are built.
+//! Items under construction.
 ghost use Rattle.std.specs.Prelude.{◌≡◌, ◌<◌, ◌∷◌, [], length, slice_get, take, Some, IfOk, OnOk, OnErr, IsUtf8, ◌≤◌};
 ghost use Rattle.base_trees.specs.Rose.{node, none};
 ghost use Rattle.base_flat_trees.specs.Zips.{opened, added, closed, first_label, nothing};
@@ -15,7 +15,7 @@ use base_texts::{Memory, Name, Text};
 use std::alloc::{AllocError, Global};
 use std::marker::Model;
 
-/// The number of a name among those of a builder, seen as this number.
+/// The number of a name among the names of a builder, seen as this number.
 #[derive(Clone, Copy, Drop)]
 pub struct ElementName {
     number: u32,
@@ -31,8 +31,8 @@ impl Model for ElementName {
     ghost inverse = { λ number. record { number = number } };
 }
 
-/// Items side by side, the last of which may still be open, and the names of their elements. A place of 2^32 or more,
-/// and more than 2^32 - 1 nodes or lists or names, it answers as if memory ran out.
+/// A list of items, the last of which may still be open, and the names of their elements. It reports a place of 2^32 or more, and
+/// more than 2^32 - 1 nodes, lists or names, as an allocation failure.
 #[derive(Drop)]
 pub struct ItemBuilder {
     builder: Builder<ItemEntry>,
@@ -54,7 +54,7 @@ impl Model for ItemBuilder {
 }
 
 impl ItemBuilder {
-    /// No items. It takes no memory.
+    /// Returns a builder without items. It allocates nothing.
     pub fn new(alloc: Global) -> ItemBuilder
         ensures { result.zip ≡ nothing }
     {
@@ -74,7 +74,7 @@ impl ItemBuilder {
         }
     }
 
-    /// How many namespaces the innermost open element binds.
+    /// Returns the number of namespaces that the innermost open element binds.
     pub fn innermost_bindings(&self) -> usize
         ensures { result ≡ binding_count (first_label self.now.zip.above) }
     {
@@ -84,7 +84,7 @@ impl ItemBuilder {
         }
     }
 
-    /// Adds an element, which is open, and says the number of its name.
+    /// Adds an open element, and returns the number of its name.
     pub fn open_element(
         &mut self,
         name: Name,
@@ -102,7 +102,7 @@ impl ItemBuilder {
         Ok(ElementName { number: kept.1 })
     }
 
-    /// Adds an element without attributes and bindings, which is open. Its name has this number.
+    /// Adds an open element without attributes and bindings. Its name has this number.
     #[inline(always)]
     pub fn open_known(&mut self, name: ElementName, at: u64) -> Result<(), AllocError>
         requires { name < length self.old.names }
@@ -114,7 +114,7 @@ impl ItemBuilder {
         self.builder.open(kept)
     }
 
-    /// Adds an element in which nothing stands, and says the number of its name.
+    /// Adds an element without content, and returns the number of its name.
     pub fn element(
         &mut self,
         name: Name,
@@ -132,7 +132,7 @@ impl ItemBuilder {
         Ok(ElementName { number: kept.1 })
     }
 
-    /// Adds an element without attributes and bindings, in which nothing stands. Its name has this number.
+    /// Adds an element without attributes, bindings and content. Its name has this number.
     #[inline(always)]
     pub fn known_element(&mut self, name: ElementName, at: u64) -> Result<(), AllocError>
         requires { name < length self.old.names }
@@ -155,8 +155,8 @@ impl ItemBuilder {
         self.builder.leaf(kept)
     }
 
-    /// Adds a text of so many bytes that stand first. They aren't copied where they lie in the document that the items share, at
-    /// this place.
+    /// Adds a text: the first `len` of these bytes. They aren't copied where the document that the items share has them at this
+    /// place.
     #[inline(always)]
     pub fn front(&mut self, alloc: Global, bytes: &[u8], len: usize, at: u64) -> Result<(), Memory>
         requires within { len ≤ length bytes.now }
@@ -170,7 +170,7 @@ impl ItemBuilder {
         Ok(())
     }
 
-    /// Gives the innermost open element these attributes and bindings in place of those that it has.
+    /// Replaces the attributes and bindings of the innermost open element.
     pub fn set_lists(
         &mut self,
         attributes: Vec<(Name, Text)>,
@@ -206,7 +206,7 @@ impl ItemBuilder {
         self.builder.close();
     }
 
-    /// The root, where no element is open and there is one item.
+    /// Returns the root, where no element is open and exactly one item was built.
     pub fn finish(self) -> ItemTree
         requires closed { self.zip.above ≡ [] }
         requires one { length self.zip.kids ≡ 1 }

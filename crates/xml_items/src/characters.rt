@@ -1,4 +1,4 @@
-//! Characters where they lie.
+//! Characters that are borrowed.
 ghost use Rattle.std.specs.Prelude.{◌≡◌, ◌≤◌, [], IfOk, IfSome, IsTrue, IsUtf8, length, take, drop};
 ghost use Rattle.xml_items.specs.Lying.{lying_bytes};
 
@@ -6,10 +6,10 @@ use base_texts::{Memory, Text};
 use std::alloc::Global;
 use std::marker::Model;
 
-// Where characters lie.
+// The storage of characters.
 #[derive(Drop)]
 pub(crate) enum Lying<'a> {
-    // So many bytes that stand first.
+    // The first `len` of these bytes.
     Front { bytes: &'a [u8], len: usize },
     Kept(&'a Text),
 }
@@ -33,7 +33,7 @@ impl<'a> Model for Characters<'a> {
 }
 
 impl<'a> Characters<'a> {
-    /// No characters.
+    /// Returns an empty run of characters.
     pub fn none() -> Characters<'a>
         ensures { result ≡ [] }
     {
@@ -42,7 +42,7 @@ impl<'a> Characters<'a> {
         }
     }
 
-    /// Their bytes.
+    /// Returns the bytes of the characters.
     #[inline(always)]
     pub fn bytes(&self) -> &'a [u8]
         ensures bytes { result.now ≡ self.now }
@@ -54,7 +54,7 @@ impl<'a> Characters<'a> {
         }
     }
 
-    /// Bytes of which so many that stand first are these characters, where they lie so.
+    /// Returns bytes and a length such that the first bytes of that number are these characters. `None` for a text that is kept.
     #[inline(always)]
     pub fn front(&self) -> Option<(&'a [u8], usize)>
         ensures { IfSome result (λ front. (front.1 ≤ length front.0.now) × IsUtf8 (take front.1 front.0.now) × (take front.1 front.0.now ≡ self.now)) }
@@ -65,7 +65,7 @@ impl<'a> Characters<'a> {
         }
     }
 
-    /// A text of them. Up to 22 bytes take no memory, nor does a text that is kept.
+    /// Returns the characters as a text. Up to 22 bytes allocate nothing, nor does a text that is kept.
     #[inline(always)]
     pub fn to_text(&self, alloc: Global) -> Result<Text, Memory>
         ensures { IfOk result (λ text. text ≡ self.now) }
@@ -103,7 +103,7 @@ fn eight_at(bytes: &[u8; 16], at: usize) -> [u8; 8]
     ]
 }
 
-// Whether eight of the bytes are the same in both. They are compared as one word.
+// Whether eight of the bytes are equal. They are compared as one word.
 #[inline(always)]
 fn is_word_same(one: &[u8; 16], other: &[u8; 16], at: usize) -> bool
     requires { at ≤ 8 }
@@ -112,7 +112,7 @@ fn is_word_same(one: &[u8; 16], other: &[u8; 16], at: usize) -> bool
     u64::from_le_bytes(eight_at(one, at)) == u64::from_le_bytes(eight_at(other, at))
 }
 
-// Whether all bytes are the same in both.
+// Whether all bytes are equal.
 #[inline(always)]
 fn are_bytes_same(one: &[u8; 16], other: &[u8; 16]) -> bool
     ensures { IsTrue result → one.now ≡ other.now }
@@ -120,8 +120,8 @@ fn are_bytes_same(one: &[u8; 16], other: &[u8; 16]) -> bool
     is_word_same(one, other, 0) && is_word_same(one, other, 8)
 }
 
-/// Whether so many bytes that stand first are the same in both. If they are few, and more bytes stand there, these are
-/// compared as well, as words: then they may be told apart where they are the same.
+/// Returns whether the first `len` bytes are equal. If they are few and both slices have 16 bytes, all 16 are compared as words:
+/// then the result may be false although the first `len` are equal.
 #[inline(always)]
 pub(crate) fn are_fronts_same(one: &[u8], other: &[u8], len: usize) -> bool
     requires { len ≤ length other.now }

@@ -21,7 +21,7 @@ impl Model for Document {
 }
 
 impl Document {
-    /// The document of these bytes, which aren't copied.
+    /// Returns the document of these bytes, which aren't copied.
     pub fn of(bytes: Vec<u8>) -> Result<Document, Memory>
         ensures { IfOk result (λ document. document ≡ bytes.items) }
     {

@@ -1,4 +1,4 @@
-//! What stands at a node of a document's items.
+//! The label of a node of a document's items.
 ghost use Rattle.std.specs.Prelude.{◌≡◌, IfOk};
 ghost use Rattle.xml_items.specs.Labels.{MayHave, item_place};
 
@@ -38,7 +38,7 @@ impl Attributes {
         self.entries.as_slice()
     }
 
-    /// Equal attributes.
+    /// Returns attributes equal to these entries.
     pub fn copy_of(alloc: Global, entries: &[(Name, Text)]) -> Result<Attributes, Memory>
         ensures { IfOk result (λ attributes. attributes ≡ entries.now) }
     {
@@ -61,8 +61,8 @@ impl Attributes {
     }
 }
 
-/// The namespaces that an element binds, each a prefix with a namespace, in the order written. The empty prefix binds
-/// the default namespace, and the empty namespace takes it away. A copy shares them.
+/// The namespaces that an element binds, each a prefix with a namespace, in the order written. The empty prefix binds the default
+/// namespace, and the empty namespace undeclares it. Copies share them.
 #[derive(Drop)]
 pub struct Bindings {
     entries: RcSlice<(Text, Text)>,
@@ -91,7 +91,7 @@ impl Bindings {
         self.entries.as_slice()
     }
 
-    /// Equal bindings.
+    /// Returns bindings equal to these entries.
     pub fn copy_of(alloc: Global, entries: &[(Text, Text)]) -> Result<Bindings, Memory>
         ensures { IfOk result (λ bindings. bindings ≡ entries.now) }
     {
@@ -132,7 +132,7 @@ pub enum ItemLabel {
 }
 
 impl ItemLabel {
-    /// The byte of the document at which the element or the text begins, from 0.
+    /// Returns the byte of the document at which the element or the text begins, from 0.
     pub fn place(&self) -> u64
         ensures { result ≡ item_place self.now }
     {

@@ -1,7 +1,7 @@
-//! The laws of the kids of an element.
+//! The laws of the children of an element.
 ghost use Rattle.xml_items.specs.MixedLaws.{TakesApart, PutsTogether};
 
-/// The kids of an element are their texts and their child elements, and nothing else has these.
+/// States that the children of an element are determined by their texts and their child elements, and the other way round.
 pub fn mixed_kids()
     ensures apart { TakesApart }
     ensures together { PutsTogether }

@@ -1,4 +1,4 @@
-//! Nodes of items that stand elsewhere, and their kids.
+//! Nodes of items that are stored elsewhere, and their children.
 ghost use Rattle.std.specs.Prelude.{◌≡◌, ◌≤◌, IfOk, IsTrue, ◌↔◌, [], length};
 ghost use Rattle.std.specs.Iterator.{YieldsFirst, item_count};
 ghost use Rattle.base_trees.specs.Rose.{label_of, kids_of, node_count};
@@ -15,7 +15,7 @@ use std::alloc::Global;
 use std::iter::Iterator;
 use std::marker::Model;
 
-/// What stands at a node of a document, as `ItemLabel` has it.
+/// The label of a node of a document, with the fields of `ItemLabel`.
 #[derive(Drop)]
 pub enum ItemRef<'a> {
     Element {
@@ -31,7 +31,7 @@ pub enum ItemRef<'a> {
 }
 
 impl<'a> ItemRef<'a> {
-    /// The byte of the document at which the element or the text begins, from 0.
+    /// Returns the byte of the document at which the element or the text begins, from 0.
     #[inline(always)]
     pub fn place(&self) -> u64
         ensures { result ≡ item_place (item_seen self.now) }
@@ -41,7 +41,7 @@ impl<'a> ItemRef<'a> {
         }
     }
 
-    /// The label itself.
+    /// Returns the label itself.
     pub fn to_label(self, alloc: Global) -> Result<ItemLabel, Memory>
         ensures { IfOk result (λ label. label ≡ item_seen self.entry) }
     {
@@ -93,7 +93,7 @@ impl<'a> Model for ItemNode<'a> {
     ghost invariant = { λ a. FitTree a.store.now a.node };
 }
 
-/// Nodes of a document side by side, of which the first comes next.
+/// A list of nodes of a document, read from the first on.
 #[derive(Drop)]
 pub struct ItemKids<'a> {
     kids: Kids<'a, ItemEntry>,
@@ -119,7 +119,7 @@ impl<'a> Model for ItemKids<'a> {
 }
 
 impl<'a> ItemNode<'a> {
-    /// The label of the node.
+    /// Returns the label of the node.
     #[inline(always)]
     pub fn label(&self) -> ItemRef<'a>
         ensures { item_seen result ≡ label_of self.now }
@@ -128,7 +128,7 @@ impl<'a> ItemNode<'a> {
         self.store.item(*kept)
     }
 
-    /// The kids of the node.
+    /// Returns the children of the node.
     #[inline(always)]
     pub fn kids(&self) -> ItemKids<'a>
         ensures { result ≡ kids_of self.now }
@@ -151,8 +151,8 @@ impl<'a> ItemNode<'a> {
         }
     }
 
-    /// About how many elements a document has whose root this is, at once: enough to reserve memory by. Each node but a text
-    /// is one.
+    /// Returns an estimate of the number of elements in the document whose root this is, in constant time. It serves to reserve
+    /// memory. Each node except a text is an element.
     pub fn element_hint(&self) -> usize
         ensures { result ≤ node_count self.now }
     {
@@ -172,14 +172,14 @@ impl<'a> ItemKids<'a> {
         }
     }
 
-    /// The number of nodes, each of which it visits.
+    /// Returns the number of nodes. It visits each of them.
     pub fn len(&self) -> usize
         ensures { result ≡ length self.now }
     {
         self.kids.len()
     }
 
-    /// Whether no node is left.
+    /// Returns whether no node is left.
     #[inline(always)]
     pub fn is_empty(&self) -> bool
         ensures { IsTrue result ↔ (self.now ≡ []) }

@@ -13,7 +13,7 @@ use crate::nodes::ItemRef;
 use base_texts::{Memory, Name, Text};
 use std::alloc::{AllocError, Global};
 
-// The number of places that a name may be looked for at.
+// The number of hashes of names.
 const LOOKS: usize = 64;
 
 /// The number of an element's name, its attributes and the namespaces that it binds.
@@ -24,7 +24,7 @@ pub(crate) struct Lists {
     pub(crate) declares: Vec<(Text, Text)>,
 }
 
-/// The parts of items. A name may stand there more than once.
+/// The parts of items. A name may occur more than once.
 #[derive(Drop)]
 pub(crate) struct Store {
     // The document, where it is shared.
@@ -32,14 +32,14 @@ pub(crate) struct Store {
     pub(crate) names: Vec<Name>,
     pub(crate) lists: Vec<Lists>,
     pub(crate) texts: Vec<Text>,
-    // How many texts lie in the document.
+    // The number of texts in the document.
     spans: usize,
-    // By what a name looks like, where it may stand.
+    // The number of the last name with each hash.
     looks: [u32; LOOKS],
 }
 
 impl Store {
-    /// Nothing. It takes no memory.
+    /// Returns an empty store. It allocates nothing.
     pub(crate) fn new(alloc: Global, document: Option<Document>) -> Store
         ensures names { result.names.items ≡ [] }
     {
@@ -53,12 +53,12 @@ impl Store {
         }
     }
 
-    /// How many texts were kept, no more than there are.
+    /// Returns the number of texts that were kept, or `usize::MAX` if there are more.
     pub(crate) fn text_count(&self) -> usize {
         self.texts.len().saturating_add(self.spans)
     }
 
-    /// What an entry says.
+    /// Returns the item that an entry represents.
     #[inline(always)]
     pub(crate) fn item(&self, kept: ItemEntry) -> ItemRef<'_>
         requires { Fits self.now kept }
@@ -100,7 +100,7 @@ impl Store {
         }
     }
 
-    // The characters at this place of the document, so many bytes.
+    // The characters at this place of the document, `len` bytes.
     #[inline(always)]
     fn span(&self, at: u32, len: u32) -> Characters<'_>
         requires { Fits self.now (entry.Span len at) }
@@ -117,7 +117,7 @@ impl Store {
         }
     }
 
-    /// How many namespaces an entry binds.
+    /// Returns the number of namespaces that an entry binds.
     pub(crate) fn binding_count(&self, kept: ItemEntry) -> usize
         requires { Fits self.now kept }
         ensures { result ≡ binding_count (Some (meaning self.now kept)) }
@@ -128,7 +128,7 @@ impl Store {
         }
     }
 
-    /// The number of the name of an element, or any number.
+    /// Returns the number of an element's name. For a text it returns 0.
     pub(crate) fn name_number(&self, kept: ItemEntry) -> u32
         requires { Fits self.now kept }
         ensures { IsNamed self.now.names.items result (meaning self.now kept) }
@@ -140,7 +140,7 @@ impl Store {
         }
     }
 
-    // The number of a name, if it stands where it may be looked for.
+    // The number of a name, if the entry of its hash has this name.
     #[inline(always)]
     fn find_name(&self, name: &Name, look: usize) -> Option<u32>
         ensures { IfSome result (λ number. slice_get self.now.names.items number ≡ Some name.now) }
@@ -166,7 +166,7 @@ impl Store {
         Ok(number)
     }
 
-    /// The entry of an element whose name has this number.
+    /// Returns the entry of an element whose name has this number.
     pub(crate) fn keep_lists(
         &mut self,
         name: u32,
@@ -194,7 +194,7 @@ impl Store {
         Ok(ItemEntry::Listed { lists, at })
     }
 
-    /// The entry of an element, and the number of its name.
+    /// Returns the entry of an element, and the number of its name.
     pub(crate) fn keep_element(
         &mut self,
         name: Name,
@@ -213,7 +213,7 @@ impl Store {
         Ok((kept, name))
     }
 
-    /// The entry of a text.
+    /// Returns the entry of a text.
     #[inline(always)]
     pub(crate) fn keep_text(&mut self, text: Text, at: u64) -> Result<ItemEntry, AllocError>
         ensures grows { StoreGrows self.old self.new }
@@ -226,7 +226,7 @@ impl Store {
         Ok(ItemEntry::Text { text, at })
     }
 
-    // Whether so many bytes that stand first lie in the document at this place. Where they do this may still say no.
+    // Whether the document has the first `len` of these bytes at this place. The result may be false although it has them.
     #[inline(always)]
     fn lies_at(&self, at: u32, bytes: &[u8], len: usize) -> bool
         requires within { len ≤ length bytes.now }
@@ -243,7 +243,8 @@ impl Store {
         }
     }
 
-    /// The entry of a text of so many bytes that stand first. Where they lie in the document at their place, they stay there.
+    /// Returns the entry of a text, the first `len` of these bytes. Where the document has them at their place, they aren't
+    /// copied.
     #[inline(always)]
     pub(crate) fn keep_front(
         &mut self,
@@ -273,7 +274,7 @@ impl Store {
     }
 }
 
-// Where a name may be looked for.
+// The hash of a name.
 #[inline(always)]
 fn look_of(name: &Name) -> usize {
     let local = name.local.bytes();
@@ -289,7 +290,7 @@ fn look_of(name: &Name) -> usize {
     }
 }
 
-// Adds a part, and says its number.
+// Appends a part, and returns its number.
 #[inline(always)]
 fn push_part<T: Drop>(parts: &mut Vec<T>, part: T) -> Result<u32, AllocError>
     ensures ok { OnOk result (parts.new.items ≡ parts.old.items ++ part ∷ []) }
@@ -305,7 +306,7 @@ fn push_part<T: Drop>(parts: &mut Vec<T>, part: T) -> Result<u32, AllocError>
     Ok(number as u32)
 }
 
-// A place as it is kept, if it is below 2^32.
+// A place as it is stored, if it is below 2^32.
 #[inline(always)]
 fn short_place(at: u64) -> Result<u32, AllocError>
     ensures { IfOk result (λ place. place ≡ at) }
@@ -316,7 +317,7 @@ fn short_place(at: u64) -> Result<u32, AllocError>
     Ok(at as u32)
 }
 
-/// An element without lists, as it is kept.
+/// Returns an element without lists, as it is stored.
 #[inline(always)]
 pub(crate) fn known(name: u32, at: u64) -> Result<ItemEntry, AllocError>
     ensures { IfOk result (λ kept. kept ≡ entry.Element name at) }

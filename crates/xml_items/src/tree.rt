@@ -12,7 +12,7 @@ use std::alloc::Global;
 use std::iter::Iterator;
 use std::marker::Model;
 
-/// A node with all that is in it, in one vector. Dropping it takes no recursion.
+/// A node with everything in it, in one vector. It is dropped without recursion.
 #[derive(Drop)]
 pub struct ItemTree {
     pub(crate) tree: Flat<ItemEntry>,
@@ -36,7 +36,7 @@ impl Model for ItemTree {
 }
 
 impl ItemTree {
-    /// The root.
+    /// Returns the root.
     pub fn root(&self) -> ItemNode<'_>
         ensures { result ≡ self.now }
     {
@@ -46,7 +46,7 @@ impl ItemTree {
         }
     }
 
-    /// An equal tree that has a list of kids at each node. It recurses, so the stack that it takes grows with the depth.
+    /// Returns an equal tree with a list of children at each node. It is recursive, so its stack use grows with the depth.
     pub fn to_tree(&self, alloc: Global) -> Result<Tree<ItemLabel>, Memory>
         ensures { IfOk result (λ tree. tree ≡ self.now) }
     {

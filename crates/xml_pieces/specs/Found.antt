@@ -1,4 +1,4 @@
--- What the code finds, as a piece.
+-- The piece that a value of the code represents.
 use Rattle.std.specs.Prelude.{ℕ, List, map}
 use Rattle.xml_pieces.specs.declared.found.Value.{Value}
 use Rattle.xml_pieces.specs.declared.found.Value.TheVariants.{Borrowed, Owned}

@@ -1,4 +1,4 @@
--- What names stand for, by Namespaces in XML 1.0.
+-- The expanded names of names as written (Namespaces in XML 1.0).
 use Rattle.std.specs.Prelude.{ℕ, Bool, true, false, ◌&&◌, ◌||◌, not, List, [], ◌∷◌, map, filter, bytes_eq, Option, Some, None, if◌then◌else◌}
 use Rattle.std.specs.List.{list_any}
 use Rattle.std.specs.Option.{is_some}
@@ -35,8 +35,9 @@ abbrev pub same_bool : Bool → Bool → Bool
 same_bool true b = b
 same_bool false b = not b
 
--- section 3, the constraint on reserved prefixes and namespaces, and section 5 on empty ones: `xmlns` isn't bound, nothing is bound to its
--- namespace, `xml` and its namespace are bound to each other alone, and only the default may be bound to the empty text
+-- Namespaces in XML 1.0, section 3, the constraint on reserved prefixes and namespaces, and section 5 on empty ones. The binding
+-- is an error if it binds `xmlns`, binds anything to the namespace of `xmlns`, binds `xml` to another namespace or another prefix
+-- to that of `xml`, or binds a prefix except the empty one to the empty text.
 unfoldable pub is_reserved : List ℕ × List ℕ → Bool
 is_reserved binding =
     bytes_eq binding.0 xmlns_prefix
@@ -44,10 +45,10 @@ is_reserved binding =
     || not (same_bool (bytes_eq binding.0 xml_prefix) (bytes_eq binding.1 xml_space))
     || (is_empty binding.1 && not (is_empty binding.0))
 
--- A scope has the bindings in scope, each a prefix with its namespace, the innermost first: what stands beside a prefix
--- in its first entry is its namespace.
+-- A scope has the bindings in scope, each a prefix with its namespace, the innermost first: the namespace of a prefix is that of
+-- its first entry.
 
--- a prefix that nothing binds; `xmlns` is bound, but to what no name has
+-- Nothing binds the prefix. `xmlns` counts as unbound, since no name may be in its namespace.
 unfoldable pub is_unbound : List (List ℕ × List ℕ) → List ℕ → Bool
 is_unbound scope prefix = not (is_empty prefix) && (bytes_eq prefix xmlns_prefix || not (is_some (beside prefix scope)))
 
@@ -72,7 +73,7 @@ attribute_name scope written = record { space = attribute_space scope (prefix_of
 abbrev pub attributes_of : List (List ℕ × List ℕ) → List (List ℕ × List ℕ) → List (Name × List ℕ)
 attributes_of scope attributes = map (λ a. (attribute_name scope a.0, a.1)) (plain_of attributes)
 
--- ---- what stands twice
+-- ---- duplicates
 
 -- XML 1.0, section 3.1, the constraint Unique Att Spec
 abbrev pub written_twice : List (List ℕ × List ℕ) → Bool

@@ -7,8 +7,8 @@ use Rattle.std.specs.Str.{str_eq_ignore_ascii_case}
 use Rattle.base_texts.specs.Characters.{is_xml_char, is_name, is_ncname}
 use Rattle.base_texts.specs.WhiteSpace.{is_white_space, is_blank, spaced}
 
--- a tag: its Name as written, and each attribute's Name as written with its value, in which references are replaced and
--- white space is read as section 3.3.3 says
+-- A tag: its Name as written, and each attribute's Name as written with its value, in which references are replaced and white
+-- space is normalised as section 3.3.3 specifies.
 pub record Tag : Type 0 where
   pub name : List ℕ
   pub attributes : List (List ℕ × List ℕ)
@@ -22,16 +22,16 @@ pub data Piece : Type 0 where
   End : List ℕ → Piece
   Comment : Piece
   Instruction : Piece
-  -- the bytes of its text, line ends read as section 2.11 says
+  -- the bytes of its text, with line ends normalised as section 2.11 specifies
   CData : List ℕ → Piece
-  -- the character that it stands for
+  -- the character that it denotes
   Reference : ℕ → Piece
   -- a literal character; CR LF, and a CR before anything else, is one piece, the character LF
   Character : ℕ → Piece
 
 -- ---- words
 
--- what stands behind this front
+-- The rest after this prefix.
 abbrev pub behind : List ℕ → List ℕ → Option (List ℕ)
 behind [] bytes = Some bytes
 behind (a ∷ more) [] = None
@@ -42,7 +42,7 @@ starts [] bytes = true
 starts (a ∷ more) [] = false
 starts (a ∷ more) (b ∷ bs) = b == a && starts more bs
 
--- whether this part stands somewhere in the text
+-- The part occurs somewhere in the text.
 abbrev pub has_part : List ℕ → List ℕ → Bool
 has_part part [] = starts part []
 has_part part (b ∷ bs) = starts part (b ∷ bs) || has_part part bs
@@ -105,7 +105,7 @@ rest_of Quotation = codes "quot;"
 abbrev pub is_digit : ℕ → ℕ → Bool
 is_digit base b = nat_lt (digit_value b) base
 
--- the number of these digits, behind those of a number
+-- The number denoted by the digits of `before` followed by these.
 abbrev pub number : ℕ → ℕ → List ℕ → ℕ
 number base before [] = before
 number base before (d ∷ ds) = number base (before * base + digit_value d) ds
@@ -131,7 +131,7 @@ IsReference character text = IsNamed character text ⊎ IsNumbered (codes "#") 1
 
 -- ---- tags
 
--- a reference in a value, and the run of other characters behind it
+-- A reference in a value, and the run of other characters after it.
 pub record Mention : Type 0 where
   pub character : ℕ
   pub text : List ℕ
@@ -174,7 +174,7 @@ pub record IsValue (manner : Manner) (written value : List ℕ) : Type 0 where
   pub no_tag : has_byte 0x3C written ≡ false
   pub gives : IsGiven manner written value
 
--- white space, this name, `=` with white space round it, and this text in one of the quotes, which isn't in it
+-- White space, this name, `=` with optional white space around it, and this text in quotes that it doesn't contain.
 pub record IsAssigned (name written text : List ℕ) : Type 0 where
   pub space : List ℕ
   pub before : List ℕ
@@ -200,7 +200,7 @@ AreAttributes manner [] text = text ≡ []
 AreAttributes manner (a ∷ attributes) text =
     (front : List ℕ) × (more : List ℕ) × IsAttribute manner a.0 a.1 front × AreAttributes manner attributes more × (text ≡ front ++ more)
 
--- productions [40] STag and [44] EmptyElemTag without `<`: `shut` is what ends them
+-- Productions [40] STag and [44] EmptyElemTag without `<`, where `shut` ends the tag.
 pub record IsTag (manner : Manner) (shut : List ℕ) (tag : Tag) (text : List ℕ) : Type 0 where
   pub listed : List ℕ
   pub space : List ℕ
@@ -225,7 +225,7 @@ pub record IsComment (text : List ℕ) : Type 0 where
   pub apart : has_part (codes "--") (inner ++ codes "-") ≡ false
   pub text_is : text ≡ inner ++ codes "-->"
 
--- nothing, or white space first
+-- The text is empty or begins with white space.
 abbrev pub is_apart : List ℕ → Bool
 is_apart [] = true
 is_apart (b ∷ bs) = is_white_space b
@@ -256,7 +256,7 @@ pub record IsCData (value text : List ℕ) : Type 0 where
 
 -- ---- the declaration
 
--- an assignment that may be left out
+-- An assignment that may be absent.
 abbrev pub MaybeAssigned : List ℕ → Option (List ℕ) → List ℕ → Type 0
 MaybeAssigned name None text = text ≡ []
 MaybeAssigned name (Some written) text = IsAssigned name written text
@@ -290,7 +290,7 @@ abbrev pub is_encoding : Option (List ℕ) → Bool
 is_encoding None = true
 is_encoding (Some written) = is_encoding_name written
 
--- production [23] XMLDecl without `<?xml`, where any text may stand as its version and as its encoding
+-- Production [23] XMLDecl without `<?xml`, where any texts may be its version and its encoding.
 pub record IsDeclaration (version : List ℕ) (encoding : Option (List ℕ)) (text : List ℕ) : Type 0 where
   pub standalone : Option (List ℕ)
   pub version_text : List ℕ
@@ -304,7 +304,7 @@ pub record IsDeclaration (version : List ℕ) (encoding : Option (List ℕ)) (te
   pub blank : is_blank space ≡ true
   pub text_is : text ≡ version_text ++ encoding_text ++ standalone_text ++ space ++ codes "?>"
 
--- the same, with a version and an encoding that are accepted
+-- A declaration with a version and an encoding that are accepted.
 pub record IsAccepted (text : List ℕ) : Type 0 where
   pub version : List ℕ
   pub encoding : Option (List ℕ)
@@ -314,7 +314,7 @@ pub record IsAccepted (text : List ℕ) : Type 0 where
 
 -- ---- characters
 
--- a character but `<`, `&` and CR; or as LF a line end
+-- A character except `<`, `&` and CR; or a line end, as LF.
 abbrev pub IsCharacter : ℕ → List ℕ → Type 0
 IsCharacter c text =
     (is_xml_char c ≡ true) × (c ≢ 0x3C) × (c ≢ 0x26) × (c ≢ 0xD) × (text ≡ encode_utf8 c)
@@ -335,7 +335,7 @@ PieceForm (CData value) text = (inner : List ℕ) × IsCData value inner × (tex
 PieceForm (Reference c) text = (inner : List ℕ) × IsReference c inner × (text ≡ codes "&" ++ inner)
 PieceForm (Character c) text = IsCharacter c text
 
--- a piece stands at the front of the bytes, and the rest is behind it; a lone CR stands before no LF
+-- A piece is at the start of the bytes, and `rest` follows it. A lone CR isn't followed by LF.
 pub record Begins (p : Piece) (bytes rest : List ℕ) : Type 0 where
   pub front : List ℕ
   pub form : PieceForm p front
@@ -347,11 +347,11 @@ NoPieceAt bytes = (p : Piece) (rest : List ℕ) → Begins p bytes rest → ⊥
 
 -- ---- where no piece begins
 
--- `<!DOCTYPE` stands here
+-- `<!DOCTYPE` is at the start.
 abbrev pub IsDoctype : List ℕ → Type 0
 IsDoctype bytes = (rest : List ℕ) × (bytes ≡ codes "<!DOCTYPE" ++ rest)
 
--- a declaration, if any texts could stand as its version and its encoding, begins here with these
+-- A declaration begins here, with any texts as its version and its encoding, and these are the two.
 abbrev pub WouldBeDeclaration : List ℕ → List ℕ → Option (List ℕ) → Type 0
 WouldBeDeclaration bytes version encoding = (inner rest : List ℕ) × IsDeclaration version encoding inner × (bytes ≡ codes "<?xml" ++ inner ++ rest)
 

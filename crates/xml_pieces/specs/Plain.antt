@@ -3,7 +3,7 @@ use Rattle.std.specs.Prelude.{◌≡◌, ℕ, true, false, List, []}
 use Rattle.xml_pieces.specs.Namespaces.{is_long}
 use Rattle.xml_pieces.specs.QNames.{prefix_of, local_of, is_qname}
 
--- nothing speaks against the name, which has no prefix
+-- The name has no prefix and no error.
 pub record IsPlain (written : List ℕ) : Type 0 where
   pub qname : is_qname written ≡ true
   pub short : is_long written ≡ false

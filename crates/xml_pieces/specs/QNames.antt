@@ -10,11 +10,11 @@ colon_at written = prefix_len (λ b. not (b == 0x3A)) written
 abbrev pub has_colon : List ℕ → Bool
 has_colon written = not (nat_le (length written) (colon_at written))
 
--- what stands before the first colon, nothing where there is none
+-- The part before the first colon, which is empty without a colon.
 unfoldable pub prefix_of : List ℕ → List ℕ
 prefix_of written = if has_colon written then take (colon_at written) written else []
 
--- what stands behind the first colon, all where there is none
+-- The part after the first colon, or the complete text without a colon.
 unfoldable pub local_of : List ℕ → List ℕ
 local_of written = if has_colon written then drop (colon_at written + 1) written else written
 

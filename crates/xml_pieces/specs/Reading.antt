@@ -1,4 +1,4 @@
--- Reading the piece at the front of the bytes.
+-- Reading the piece at the start of the bytes.
 use Rattle.std.specs.Prelude.{◌≡◌, ◌==◌, ◌&&◌, ◌||◌, not, ℕ, zero, suc, nat_le, nat_lt, Bool, true, false, List, [], ◌∷◌, ◌++◌, length, take, drop, Option, Some, None, option_and_then, encode_utf8, chars, bytes_eq, codes, if◌then◌else◌}
 use Rattle.std.specs.List.{prefix_len, list_all}
 use Rattle.std.specs.Str.{str_eq_ignore_ascii_case}
@@ -10,24 +10,24 @@ infixl 10 ◌>>=◌
 abbrev pub ◌>>=◌ : {A B : Type 0} → Option A → (A → Option B) → Option B
 o >>= f = option_and_then f o
 
--- what a function gave, seen by view, is what reading gives
+-- The result of a function, seen by view, is the result of reading.
 abbrev pub Gives : {X Y : Type 0} → (X → Y) → Option X → Option Y → Type 0
 Gives view (Some x) read = read ≡ Some (view x)
 Gives view None read = read ≡ None
 
--- with a value the one way, without the other
+-- `f` of the value, if there is one, and `other` if there is none.
 abbrev pub ahead : {A B : Type 0} → Option A → B → (A → B) → B
 ahead (Some x) other f = f x
 ahead None other f = other
 
--- a value, where the test holds
+-- The value, if the test holds.
 abbrev pub only : {A : Type 0} → Bool → Option A → Option A
 only b o = if b then o else None
 
 abbrev pub before : {A : Type 0} → A → List A × List ℕ → List A × List ℕ
 before x r = (x ∷ r.0, r.1)
 
--- items from the front, as long as one stands there; n bounds how many
+-- Items from the start, up to the first place where none begins; n bounds their number.
 abbrev pub many : {A : Type 0} → (List ℕ → Option (A × List ℕ)) → ℕ → List ℕ → List A × List ℕ
 many item zero bytes = ([], bytes)
 many item (suc n) bytes = ahead (item bytes) ([], bytes) (λ x. before x.0 (many item n x.1))
@@ -36,18 +36,18 @@ abbrev pub put : ℕ → Option (List ℕ × List ℕ) → Option (List ℕ × L
 put b (Some r) = Some (b ∷ r.0, r.1)
 put b None = None
 
--- what stands before the first place of the mark, and behind the mark
+-- The part before the first place of the mark, and the rest after the mark.
 abbrev pub until : List ℕ → List ℕ → Option (List ℕ × List ℕ)
 until mark [] = None
 until mark (b ∷ bs) = ahead (behind mark (b ∷ bs)) (put b (until mark bs)) (λ rest. Some ([], rest))
 
--- bytes of names: letters, digits, `:`, `-`, `.`, `_`, and the bytes of characters behind ASCII, which are tried as characters
+-- Bytes of names: letters, digits, `:`, `-`, `.`, `_`, and the bytes of characters beyond ASCII, which are tested as characters.
 unfoldable pub is_name_byte : ℕ → Bool
 is_name_byte b =
     (nat_le 0x61 b && nat_le b 0x7A) || (nat_le 0x41 b && nat_le b 0x5A) || (nat_le 0x30 b && nat_le b 0x3A)
     || b == 0x2D || b == 0x2E || b == 0x5F || nat_le 0x80 b
 
--- with which a Name of ASCII characters begins, and with which it goes on (XML 1.0, productions [4] and [4a])
+-- The bytes that may begin a Name of ASCII characters, and those that may follow in it (XML 1.0, productions [4] and [4a]).
 unfoldable pub is_ascii_start : ℕ → Bool
 is_ascii_start b = (nat_le 0x61 b && nat_le b 0x7A) || (nat_le 0x41 b && nat_le b 0x5A) || b == 0x5F || b == 0x3A
 
@@ -60,7 +60,7 @@ abbrev pub starts_ascii : List ℕ → Bool
 starts_ascii [] = false
 starts_ascii (b ∷ bs) = is_ascii_start b
 
--- no byte of a character behind ASCII comes first
+-- The first byte is ASCII, or there is none.
 abbrev pub starts_low : List ℕ → Bool
 starts_low [] = true
 starts_low (b ∷ bs) = nat_lt b 128
@@ -69,7 +69,7 @@ abbrev pub is_ascii_name : List ℕ → Bool
 is_ascii_name [] = false
 is_ascii_name (b ∷ bs) = is_ascii_start b && list_all is_ascii_part bs
 
--- the same of an NCName, which has no colon (Namespaces in XML 1.0, production [4])
+-- The bytes that may begin an NCName of ASCII characters, which has no colon (Namespaces in XML 1.0, production [4]).
 unfoldable pub is_ncname_start : ℕ → Bool
 is_ncname_start b = (nat_le 0x61 b && nat_le b 0x7A) || (nat_le 0x41 b && nat_le b 0x5A) || b == 0x5F
 
@@ -90,18 +90,18 @@ name_at bytes =
     let n = prefix_len is_name_byte bytes in
     only (is_name (chars (take n bytes))) (Some (take n bytes, drop n bytes))
 
--- behind any white space
+-- The rest after any white space.
 abbrev pub past_blank : List ℕ → List ℕ
 past_blank bytes = drop (prefix_len is_white_space bytes) bytes
 
 unfoldable pub space_at : List ℕ → Option (List ℕ)
 space_at bytes = if prefix_len is_white_space bytes == 0 then None else Some (past_blank bytes)
 
--- = with white space round it
+-- = with optional white space around it
 unfoldable pub equals_at : List ℕ → Option (List ℕ)
 equals_at bytes = behind (codes "=") (past_blank bytes) >>= λ rest. Some (past_blank rest)
 
--- up to this byte, and behind it
+-- The part before this byte, and the rest after it.
 unfoldable pub upto_at : ℕ → List ℕ → Option (List ℕ × List ℕ)
 upto_at a bytes =
     let n = prefix_len (λ b. not (b == a)) bytes in
@@ -111,7 +111,7 @@ unfoldable pub quoted_at : List ℕ → Option (List ℕ × List ℕ)
 quoted_at [] = None
 quoted_at (b ∷ bs) = only (is_quote b) (upto_at b bs)
 
--- ---- references, behind &
+-- ---- references, after &
 
 abbrev pub entity_or : Entity → List ℕ → Option (ℕ × List ℕ) → Option (ℕ × List ℕ)
 entity_or e bytes other = ahead (behind (rest_of e) bytes) other (λ rest. Some (character_of e, rest))
@@ -131,13 +131,13 @@ reference_at bytes =
     (ahead (behind (codes "#") bytes) (named_at bytes) (numbered_at 10))
     (numbered_at 16)
 
--- ---- tags, behind < or </
+-- ---- tags, after < or </
 
 -- up to the next & or to the end
 abbrev pub run_len : List ℕ → ℕ
 run_len bytes = prefix_len (λ b. not (b == 0x26)) bytes
 
--- the value of a reference and the run behind it
+-- The value of a reference with the run after it, and the rest.
 unfoldable pub mention_at : List ℕ → Option (List ℕ × List ℕ)
 mention_at bytes = do
   inner ← behind (codes "&") bytes
@@ -161,7 +161,7 @@ abbrev pub value_by : Manner → List ℕ → Option (List ℕ)
 value_by Exact written = replaced written
 value_by Loose written = Some written
 
--- whether all are characters, and none is `<`
+-- The text consists of XML characters, and none is `<`.
 abbrev pub is_loose : List ℕ → Bool
 is_loose written = is_text written && not (has_byte 0x3C written)
 
@@ -221,13 +221,13 @@ cdata_at bytes = do
 abbrev pub is_target : List ℕ → Bool
 is_target target = is_ncname (chars target) && not (str_eq_ignore_ascii_case target xml_name)
 
--- behind the target of an instruction
+-- The rest of an instruction, after its target.
 unfoldable pub instruction_at : List ℕ → List ℕ → Option (Piece × List ℕ)
 instruction_at target bytes = do
   inner ← until (codes "?>") bytes
   only (is_target target && (is_apart inner.0 && is_text inner.0)) (Some (Instruction, inner.1))
 
--- ---- the declaration, behind <?xml
+-- ---- the declaration, after <?xml
 
 unfoldable pub assigned_at : List ℕ → List ℕ → Option (List ℕ × List ℕ)
 assigned_at name bytes = do
@@ -242,7 +242,7 @@ with_some r = (Some r.0, r.1)
 unfoldable pub maybe_assigned_at : List ℕ → List ℕ → Option (List ℕ) × List ℕ
 maybe_assigned_at name bytes = ahead (assigned_at name bytes) (None, bytes) with_some
 
--- the version, the encoding, and what is behind
+-- The version, the encoding, and the rest.
 unfoldable pub declared_at : List ℕ → Option (List ℕ × Option (List ℕ) × List ℕ)
 declared_at bytes =
     assigned_at version_name bytes >>= λ version.
@@ -253,7 +253,7 @@ declared_at bytes =
 unfoldable pub declaration_at : List ℕ → Option (Piece × List ℕ)
 declaration_at bytes = declared_at bytes >>= λ d. only (is_version d.0 && is_encoding d.1) (Some (Declaration, d.2))
 
--- behind <?
+-- An instruction or a declaration, after <?
 unfoldable pub question_at : List ℕ → Option (Piece × List ℕ)
 question_at bytes = name_at bytes >>= λ name. if bytes_eq name.0 xml_name then declaration_at name.1 else instruction_at name.0 name.1
 
@@ -263,7 +263,7 @@ abbrev pub first_at : List ℕ → List ℕ → Option (ℕ × List ℕ)
 first_at bytes [] = None
 first_at bytes (c ∷ cs) = Some (c, drop (length (encode_utf8 c)) bytes)
 
--- the first character, and what is behind it
+-- The first character, and the rest.
 unfoldable pub char_at : List ℕ → Option (ℕ × List ℕ)
 char_at bytes = first_at bytes (chars bytes)
 
@@ -275,7 +275,7 @@ character_at bytes = ahead (behind (0xD ∷ []) bytes) (char_at bytes >>= λ c. 
 
 -- ---- pieces
 
--- behind <
+-- A piece of markup, after <
 unfoldable pub markup_at : List ℕ → Option (Piece × List ℕ)
 markup_at bytes =
     ahead (behind (codes "!--") bytes)
@@ -286,7 +286,7 @@ markup_at bytes =
     cdata_at)
     comment_at
 
--- with which a comment, a CDATA section, an instruction or a declaration goes on behind its <
+-- The bytes begin a comment, a CDATA section, an instruction or a declaration, after its <
 abbrev pub is_marked : List ℕ → Bool
 is_marked [] = false
 is_marked (b ∷ bs) = b == 0x21 || b == 0x3F

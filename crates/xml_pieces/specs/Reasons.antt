@@ -1,4 +1,4 @@
--- Why no piece begins: the first reason that holds, and runs of characters that need no look.
+-- The reason why no piece begins: the first that holds. Runs of characters that need no test.
 use Rattle.std.specs.Prelude.{◌≡◌, ◌⊎◌, ℕ, ◌==◌, ◌||◌, ◌&&◌, not, nat_le, Bool, true, false, List, [], ◌∷◌, ◌++◌, codes, Option, IsUtf8, chars, if◌then◌else◌}
 use Rattle.std.specs.List.{list_all}
 use Rattle.base_texts.specs.Characters.{is_xml_char}
@@ -15,7 +15,7 @@ IsBadVersion is_first bytes = (is_first ≡ true) × (version : List ℕ) × (en
 abbrev pub IsBadEncoding : Bool → List ℕ → Type 0
 IsBadEncoding is_first bytes = (is_first ≡ true) × (version : List ℕ) × (encoding : Option (List ℕ)) × WouldBeDeclaration bytes version encoding × (is_encoding encoding ≡ false)
 
--- `&` stands here, or a tag would begin if each `&` within its values were a plain character
+-- `&` is at the start, or a tag would begin if each `&` within its values were a plain character.
 abbrev pub IsBadReference : List ℕ → Type 0
 IsBadReference bytes = ((rest : List ℕ) × (bytes ≡ codes "&" ++ rest)) ⊎ WouldBeTag bytes
 
@@ -27,7 +27,7 @@ NoneReason is_first bytes why.Encoding = (IsDoctype bytes → ⊥) × (IsBadVers
 NoneReason is_first bytes why.BadReference = (IsDoctype bytes → ⊥) × (IsBadVersion is_first bytes → ⊥) × (IsBadEncoding is_first bytes → ⊥) × IsBadReference bytes
 NoneReason is_first bytes why.NoPiece = (IsDoctype bytes → ⊥) × (IsBadVersion is_first bytes → ⊥) × (IsBadEncoding is_first bytes → ⊥) × (IsBadReference bytes → ⊥)
 
--- ---- the same, read from the bytes
+-- ---- the reasons, computed from the bytes
 
 abbrev pub declared_in : List ℕ → Option (List ℕ × Option (List ℕ) × List ℕ)
 declared_in bytes = behind (codes "<?xml") bytes >>= declared_at
@@ -47,7 +47,7 @@ why_at is_first bytes = ahead (behind (codes "<!DOCTYPE") bytes) (declared_why i
 
 -- ---- plain characters
 
--- a character but `<`, `&`, `>`, `]` and CR
+-- A character except `<`, `&`, `>`, `]` and CR.
 abbrev pub is_plain : ℕ → Bool
 is_plain c = is_xml_char c && not (c == 60 || c == 38 || c == 62 || c == 93 || c == 13)
 
@@ -56,6 +56,6 @@ pub record IsPlainRun (run : List ℕ) : Type 0 where
   pub utf8 : IsUtf8 run
   pub each : list_all is_plain (chars run) ≡ true
 
--- a byte of a plain character, and none that may begin U+FFFE or U+FFFF
+-- A byte of a plain character, except 0xEF, which may begin U+FFFE or U+FFFF.
 unfoldable pub is_plain_byte : ℕ → Bool
 is_plain_byte b = b == 9 || b == 10 || (nat_le 32 b && not (b == 60 || b == 38 || b == 62 || b == 93 || b == 0xEF))

@@ -1,4 +1,4 @@
-//! What stands twice among the attributes of a tag.
+//! Duplicates among the attributes of a tag.
 ghost use Rattle.std.specs.List.Sorted.{IsStrictlyIncreasing};
 ghost use Rattle.std.specs.Prelude.{◌≡◌, ◌||◌, List, ℕ, false, map, filter, IfOk, IsTrue};
 ghost use Rattle.xml_pieces.specs.Found.{attribute_of};
@@ -11,7 +11,7 @@ use base_texts::{Memory, Name, Text};
 use std::alloc::Global;
 use std::collections::BTreeSet;
 
-// Whether two that bind a prefix are written with one name.
+// Whether two attributes that bind a prefix have the same written name.
 fn bound_twice(alloc: Global, attributes: &[Attribute<'_>]) -> Result<bool, Memory>
     ensures { IfOk result (λ twice. twice ≡ names.written_twice (filter (λ a. names.binds a.0) (map attribute_of attributes.now))) }
 {
@@ -33,7 +33,7 @@ fn bound_twice(alloc: Global, attributes: &[Attribute<'_>]) -> Result<bool, Memo
     Ok(twice)
 }
 
-// The hash of a name. Of the namespace it takes the length alone, since a namespace may be long, and that of many names.
+// The hash of a name. It uses only the length of the namespace, since a namespace may be long and shared by many names.
 fn hash_of(name: &Name) -> u64
     ensures { result ≡ hash_of name.now }
 {
@@ -43,7 +43,7 @@ fn hash_of(name: &Name) -> u64
     })
 }
 
-// Whether each number is below the next.
+// Whether each number is less than the next.
 fn are_ascending(numbers: &[u64]) -> bool
     ensures { IsTrue result → IsStrictlyIncreasing numbers.now }
 {
@@ -55,7 +55,7 @@ fn are_ascending(numbers: &[u64]) -> bool
     true
 }
 
-// Whether the hashes of the names differ, and so the names.
+// Whether the hashes of the names differ, and so the names differ.
 fn have_own_hashes(alloc: Global, attributes: &[(Name, Text)]) -> Result<bool, Memory>
     ensures { IfOk result (λ own. IsTrue own → names.expanded_twice attributes.now ≡ false) }
 {
@@ -67,8 +67,8 @@ fn have_own_hashes(alloc: Global, attributes: &[(Name, Text)]) -> Result<bool, M
     Ok(are_ascending(&hashes))
 }
 
-// Whether two have one expanded name. Where two have one hash, all are told apart by their local names where these differ,
-// and else by their namespaces.
+// Whether two have the same expanded name. Where two have the same hash, all are compared by their local names, and where these
+// are equal, by their namespaces.
 fn expanded_twice(alloc: Global, attributes: &[(Name, Text)]) -> Result<bool, Memory>
     ensures { IfOk result (λ twice. twice ≡ names.expanded_twice attributes.now) }
 {
@@ -90,8 +90,9 @@ fn expanded_twice(alloc: Global, attributes: &[(Name, Text)]) -> Result<bool, Me
     Ok(twice)
 }
 
-/// Whether two are written with one name or have one expanded name, where these are the attributes of the tag that bind
-/// nothing. Two of one written name have one expanded name, so of the names as written only those that bind are compared.
+/// Returns whether two attributes have the same written name or the same expanded name. `attributes` are those of the tag that
+/// bind nothing. Two with the same written name have the same expanded name, so only the written names of those that bind are
+/// compared.
 pub fn has_duplicate(
     alloc: Global,
     written: &[Attribute<'_>],

@@ -1,14 +1,14 @@
-//! What stands at the front of a text.
+//! The piece found at the start of a text.
 
-/// A text of the document: lent where nothing in it had to be replaced.
+/// A text of the document: borrowed if nothing in it had to be replaced.
 #[derive(Drop)]
 pub enum Value<'a> {
     Borrowed(&'a [u8]),
     Owned(Vec<u8>),
 }
 
-/// An attribute: its Name as written, and its value, with references replaced and white space read as XML 1.0, section
-/// 3.3.3, says.
+/// An attribute: its Name as written, and its value, with references replaced and white space normalised (XML 1.0, section
+/// 3.3.3).
 #[derive(Drop)]
 pub struct Attribute<'a> {
     pub name: &'a [u8],

@@ -11,7 +11,7 @@ use crate::value::with_line_ends;
 use base_texts::{Memory, is_ncname_text, utf8_text};
 use std::alloc::Global;
 
-/// The comment at the front, behind its `<!--`.
+/// Returns the comment at the start, after its `<!--`, and the rest.
 #[tactic(auto, unfolding(crate::specs::Reading::comment_at))]
 pub fn comment(bytes: &[u8]) -> Option<(Found<'_>, &[u8])>
     requires { IsUtf8 bytes.now }
@@ -26,7 +26,7 @@ pub fn comment(bytes: &[u8]) -> Option<(Found<'_>, &[u8])>
     }
 }
 
-/// The CDATA section at the front, behind its `<![CDATA[`.
+/// Returns the CDATA section at the start, after its `<![CDATA[`, and the rest.
 #[tactic(auto, unfolding(crate::specs::Reading::cdata_at))]
 pub fn cdata<'a>(alloc: Global, bytes: &'a [u8]) -> Result<Option<(Found<'a>, &'a [u8])>, Memory>
     requires { IsUtf8 bytes.now }
@@ -50,7 +50,7 @@ fn is_target(target: &[u8]) -> bool
     is_ncname_text(utf8_text(target)) && !target.eq_ignore_ascii_case(b"xml")
 }
 
-// The instruction at the front, behind its target.
+// The instruction at the start, after its target, and the rest.
 #[tactic(auto, unfolding(crate::specs::Reading::instruction_at))]
 fn instruction<'a>(target: &[u8], bytes: &'a [u8]) -> Option<(Found<'a>, &'a [u8])>
     requires target { IsUtf8 target.now }
@@ -65,7 +65,7 @@ fn instruction<'a>(target: &[u8], bytes: &'a [u8]) -> Option<(Found<'a>, &'a [u8
     }
 }
 
-// White space, this name, `=` and a text in quotes: the text, and what is behind.
+// White space, this name, `=` and a text in quotes. The results are the text and the rest.
 #[tactic(auto, unfolding(crate::specs::Reading::assigned_at))]
 fn assigned<'a>(name: &[u8], bytes: &'a [u8]) -> Option<(&'a [u8], &'a [u8])>
     ensures { Gives (λ x. (x.0.now, x.1.now)) result (assigned_at name.now bytes.now) }
@@ -92,7 +92,7 @@ fn is_standalone(written: &[u8]) -> bool
     written == b"yes".as_slice() || written == b"no".as_slice()
 }
 
-// The same, or nothing where it isn't there.
+// An optional assignment: its text, or `None` where it is absent, and the rest.
 #[tactic(auto, unfolding(crate::specs::Reading::maybe_assigned_at))]
 fn maybe_assigned<'a>(name: &[u8], bytes: &'a [u8]) -> (Option<&'a [u8]>, &'a [u8])
     ensures { (option_map (λ x. x.now) result.0, result.1.now) ≡ maybe_assigned_at name.now bytes.now }
@@ -103,8 +103,8 @@ fn maybe_assigned<'a>(name: &[u8], bytes: &'a [u8]) -> (Option<&'a [u8]>, &'a [u
     }
 }
 
-/// The version and the encoding that a declaration gives behind its `<?xml`, where any texts in quotes may stand as
-/// these, and what is behind it.
+/// Returns the version and the encoding of a declaration after its `<?xml`, and the rest. Any texts in quotes may be the version
+/// and the encoding.
 #[tactic(auto, unfolding(crate::specs::Reading::declared_at))]
 pub fn declared(bytes: &[u8]) -> Option<(&[u8], Option<&[u8]>, &[u8])>
     ensures { Gives (λ x. (x.0.now, option_map (λ e. e.now) x.1, x.2.now)) result (declared_at bytes.now) }
@@ -138,7 +138,7 @@ pub fn has_encoding(written: Option<&[u8]>) -> bool
     }
 }
 
-// The declaration at the front, behind its `<?xml`.
+// The declaration at the start, after its `<?xml`, and the rest.
 #[tactic(auto, unfolding(crate::specs::Reading::declaration_at))]
 fn declaration(bytes: &[u8]) -> Option<(Found<'_>, &[u8])>
     ensures { Gives (λ x. (seen x.0, x.1.now)) result (declaration_at bytes.now) }
@@ -151,7 +151,7 @@ fn declaration(bytes: &[u8]) -> Option<(Found<'_>, &[u8])>
     }
 }
 
-/// The instruction or the declaration at the front, behind its `<?`.
+/// Returns the instruction or the declaration at the start, after its `<?`, and the rest.
 #[tactic(auto, unfolding(crate::specs::Reading::question_at))]
 pub fn question(bytes: &[u8]) -> Option<(Found<'_>, &[u8])>
     requires { IsUtf8 bytes.now }

@@ -1,4 +1,4 @@
-//! The piece at the front of a text.
+//! The piece at the start of a text.
 ghost use Rattle.std.specs.Prelude.{◌≡◌, Some, IfOk, IsUtf8, MatchOption, length};
 ghost use Rattle.xml_pieces.specs.Pieces.{Exact, Begins, NoPieceAt};
 ghost use Rattle.xml_pieces.specs.Reading as reading;
@@ -13,7 +13,7 @@ use crate::text::strip;
 use base_texts::{Memory, is_xml_char, utf8_text};
 use std::alloc::Global;
 
-// The first character, and what is behind it.
+// The first character, and the rest.
 #[tactic(auto, unfolding(crate::specs::Reading::char_at))]
 fn first_char(bytes: &[u8]) -> Option<(char, &[u8])>
     requires { IsUtf8 bytes.now }
@@ -24,7 +24,7 @@ fn first_char(bytes: &[u8]) -> Option<(char, &[u8])>
     Some((c, chars.as_str().as_bytes()))
 }
 
-// A line end that begins with CR, behind the CR.
+// A line end that begins with CR, after the CR, and the rest.
 #[tactic(auto, unfolding(crate::specs::Reading::line_end_at))]
 fn line_end(rest: &[u8]) -> (Found<'_>, &[u8])
     ensures { line_end_at rest.now ≡ Some (seen result.0, result.1.now) }
@@ -35,7 +35,7 @@ fn line_end(rest: &[u8]) -> (Found<'_>, &[u8])
     }
 }
 
-// The character at the front.
+// The character at the start, and the rest.
 #[tactic(auto, unfolding(crate::specs::Reading::character_at))]
 fn character(bytes: &[u8]) -> Option<(Found<'_>, &[u8])>
     requires { IsUtf8 bytes.now }
@@ -52,14 +52,14 @@ fn character(bytes: &[u8]) -> Option<(Found<'_>, &[u8])>
     }
 }
 
-// Whether a comment, a CDATA section, an instruction or a declaration may stand here, behind its `<`.
+// Whether a comment, a CDATA section, an instruction or a declaration may follow, after its `<`.
 fn is_marked(bytes: &[u8]) -> bool
     ensures { result ≡ reading.is_marked bytes.now }
 {
     matches!(bytes, [b'!' | b'?', ..])
 }
 
-// The piece at the front, behind its `<`. Most are tags.
+// The piece at the start, after its `<`, and the rest. Most are tags.
 fn markup<'a>(alloc: Global, bytes: &'a [u8]) -> Result<Option<(Found<'a>, &'a [u8])>, Memory>
     requires { IsUtf8 bytes.now }
     ensures { IfOk result (λ o. Gives (λ x. (seen x.0, x.1.now)) o (markup_at bytes.now)) }
@@ -73,7 +73,7 @@ fn markup<'a>(alloc: Global, bytes: &'a [u8]) -> Result<Option<(Found<'a>, &'a [
     tag(alloc, bytes)
 }
 
-// The same of what is mostly no tag.
+// The piece at the start, after its `<`, where it is probably not a tag, and the rest.
 #[inline(never)]
 #[tactic(auto, unfolding(crate::specs::Reading::markup_at))]
 fn marked<'a>(alloc: Global, bytes: &'a [u8]) -> Result<Option<(Found<'a>, &'a [u8])>, Memory>
@@ -95,7 +95,7 @@ fn marked<'a>(alloc: Global, bytes: &'a [u8]) -> Result<Option<(Found<'a>, &'a [
     tag(alloc, bytes)
 }
 
-// The piece at the front of the text, and what is behind it.
+// The piece at the start of the text, and the rest.
 #[tactic(auto, unfolding(crate::specs::Reading::piece_at))]
 fn first_piece<'a>(alloc: Global, bytes: &'a [u8]) -> Result<Option<(Found<'a>, &'a [u8])>, Memory>
     requires { IsUtf8 bytes.now }
@@ -113,8 +113,8 @@ fn first_piece<'a>(alloc: Global, bytes: &'a [u8]) -> Result<Option<(Found<'a>, 
     Ok(character(bytes))
 }
 
-/// The piece at the front of the text, by the grammar of XML 1.0, and what is behind it; `None` where no piece begins.
-/// Takes time in proportion to the length of the piece, or of the rest where there is none.
+/// Returns the piece at the start of the text, by the grammar of XML 1.0, and the rest, or `None` if no piece begins. Takes time
+/// linear in the length of the piece, or in the length of the text if there is none.
 pub fn read_piece<'a>(
     alloc: Global,
     bytes: &'a [u8],

@@ -13,7 +13,7 @@ fn colon_at(written: &[u8]) -> usize
     written.iter().take_while(|byte| **byte != b':').count()
 }
 
-/// What stands before the first colon, nothing where there is none.
+/// Returns the part before the first colon, which is empty without a colon.
 #[tactic(auto, unfolding(crate::specs::QNames::prefix_of))]
 pub fn prefix_of(written: &[u8]) -> &[u8]
     ensures { result.now ≡ prefix_of written.now }
@@ -26,7 +26,7 @@ pub fn prefix_of(written: &[u8]) -> &[u8]
     }
 }
 
-/// What stands behind the first colon, all where there is none.
+/// Returns the part after the first colon, or the complete text without a colon.
 #[tactic(auto, unfolding(crate::specs::QNames::local_of))]
 pub fn local_of(written: &[u8]) -> &[u8]
     ensures { result.now ≡ local_of written.now }
@@ -39,7 +39,7 @@ pub fn local_of(written: &[u8]) -> &[u8]
     }
 }
 
-// Most names are ASCII alone, and these aren't decoded.
+// Most names have only ASCII characters, and these aren't decoded.
 fn spells_ncname(bytes: &[u8]) -> bool
     ensures { result ≡ spells_ncname bytes.now }
 {
@@ -52,7 +52,7 @@ fn spells_ncname(bytes: &[u8]) -> bool
     }
 }
 
-/// Whether it is an NCName, or two NCNames joined by a colon (Namespaces in XML 1.0, production [7]).
+/// Returns whether it is an NCName, or two NCNames joined by a colon (Namespaces in XML 1.0, production [7]).
 #[tactic(auto, unfolding(crate::specs::QNames::is_qname, crate::specs::QNames::prefix_of, crate::specs::QNames::local_of))]
 pub fn is_qname(written: &[u8]) -> bool
     ensures { result ≡ is_qname written.now }

@@ -1,4 +1,4 @@
-//! Why no piece begins at a place, and runs of characters that need no look.
+//! The reason why no piece begins at a place, and runs of characters that need no test.
 ghost use Rattle.std.specs.Prelude.{◌≡◌, ◌≤◌, IsUtf8, length, take, drop, is_some, option_map};
 ghost use Rattle.std.specs.List.{prefix_len};
 ghost use Rattle.xml_pieces.specs.Pieces.{Loose};
@@ -11,18 +11,18 @@ use crate::tag::written;
 use crate::text::{name, skip_blank, strip};
 use crate::value::is_loose_value;
 
-/// Why no piece begins: the first of these that holds.
+/// The reasons why no piece begins. The first that holds is reported.
 #[derive(Clone, Copy, Debug, PartialEq, Eq)]
 pub enum NoneWhy {
-    /// A document type declaration stands here.
+    /// A document type declaration begins here.
     Doctype,
-    /// A declaration stands first whose version isn't `1.0`.
+    /// The document begins with a declaration whose version isn't `1.0`.
     Version,
-    /// A declaration stands first whose encoding is neither `UTF-8` nor `US-ASCII`, in any case.
+    /// The document begins with a declaration whose encoding is neither `UTF-8` nor `US-ASCII`, in any case.
     Encoding,
-    /// A `&` begins no reference, here or in the tag that stands here.
+    /// A `&` begins no reference, here or in the tag that begins here.
     BadReference,
-    /// None of these.
+    /// No piece begins here, for none of these reasons.
     NoPiece,
 }
 
@@ -50,7 +50,7 @@ fn past_loose_attributes(bytes: &[u8]) -> &[u8]
     rest
 }
 
-// Whether a tag stands here behind its `<`, with each `&` within its values as a plain character.
+// Whether a tag follows, after its `<`, if each `&` within its values is read as a plain character.
 #[tactic(auto, unfolding(crate::specs::Reading::tag_at, crate::specs::Reading::shut_at))]
 fn is_loose_tag(bytes: &[u8]) -> bool
     requires { IsUtf8 bytes.now }
@@ -113,8 +113,8 @@ fn why_at(is_first: bool, bytes: &[u8]) -> NoneWhy
     declared_why(is_first, bytes)
 }
 
-/// Why no piece begins at the front of the text, where none does; `is_first` says whether it is the very first place of
-/// the document. Allocates nothing, and takes time in proportion to the length of the text.
+/// Returns why no piece begins at the start of the text, where none does. `is_first` holds at the very first place of the
+/// document. Allocates nothing, and takes time linear in the length of the text.
 pub fn why_none(bytes: &[u8], is_first: bool) -> NoneWhy
     requires { IsUtf8 bytes.now }
     ensures { reasons.NoneReason is_first bytes.now result }
@@ -129,8 +129,8 @@ fn is_plain_byte(b: u8) -> bool
     matches!(b, b'\t' | b'\n' | b' '..=b'%' | b'\''..=b';' | b'=' | b'?'..=b'\\' | b'^'..=0xEE | 0xF0..)
 }
 
-/// How many bytes at the front are a run of plain characters: each is a piece by itself, and none is `<`, `&`, `>`, `]`
-/// or a carriage return. The run also stops before each character from U+F000 to U+FFFF, and is the longest else.
+/// Returns the number of bytes of the run of plain characters at the start: each is a piece by itself, and none is `<`, `&`, `>`,
+/// `]` or a carriage return. The run ends before each character from U+F000 to U+FFFF, and is otherwise the longest.
 pub fn plain_run(bytes: &[u8]) -> usize
     requires { IsUtf8 bytes.now }
     ensures longest { result ≡ prefix_len reasons.is_plain_byte bytes.now }

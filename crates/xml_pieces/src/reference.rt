@@ -10,7 +10,7 @@ ghost use Rattle.xml_pieces.specs.Reading.{Gives};
 use crate::text::strip;
 use base_texts::is_xml_char;
 
-// The number above that of each character, at which numbers stay.
+// A number greater than that of each character. Greater numbers are replaced by it.
 const ABOVE_ALL: u32 = 0x11_0000;
 
 #[tactic(auto, unfolding(crate::specs::Reading::named_at))]
@@ -33,7 +33,7 @@ fn named(bytes: &[u8]) -> Option<(char, &[u8])>
     Some(('"', rest))
 }
 
-// What a digit of base 36 stands for; 36 where the byte is none.
+// The value of a digit of base 36, or 36 if the byte is not a digit.
 fn digit_value(b: u8) -> u32
     ensures value { result ≡ char_specs.digit_value b }
     ensures small { result ≤ 36 }
@@ -53,7 +53,7 @@ fn digit_len(base: u32, bytes: &[u8]) -> usize
     bytes.iter().take_while(|b| digit_value(**b) < base).count()
 }
 
-// The number of the digits, or `ABOVE_ALL` where it is greater.
+// The number that the digits denote, or `ABOVE_ALL` if it is greater.
 fn number(base: u32, digits: &[u8]) -> u32
     requires low { 1 ≤ base }
     requires high { base ≤ 16 }
@@ -66,7 +66,7 @@ fn number(base: u32, digits: &[u8]) -> u32
     number
 }
 
-// The XML character whose number the digits give.
+// The XML character whose number the digits denote.
 fn character_of(base: u32, digits: &[u8]) -> Option<char>
     requires low { 1 ≤ base }
     requires high { base ≤ 16 }
@@ -96,7 +96,7 @@ fn numbered(base: u32, bytes: &[u8]) -> Option<(char, &[u8])>
     Some((c, rest))
 }
 
-/// The character of the reference at the front, behind its `&`, and what is behind the reference.
+/// Returns the character of the reference at the start, after its `&`, and the rest.
 #[tactic(auto, unfolding(crate::specs::Reading::reference_at))]
 pub fn reference(bytes: &[u8]) -> Option<(char, &[u8])>
     ensures { Gives (λ x. (x.0, x.1.now)) result (reading.reference_at bytes.now) }

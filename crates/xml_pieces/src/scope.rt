@@ -1,4 +1,4 @@
-//! The namespaces that are bound where a reader stands.
+//! The namespace bindings that are in scope at a reader's position.
 ghost use Rattle.std.specs.Prelude.{◌≡◌, ◌≤◌, ◌∷◌, ◌++◌, ◌-◌, [], take, length, reverse, IfOk, OnOk};
 ghost use Rattle.std.specs.Option.{option_map};
 ghost use Rattle.base_texts.specs.Entries.{beside};
@@ -18,8 +18,8 @@ struct Binding<'a> {
     hidden: Option<usize>,
 }
 
-/// The bindings in scope, each a prefix with a namespace, seen with the outermost first. A prefix is found in time in
-/// proportion to the logarithm of how many prefixes are bound, whatever names a stranger chooses.
+/// The bindings in scope, each a prefix with a namespace, seen with the outermost first. A prefix is found in time logarithmic in
+/// the number of bound prefixes, even for hostile input.
 #[derive(Drop)]
 pub struct BindingsInScope<'a> {
     // The outermost first.
@@ -40,7 +40,7 @@ impl<'a> Model for BindingsInScope<'a> {
 }
 
 impl<'a> BindingsInScope<'a> {
-    /// What is bound outside the root.
+    /// Returns the bindings in scope outside the root.
     pub fn new(alloc: Global) -> Result<BindingsInScope<'a>, Memory>
         ensures { IfOk result (λ scope. scope ≡ (xml_prefix, xml_space) ∷ []) }
     {
@@ -67,14 +67,14 @@ impl<'a> BindingsInScope<'a> {
         match self.innermost.insert(prefix, place) {
             Ok(_) => Ok(()),
             Err(_) => {
-                // The binding is taken back.
+                // The binding is removed.
                 let _ = self.bindings.pop();
                 Err(Memory)
             }
         }
     }
 
-    // Takes the innermost binding away.
+    // Removes the innermost binding.
     fn pop(&mut self)
         ensures { self.new ≡ take (length self.old - 1) self.old }
     {
@@ -95,13 +95,13 @@ impl<'a> BindingsInScope<'a> {
                 }
             }
             None => {
-                // Its place is that of the binding that was taken away.
+                // Its place is that of the binding that was removed.
                 let _ = self.innermost.remove(prefix);
             }
         }
     }
 
-    /// Takes the innermost bindings away.
+    /// Removes the innermost `count` bindings.
     #[inline(always)]
     pub fn leave(&mut self, count: usize)
         ensures { self.new ≡ take (length self.old - count) self.old }
@@ -111,7 +111,7 @@ impl<'a> BindingsInScope<'a> {
         }
     }
 
-    /// The namespace of a prefix.
+    /// Returns the namespace of a prefix.
     pub fn bound_to(&self, prefix: &[u8]) -> Option<&Text>
         ensures { option_map (λ space. space.now) result ≡ beside prefix.now (reverse self.now) }
     {

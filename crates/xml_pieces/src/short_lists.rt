@@ -3,7 +3,7 @@ ghost use Rattle.std.specs.Prelude.{◌≡◌, ◌≤◌, ◌∷◌, ◌++◌, [
 
 use base_texts::Memory;
 
-/// Adds an item. An empty list makes room for so many and no more.
+/// Appends an item. An empty list reserves room for exactly this number of items.
 #[inline(always)]
 pub fn push<T: Drop>(list: &mut Vec<T>, room: usize, item: T) -> Result<(), Memory>
     requires { 1 ≤ room }

@@ -11,7 +11,7 @@ use crate::value::{is_loose_value, value};
 use base_texts::Memory;
 use std::alloc::Global;
 
-// White space, a Name, `=` and a text in quotes: the name, the text, and what is behind.
+// White space, a Name, `=` and a text in quotes. The results are the name, the text, and the rest.
 #[inline(always)]
 #[tactic(auto, unfolding(crate::specs::Reading::written_at))]
 pub fn written(bytes: &[u8]) -> Option<(&[u8], &[u8], &[u8])>
@@ -42,7 +42,7 @@ fn attribute<'a>(
     Ok(Some((Attribute { name, value }, rest)))
 }
 
-// All attributes at the front, and what is behind them.
+// All attributes at the start, and the rest.
 fn attributes<'a>(alloc: Global, bytes: &'a [u8]) -> Result<(Vec<Attribute<'a>>, &'a [u8]), Memory>
     requires { IsUtf8 bytes.now }
     ensures { IfOk result (λ x. many (attribute_at Exact) (length bytes.now) bytes.now ≡ (map attribute_of x.0.items, x.1.now)) }
@@ -56,7 +56,7 @@ fn attributes<'a>(alloc: Global, bytes: &'a [u8]) -> Result<(Vec<Attribute<'a>>,
     Ok((list, rest))
 }
 
-// What is behind a `>` at the front.
+// The rest after a `>` at the start.
 #[inline(always)]
 fn past_end(bytes: &[u8]) -> Option<&[u8]>
     ensures { Gives (λ x. x.now) result (behind (codes ">") bytes.now) }
@@ -65,7 +65,7 @@ fn past_end(bytes: &[u8]) -> Option<&[u8]>
     if *first == b'>' { Some(rest) } else { None }
 }
 
-// What is behind a `>` with white space before it. Mostly there is none.
+// The rest after a `>` with optional white space before it. Mostly there is none.
 #[inline(always)]
 fn past_spaced_end(bytes: &[u8]) -> Option<&[u8]>
     ensures { Gives (λ x. x.now) result (behind (codes ">") (past_blank bytes.now)) }
@@ -76,7 +76,7 @@ fn past_spaced_end(bytes: &[u8]) -> Option<&[u8]>
     }
 }
 
-// What goes on behind the Name of a start tag or empty tag.
+// The start tag or empty tag with this Name, from the bytes after the Name, and the rest.
 #[inline(never)]
 #[tactic(auto, unfolding(crate::specs::Reading::shut_at))]
 fn tag_of<'a>(
@@ -100,7 +100,7 @@ fn tag_of<'a>(
     Ok(None)
 }
 
-/// The start tag or empty tag at the front, behind its `<`. Most are start tags without attributes.
+/// Returns the start tag or empty tag at the start, after its `<`, and the rest. Most are start tags without attributes.
 #[tactic(auto, unfolding(crate::specs::Reading::tag_at))]
 pub fn tag<'a>(alloc: Global, bytes: &'a [u8]) -> Result<Option<(Found<'a>, &'a [u8])>, Memory>
     requires { IsUtf8 bytes.now }
@@ -118,7 +118,7 @@ pub fn tag<'a>(alloc: Global, bytes: &'a [u8]) -> Result<Option<(Found<'a>, &'a 
     }
 }
 
-/// The end tag at the front, behind its `</`.
+/// Returns the end tag at the start, after its `</`, and the rest.
 #[tactic(auto, unfolding(crate::specs::Reading::end_at))]
 pub fn end_tag(bytes: &[u8]) -> Option<(Found<'_>, &[u8])>
     requires { IsUtf8 bytes.now }

@@ -1,4 +1,4 @@
-//! Parts of texts, read from the front.
+//! Parts of texts, read from the start.
 ghost use Rattle.std.specs.Prelude.{◌≡◌, ◌≤◌, ◌==◌, IfSome, IsUtf8, Some, length, not, take, chars};
 ghost use Rattle.std.specs.List.{prefix_len, list_any, list_all};
 ghost use Rattle.base_texts.specs.Characters as xml;
@@ -10,14 +10,14 @@ ghost use Rattle.xml_pieces.specs.Reading.{Gives, past_blank, space_at, equals_a
 
 use base_texts::{is_name_text, is_white_space, is_xml_char, utf8_text};
 
-// What is behind this front.
+// The rest after this prefix.
 pub fn strip<'a>(front: &[u8], bytes: &'a [u8]) -> Option<&'a [u8]>
     ensures { Gives (λ x. x.now) result (behind front.now bytes.now) }
 {
     bytes.strip_prefix(front)
 }
 
-// What stands before the first place of the mark, and what is behind the mark.
+// The part before the first place of the mark, and the rest after the mark.
 pub fn until<'a>(mark: &[u8], bytes: &'a [u8]) -> Option<(&'a [u8], &'a [u8])>
     ensures { Gives (λ x. (x.0.now, x.1.now)) result (reading.until mark.now bytes.now) }
 {
@@ -39,14 +39,14 @@ fn blank_len(bytes: &[u8]) -> usize
     bytes.iter().take_while(|b| is_white_space(**b)).count()
 }
 
-// What is behind any white space.
+// The rest after any white space.
 pub fn skip_blank(bytes: &[u8]) -> &[u8]
     ensures { result.now ≡ past_blank bytes.now }
 {
     &bytes[blank_len(bytes)..]
 }
 
-// What is behind some white space.
+// The rest after white space, of which there must be some.
 #[tactic(auto, unfolding(crate::specs::Reading::space_at))]
 pub fn space(bytes: &[u8]) -> Option<&[u8]>
     ensures { Gives (λ x. x.now) result (space_at bytes.now) }
@@ -58,7 +58,7 @@ pub fn space(bytes: &[u8]) -> Option<&[u8]>
     Some(&bytes[n..])
 }
 
-// What is behind `=` with white space round it.
+// The rest after `=` with optional white space around it.
 #[tactic(auto, unfolding(crate::specs::Reading::equals_at))]
 pub fn equals(bytes: &[u8]) -> Option<&[u8]>
     ensures { Gives (λ x. x.now) result (equals_at bytes.now) }
@@ -83,7 +83,7 @@ fn upto(byte: u8, bytes: &[u8]) -> Option<(&[u8], &[u8])>
     Some((front, rest))
 }
 
-// A text in quotes, and what is behind it.
+// A text in quotes, and the rest.
 #[tactic(auto, unfolding(crate::specs::Reading::quoted_at))]
 pub fn quoted(bytes: &[u8]) -> Option<(&[u8], &[u8])>
     ensures { Gives (λ x. (x.0.now, x.1.now)) result (quoted_at bytes.now) }
@@ -128,7 +128,8 @@ fn is_ascii_start(b: u8) -> bool
     }
 }
 
-// Small letters first, since most names have no others; and the bytes that end a name, all below the letters, apart.
+// Lower-case letters are tested first, since most names have no others. The bytes that end a name, all below the letters, are
+// tested separately.
 #[inline(always)]
 #[tactic(auto, unfolding(crate::specs::Reading::is_ascii_part))]
 fn is_ascii_part(b: u8) -> bool
@@ -149,7 +150,7 @@ fn are_ascii_parts(bytes: &[u8]) -> bool
     bytes.iter().all(|b| is_ascii_part(*b))
 }
 
-// Whether the bytes are a Name of ASCII characters alone, as most names are: a test that decodes nothing.
+// Whether the bytes are a Name of ASCII characters only, as most names are. This test decodes nothing.
 fn is_ascii_name(bytes: &[u8]) -> bool
     ensures { result ≡ reading.is_ascii_name bytes.now }
 {
@@ -187,7 +188,7 @@ fn are_ncname_parts(bytes: &[u8]) -> bool
     bytes.iter().all(|b| is_ncname_part(*b))
 }
 
-/// Whether the bytes are an NCName of ASCII characters alone, as most names are: a test that decodes nothing.
+/// Returns whether the bytes are an NCName of ASCII characters only, as most names are. This test decodes nothing.
 pub fn is_ascii_ncname(bytes: &[u8]) -> bool
     ensures { result ≡ reading.is_ascii_ncname bytes.now }
 {
@@ -209,7 +210,7 @@ fn is_name(bytes: &[u8]) -> bool
     is_name_text(utf8_text(bytes))
 }
 
-// How many bytes there are before the first with which no Name of ASCII characters goes on.
+// The number of bytes before the first that can't be in a Name of ASCII characters.
 fn part_len(bytes: &[u8]) -> usize
     ensures value { result ≡ prefix_len reading.is_ascii_part bytes.now }
     ensures within { result ≤ length bytes.now }
@@ -235,7 +236,7 @@ fn starts_low(bytes: &[u8]) -> bool
     }
 }
 
-// A Name, where it is of ASCII characters alone, and what is behind it: one walk over its bytes.
+// A Name of ASCII characters only, and the rest, in one pass over its bytes.
 #[inline(always)]
 fn plain_name(bytes: &[u8]) -> Option<(&[u8], &[u8])>
     ensures { IfSome result (λ x. name_at bytes.now ≡ Some (x.0.now, x.1.now)) }
@@ -248,7 +249,7 @@ fn plain_name(bytes: &[u8]) -> Option<(&[u8], &[u8])>
     }
 }
 
-// A Name, and what is behind it.
+// A Name, and the rest.
 #[inline]
 #[tactic(auto, unfolding(crate::specs::Reading::name_at))]
 pub fn name(bytes: &[u8]) -> Option<(&[u8], &[u8])>
@@ -261,7 +262,7 @@ pub fn name(bytes: &[u8]) -> Option<(&[u8], &[u8])>
     }
 }
 
-// A Name of any characters, and what is behind it.
+// A Name of any characters, and the rest.
 #[inline(never)]
 #[tactic(auto, unfolding(crate::specs::Reading::name_at))]
 fn any_name(bytes: &[u8]) -> Option<(&[u8], &[u8])>
@@ -276,7 +277,7 @@ fn any_name(bytes: &[u8]) -> Option<(&[u8], &[u8])>
     }
 }
 
-// Whether there is nothing, or white space first.
+// Whether the bytes are empty or begin with white space.
 pub fn is_apart(bytes: &[u8]) -> bool
     ensures { result ≡ pieces.is_apart bytes.now }
 {

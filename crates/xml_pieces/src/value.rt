@@ -13,7 +13,7 @@ use crate::text::{is_text, len_before, strip};
 use base_texts::Memory;
 use std::alloc::Global;
 
-// How many bytes there are before the first CR.
+// The number of bytes before the first CR.
 fn line_len(bytes: &[u8]) -> usize
     ensures value { result ≡ prefix_len (λ b. not (b == 0xD)) bytes.now }
     ensures within { result ≤ length bytes.now }
@@ -28,7 +28,7 @@ fn append(text: &mut Vec<u8>, bytes: &[u8]) -> Result<(), Memory>
     Ok(())
 }
 
-// Whether a LF comes first.
+// Whether the first byte is LF.
 fn starts_line(bytes: &[u8]) -> bool
     ensures { result ≡ pieces.starts (0xA ∷ []) bytes.now }
 {
@@ -53,7 +53,7 @@ fn append_line_ends(text: &mut Vec<u8>, bytes: &[u8]) -> Result<(), Memory>
     }
 }
 
-/// The bytes with each line end as LF, as XML 1.0, section 2.11, says.
+/// Returns the bytes with each line end as LF (XML 1.0, section 2.11).
 pub fn with_line_ends<'a>(alloc: Global, bytes: &'a [u8]) -> Result<Value<'a>, Memory>
     ensures { IfOk result (λ value. bytes_of value ≡ line_ends bytes.now) }
 {
@@ -72,7 +72,7 @@ fn is_line_start(byte: u8, after: &[u8]) -> bool
     byte == b'\r' && starts_line(after)
 }
 
-// How many bytes there are before the first that a value doesn't keep.
+// The number of bytes before the first that a value changes.
 fn kept_len(bytes: &[u8]) -> usize
     ensures value { result ≡ prefix_len (λ b. not (b == 0x9 || b == 0xA || b == 0xD)) bytes.now }
     ensures within { result ≤ length bytes.now }
@@ -108,7 +108,7 @@ fn append_char(value: &mut Vec<u8>, c: char) -> Result<(), Memory>
     append(value, c.encode_utf8(&mut bytes).as_bytes())
 }
 
-// The character of a reference at the front, the run of other characters behind it, and what is behind that.
+// The character of a reference at the start, the run of other characters after it, and the rest.
 #[tactic(auto, unfolding(crate::specs::Reading::mention_at))]
 fn mention(bytes: &[u8]) -> Option<(char, &[u8], &[u8])>
     ensures { Gives (λ x. (encode_utf8 x.0 ++ spaced_ends x.1.now, x.2.now)) result (mention_at bytes.now) }
@@ -134,7 +134,7 @@ fn replaced(alloc: Global, written: &[u8]) -> Result<Option<Vec<u8>>, Memory>
     Ok(if rest.is_empty() { Some(value) } else { None })
 }
 
-// Whether the text of a value is the value itself.
+// Whether the text of a value is its value.
 fn is_kept(written: &[u8]) -> bool
     ensures { result ≡ list_all (λ b. not (b == 0x26 || b == 0x9 || b == 0xA || b == 0xD)) written.now }
 {
@@ -143,7 +143,7 @@ fn is_kept(written: &[u8]) -> bool
         .all(|b| !matches!(*b, b'&' | b'\t' | b'\n' | b'\r'))
 }
 
-/// Whether the text may stand as a value if each `&` were a plain character.
+/// Returns whether the text would be a valid attribute value if each `&` were a plain character.
 pub fn is_loose_value(written: &[u8]) -> bool
     requires { IsUtf8 written.now }
     ensures { result ≡ reading.is_loose written.now }
@@ -151,7 +151,7 @@ pub fn is_loose_value(written: &[u8]) -> bool
     is_text(written) && !written.contains(&b'<')
 }
 
-/// The value that the text between its quotes gives.
+/// Returns the value of an attribute from the text between its quotes.
 #[tactic(auto, unfolding(crate::specs::Reading::value_of))]
 pub fn value<'a>(alloc: Global, written: &'a [u8]) -> Result<Option<Value<'a>>, Memory>
     requires { IsUtf8 written.now }

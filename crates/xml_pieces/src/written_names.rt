@@ -1,4 +1,4 @@
-//! What stands against names as written, and what they bind.
+//! Errors of names as written, and the bindings that they make.
 ghost use Rattle.std.specs.Prelude.{◌≡◌, IsTrue};
 ghost use Rattle.xml_pieces.specs.Namespaces as names;
 ghost use Rattle.xml_pieces.specs.Plain.{IsPlain};
@@ -7,14 +7,14 @@ use crate::qnames::{local_of, prefix_of};
 use crate::text::is_ascii_ncname;
 use base_texts::{XML_SPACE, XMLNS_SPACE, is_short_part};
 
-/// Whether it is of ASCII characters, and there is nothing against it, and no prefix: as most names.
+/// Returns whether the name has only ASCII characters, no prefix and no error, as most names have.
 pub fn is_ascii_name_alone(written: &[u8]) -> bool
     ensures { IsTrue result → IsPlain written.now }
 {
     is_short_part(written) && is_ascii_ncname(written)
 }
 
-/// Whether its prefix or its local name is over 255 bytes.
+/// Returns whether the prefix or the local name of a name has over 255 bytes.
 #[tactic(auto, unfolding(crate::specs::Namespaces::is_long))]
 pub fn is_long(written: &[u8]) -> bool
     ensures { result ≡ names.is_long written.now }
@@ -25,7 +25,7 @@ pub fn is_long(written: &[u8]) -> bool
     !(is_short_part(prefix_of(written)) && is_short_part(local_of(written)))
 }
 
-/// Whether an attribute of this name binds a namespace. Most don't begin as those that do.
+/// Returns whether an attribute of this name binds a namespace. Most names differ from these at the start.
 #[inline(always)]
 #[tactic(auto, unfolding(crate::specs::Namespaces::binds))]
 pub fn binds(written: &[u8]) -> bool
@@ -35,7 +35,7 @@ pub fn binds(written: &[u8]) -> bool
         && (written == b"xmlns".as_slice() || prefix_of(written) == b"xmlns".as_slice())
 }
 
-/// The prefix that it binds, empty for the default namespace.
+/// Returns the prefix that an attribute of this name binds, empty for the default namespace.
 #[tactic(auto, unfolding(crate::specs::Namespaces::bound_prefix))]
 pub fn bound_prefix(written: &[u8]) -> &[u8]
     ensures { result.now ≡ names.bound_prefix written.now }
@@ -47,7 +47,7 @@ pub fn bound_prefix(written: &[u8]) -> &[u8]
     }
 }
 
-/// Whether a prefix or a namespace is reserved, so that these may not be bound to each other.
+/// Returns whether a prefix or a namespace is reserved, so that the one may not be bound to the other.
 #[tactic(auto, unfolding(crate::specs::Namespaces::is_reserved))]
 pub fn is_reserved(prefix: &[u8], space: &[u8]) -> bool
     ensures { result ≡ names.is_reserved (prefix.now, space.now) }

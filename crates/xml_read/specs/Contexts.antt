@@ -1,4 +1,4 @@
--- Where a piece of a document stands, and the reasons that may stand against it.
+-- The context of a piece of a document, and the reasons against a piece in its context.
 use Rattle.std.specs.Prelude.{◌==◌, ◌+◌, ℕ, Bool, true, false, ◌&&◌, ◌||◌, not, nat_le, min, List, [], ◌∷◌, ◌++◌, length, map, bytes_eq, Option, if◌then◌else◌}
 use Rattle.std.specs.List.{list_any, flat_map}
 use Rattle.base_texts.specs.Entries.{first_true}
@@ -11,7 +11,7 @@ use Rattle.xml_read.specs.declared.error.DocWhy.TheVariants as why
 use Rattle.xml_pieces.specs.Namespaces.{is_long, bindings_of, plain_of, is_reserved, is_unbound, attributes_of, written_twice, expanded_twice}
 use Rattle.xml_pieces.specs.QNames.{prefix_of, is_qname}
 
--- an element that is open: its name as written, and what it binds, each a prefix with a namespace
+-- An element that is open: its name as written, and its bindings, each a prefix with a namespace.
 pub record Open : Type 0 where
   pub written : List ℕ
   pub declares : List (List ℕ × List ℕ)
@@ -21,9 +21,9 @@ pub record Context : Type 0 where
   pub elements : List Open
   -- the root has ended
   pub ended : Bool
-  -- no piece stands before
+  -- no piece precedes
   pub first : Bool
-  -- how many character pieces `]` stand directly before, where 2 stands for more
+  -- the number of character pieces `]` directly before, where 2 means 2 or more
   pub brackets : ℕ
 
 abbrev pub start : Context
@@ -37,7 +37,7 @@ is_outside c = is_empty c.elements
 abbrev pub scope : Context → List (List ℕ × List ℕ)
 scope c = flat_map (λ e. e.declares) c.elements ++ (xml_prefix, xml_space) ∷ []
 
--- within the tag itself: outer is in scope outside
+-- The bindings in scope within the tag itself, where `outer` is in scope outside.
 abbrev pub tag_scope : Tag → List (List ℕ × List ℕ) → List (List ℕ × List ℕ)
 tag_scope tag outer = bindings_of tag.attributes ++ outer
 
@@ -65,7 +65,7 @@ abbrev pub is_innermost : List ℕ → List Open → Bool
 is_innermost written [] = false
 is_innermost written (e ∷ es) = bytes_eq e.written written
 
--- of a start or empty tag; depth is the number of elements that are open
+-- The tests of a start or empty tag; depth is the number of open elements.
 abbrev pub start_tests : Tag → List (List ℕ × List ℕ) → Bool → ℕ → List (Bool × DocWhy)
 start_tests tag outer ended depth =
     (has_bad_name tag, why.BadName)
@@ -85,7 +85,7 @@ end_tests written outer elements =
     ∷ (not (is_innermost written elements), why.WrongEnd)
     ∷ []
 
--- the reasons that may stand against a piece, in their order
+-- The possible reasons against a piece, in their order, each with its test.
 abbrev pub tests : Piece → Context → List (Bool × DocWhy)
 tests Declaration c = (not c.first, why.NoPiece) ∷ []
 tests (Start tag) c = start_tests tag (scope c) c.ended (length c.elements)
@@ -105,7 +105,7 @@ start_reason tag outer ended depth = first_true (start_tests tag outer ended dep
 unfoldable pub reason : Piece → Context → Option DocWhy
 reason piece c = first_true (tests piece c)
 
--- ---- the context behind a piece
+-- ---- the context after a piece
 
 abbrev pub inner : List Open → List Open
 inner [] = []

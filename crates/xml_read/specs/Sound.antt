@@ -1,4 +1,4 @@
--- What each tree of items keeps, by XML 1.0 and Namespaces in XML 1.0 and within the limits of this program.
+-- The conditions on trees of items, by XML 1.0 and Namespaces in XML 1.0 and within the limits of this program.
 use Rattle.std.specs.Prelude.{◌≡◌, ℕ, suc, max, Bool, true, false, ◌&&◌, ◌||◌, not, ◌≤◌, ◌<◌, ◌^◌, List, [], ◌∷◌, bytes_eq}
 use Rattle.std.specs.List.{list_all}
 use Rattle.base_texts.specs.Limits.{is_empty, has_xml_chars, is_namespace, is_name_part, is_xmlns}
@@ -10,11 +10,11 @@ use Rattle.xml_items.specs.declared.label.ItemLabel.TheVariants.{Element, Text}
 use Rattle.xml_items.specs.Labels.{MayHave}
 pub use Rattle.xml_pieces.specs.Namespaces.{has_name}
 
--- a namespace but that of `xmlns`, which no name has (Namespaces in XML 1.0, section 3)
+-- A namespace except that of `xmlns`, in which no name is (Namespaces in XML 1.0, section 3).
 abbrev pub is_sound_space : List ℕ → Bool
 is_sound_space space = is_namespace space && not (bytes_eq space xmlns_space)
 
--- an expanded name: a namespace, empty where there is none, and an NCName
+-- An expanded name: a namespace, empty for no namespace, and an NCName.
 abbrev pub is_sound_name : Name → Bool
 is_sound_name name = is_sound_space name.space && is_name_part name.local
 
@@ -22,13 +22,13 @@ is_sound_name name = is_sound_space name.space && is_name_part name.local
 abbrev pub is_sound_attribute : Name × List ℕ → Bool
 is_sound_attribute attribute = is_sound_name attribute.0 && not (is_xmlns attribute.0) && has_xml_chars attribute.1
 
--- no two have one name (Namespaces in XML 1.0, section 6.3)
+-- The attributes are sound, and no two have the same name (Namespaces in XML 1.0, section 6.3).
 abbrev pub are_sound_attributes : List (Name × List ℕ) → Bool
 are_sound_attributes [] = true
 are_sound_attributes (attribute ∷ attributes) =
     is_sound_attribute attribute && not (has_name attribute.0 attributes) && are_sound_attributes attributes
 
--- a prefix, empty for the default, with a namespace, which is empty only where the default is taken away
+-- A prefix, empty for the default, with a namespace, which is empty only where the default is undeclared.
 abbrev pub is_sound_binding : List ℕ × List ℕ → Bool
 is_sound_binding binding = (is_empty binding.0 || (is_name_part binding.0 && not (is_empty binding.1))) && is_sound_space binding.1
 
@@ -41,12 +41,12 @@ abbrev pub is_text : ItemLabel → Bool
 is_text (Element name attributes declares at) = false
 is_text (Text text at) = true
 
--- a text stands first
+-- The first item is a text.
 abbrev pub begins_with_text : Roses ItemLabel → Bool
 begins_with_text none = false
 begins_with_text (more (node label kids) items) = is_text label
 
--- each label is sound, and no two texts are neighbours
+-- Each label is sound, and no two texts are adjacent.
 abbrev mutual
   pub is_sound : Rose ItemLabel → Bool
   is_sound (node label kids) = is_sound_label label && are_sound kids
@@ -59,7 +59,7 @@ abbrev mutual
 abbrev pub is_element : Rose ItemLabel → Bool
 is_element (node label kids) = not (is_text label)
 
--- how many levels of elements; the root has depth 1
+-- The number of levels of elements. The root has depth 1.
 abbrev mutual
   pub levels : Rose ItemLabel → ℕ
   levels (node (Element name attributes declares at) kids) = suc (levels_all kids)

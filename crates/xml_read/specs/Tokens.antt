@@ -1,4 +1,4 @@
--- A tree of items as what it tells from left to right: the starts and ends of its elements, and its texts.
+-- A tree of items as tokens from left to right: the starts and ends of its elements, and its texts.
 use Rattle.std.specs.Prelude.{ℕ, ◌+◌, ◌≤◌, ◌<◌, List, [], ◌∷◌, ◌++◌}
 use Rattle.base_texts.specs.declared.texts.Name.{Name}
 use Rattle.base_trees.specs.Rose.{Rose, node, Roses, none, more}
@@ -19,7 +19,7 @@ abbrev mutual
   tokens_all none = []
   tokens_all (more t ts) = tokens t ++ tokens_all ts
 
--- characters before what follows them: with a text that follows they make one text, at their own place; no characters make none
+-- Characters before these tokens. With a text that follows they make one text, at their own place. No characters make no text.
 abbrev pub join : List ℕ → ℕ → List Token → List Token
 join [] at ts = ts
 join (b ∷ bs) at [] = Words (b ∷ bs) at ∷ []
@@ -27,7 +27,7 @@ join (b ∷ bs) at (Words text place ∷ ts) = Words ((b ∷ bs) ++ text) at ∷
 join (b ∷ bs) at (Opens name attributes declares place ∷ ts) = Words (b ∷ bs) at ∷ Opens name attributes declares place ∷ ts
 join (b ∷ bs) at (Closes ∷ ts) = Words (b ∷ bs) at ∷ Closes ∷ ts
 
--- the places ascend from this least one on and stay below the bound; what stands next behind an element is at least two bytes above it
+-- The places ascend from `least` and are below the bound. The next place after an element's is at least 2 greater.
 abbrev pub Ascend : ℕ → ℕ → List Token → Type 0
 Ascend least bound [] = Unit {0}
 Ascend least bound (Opens name attributes declares at ∷ ts) = (least ≤ at) × (at < bound) × Ascend (at + 2) bound ts

@@ -1,4 +1,4 @@
-//! What a reader has so far, and its step at each piece.
+//! The state of a reader, and its step at each piece.
 ghost use Rattle.std.specs.Prelude.{if◌then◌else◌, cond, not, true, false, string_bytes, nat_le, encode_utf8, ◌≡◌, ◌==◌, ◌<◌, ◌≤◌, ◌&&◌, ◌∷◌, [], None, reverse, take, IfOk, IfErr, IfSome, IsUtf8, MatchOption, OnOk, length, ℕ, ◌+◌};
 ghost use Rattle.base_texts.specs.WhiteSpace.{is_white_space};
 ghost use Rattle.base_texts.specs.Limits.{is_empty};
@@ -28,27 +28,27 @@ use xml_pieces::{BindingsInScope, Element, Found, is_long, is_qname, plain_run, 
 pub(crate) struct Builder<'a> {
     alloc: Global,
     scope: BindingsInScope<'a>,
-    // The nodes so far. Those that are open are the elements that are open.
+    // The nodes so far. The open nodes are the open elements.
     items: ItemBuilder,
-    // The names of these as written, the innermost last.
+    // The written names of the open elements, the innermost last.
     open: Vec<&'a [u8]>,
-    // The names of tags that were read where the same bindings are in scope.
+    // The names of tags that were read while the same bindings were in scope.
     notes: Notes<'a>,
-    // The characters behind these, which are no node yet.
+    // The characters after these nodes, which are no node yet.
     text: String,
     text_at: u64,
     pub(crate) ended: bool,
     pub(crate) first: bool,
-    // How many literal `]` stand directly before, where 2 stands for more.
+    // The number of literal `]` directly before, where 2 means 2 or more.
     brackets: u8,
 }
 
-// What begins an element.
+// The input that begins an element.
 #[derive(Clone, Copy)]
 pub(crate) enum Opening<'t, 'a> {
     // A start tag as it was read.
     Read(&'t Element<'a>),
-    // A start tag without attributes, of a name that is noted.
+    // A start tag without attributes, whose name has a note.
     Noted(&'t Note<'a>),
     // Such a tag, then `len` plain characters, then the end tag.
     Leaf {
@@ -65,14 +65,14 @@ fn is_white_char(c: char) -> bool
     matches!(c, ' ' | '\t' | '\n' | '\r')
 }
 
-// Whether the character is a `>` behind `]]`.
+// Whether the character is a `>` after `]]`.
 fn is_closing(c: char, brackets: u8) -> bool
     ensures { result ≡ (c == 0x3E && nat_le 2 brackets) }
 {
     c == '>' && brackets >= 2
 }
 
-// How many literal `]` stand behind this character.
+// The number of literal `]` up to and including this character.
 fn count_brackets(c: char, before: u8) -> u8
     ensures { result ≡ brackets_after c before }
 {
@@ -86,7 +86,7 @@ fn count_brackets(c: char, before: u8) -> u8
 }
 
 impl<'a> Builder<'a> {
-    // Nothing is read yet, and the builder of items has none.
+    // A reader that has read nothing, with an empty builder of items.
     pub(crate) fn new(alloc: Global, items: ItemBuilder) -> Result<Builder<'a>, Memory>
         requires { items.zip ≡ zips.nothing }
         ensures { IfOk result Begins }
@@ -135,8 +135,8 @@ impl<'a> Builder<'a> {
         }
     }
 
-    // Opens an element, or reports what speaks against its start tag. A tag is read in full only if its name has no note.
-    // Of an element in which characters are alone, the characters and the end follow at once.
+    // Opens an element, or reports the first error of its start tag. A tag is read in full only if its name has no note. If an
+    // element has only characters, its characters and its end tag are read in the same step.
     #[inline(always)]
     fn open_by(&mut self, opening: Opening<'_, 'a>, at: u64) -> Result<(), DocError>
         requires scoped { Scoped self.old }
@@ -209,7 +209,7 @@ impl<'a> Builder<'a> {
         self.empty_read(&tag, at)
     }
 
-    // An empty tag without attributes, of a name that is noted.
+    // An empty tag without attributes, whose name has a note.
     fn empty_noted(&mut self, written: &'a [u8], name: ElementName, at: u64) -> Result<(), DocError>
         requires scoped { Scoped self.old }
         requires known { KnownAs (reverse self.old.scope) self.old.items.names written.now name }
@@ -225,7 +225,7 @@ impl<'a> Builder<'a> {
         Ok(())
     }
 
-    // What is noted stays, since the bindings of the element are in scope within its tag alone.
+    // The notes stay, since the bindings of the element are in scope only within its tag.
     fn empty_read(&mut self, tag: &Element<'a>, at: u64) -> Result<(), DocError>
         requires scoped { Scoped self.old }
         requires utf8 { have_utf8 (tag_seen tag.now).attributes ≡ true }
@@ -273,7 +273,7 @@ impl<'a> Builder<'a> {
         }
     }
 
-    // Ends the innermost element, behind whose kids no characters stand.
+    // Ends the innermost element, when no characters remain to be added to it.
     fn close(&mut self)
         requires scoped { Scoped self.old }
         requires text { string_bytes self.old.text ≡ [] }
@@ -304,7 +304,7 @@ impl<'a> Builder<'a> {
         Ok(())
     }
 
-    // What is behind the end tag of the innermost element, where its name and a `>` stand behind `</`.
+    // The rest after the end tag of the innermost element, if its name and a `>` follow `</`.
     #[inline(always)]
     fn past_end<'b>(&self, written: &'b [u8]) -> Option<&'b [u8]>
         ensures { IfSome result (λ behind. EndsInnermost written.now behind.now (context (state self.now))) }
@@ -315,7 +315,7 @@ impl<'a> Builder<'a> {
         }
     }
 
-    // Takes the end tag of the innermost element, if its name and a `>` stand behind `</`. What is behind it, or nothing.
+    // Reads the end tag of the innermost element, if its name and a `>` follow `</`. Returns the rest after it, or `None`.
     #[inline(always)]
     fn take_end(&mut self, written: &'a [u8]) -> Result<Option<&'a [u8]>, Memory>
         requires { Scoped self.old }
@@ -329,8 +329,8 @@ impl<'a> Builder<'a> {
         Ok(Some(behind))
     }
 
-    // Takes a start tag without attributes, if the bytes after `<` are as was guessed. Takes the complete element if only
-    // plain characters and its end tag follow. Returns the bytes after it, or nothing.
+    // Reads a start tag without attributes, if the bytes after `<` are as guessed. Reads the complete element if only plain
+    // characters and its end tag follow. Returns the rest after it, or `None`.
     #[inline(always)]
     fn take_start(&mut self, tag: &'a [u8], at: u64) -> Result<Option<&'a [u8]>, DocError>
         requires scoped { Scoped self.old }
@@ -358,8 +358,8 @@ impl<'a> Builder<'a> {
         }
     }
 
-    // Takes what is first, if it is a tag as one before, or an element that begins so. Returns the bytes after it, or
-    // nothing.
+    // Reads a tag that was read before, or an element that begins with one, if it is at the start. Returns the rest after it, or
+    // `None`.
     #[inline(always)]
     pub(crate) fn take_known(
         &mut self,
@@ -382,7 +382,7 @@ impl<'a> Builder<'a> {
         }
     }
 
-    // How many bytes of plain characters stand first, where an element is open.
+    // The number of bytes of plain characters at the start, or 0 outside the root.
     pub(crate) fn plain_len(&self, rest: &[u8]) -> usize
         requires { IsUtf8 rest.now }
         ensures longest { result ≡ (if is_outside (context (state self.now)) then 0 else prefix_len is_plain_byte rest.now) }
@@ -396,7 +396,7 @@ impl<'a> Builder<'a> {
         plain_run(rest)
     }
 
-    // Adds characters to the text, or leaves them out outside the root.
+    // Adds characters to the text, or drops them outside the root.
     pub(crate) fn add(&mut self, text: &str, at: u64, brackets: u8) -> Result<(), Memory>
         ensures state { OnOk result (state self.new ≡ added text.now at brackets (state self.old)) }
         ensures kept { OnOk result (Kept self.old self.new) }
@@ -526,7 +526,7 @@ impl<'a> Builder<'a> {
         Ok(())
     }
 
-    // Takes a piece, or says what speaks against it.
+    // Reads a piece, or reports the first reason against it.
     pub(crate) fn take(&mut self, found: Found<'a>, at: u64) -> Result<(), DocError>
         requires scoped { Scoped self.old }
         requires utf8 { GivesUtf8 (seen found) }

@@ -1,4 +1,4 @@
-//! Why bytes are no document.
+//! The reasons why bytes are not a document.
 ghost use Rattle.std.specs.Prelude.{◌≡◌};
 ghost use Rattle.xml_read.specs.Reasons.{reason_name};
 ghost use Rattle.xml_read.specs.declared.error.DocError.TheVariants.{Memory as NoMemory};
@@ -8,12 +8,12 @@ use std::alloc::{AllocError, AllocFailed};
 use std::fmt;
 use thiserror::Error;
 
-/// The reasons for which bytes are no document. At one place the first in this order stands.
+/// The reasons for which bytes are not a document. At one place the first reason in this order is reported.
 #[derive(Clone, Copy, Debug, PartialEq, Eq)]
 pub enum DocWhy {
-    /// The bytes aren't UTF-8. The place is the length of the longest front that is; this comes before all others.
+    /// The bytes aren't UTF-8. The place is the length of the longest valid prefix. This reason is reported before all others.
     NotUtf8,
-    /// A document type declaration, which the profile leaves out.
+    /// A document type declaration, which the profile doesn't support.
     Doctype,
     /// The XML declaration names a version other than 1.0.
     Version,
@@ -25,19 +25,19 @@ pub enum DocWhy {
     NoPiece,
     /// A name is neither an NCName nor two of them joined by a colon.
     BadName,
-    /// A prefix or local name is over 255 bytes, or a namespace that is bound over 1,023.
+    /// A prefix or local name has over 255 bytes, or a namespace that is bound over 1,023.
     LongName,
     /// A prefix or a namespace that is reserved is bound.
     ReservedPrefix,
     /// A prefix isn't bound.
     UnboundPrefix,
-    /// One attribute stands twice, by its written or by its expanded name.
+    /// An attribute occurs twice, by its written or by its expanded name.
     DuplicateAttribute,
-    /// An element begins behind the end of the root.
+    /// An element begins after the end of the root.
     ExtraRoot,
     /// An element would have depth 65. The root has depth 1.
     TooDeep,
-    /// An end tag hasn't the name of the element that is open, or none is open.
+    /// An end tag doesn't have the name of the innermost open element, or no element is open.
     WrongEnd,
     /// Characters, a reference or a CDATA section outside the root.
     TextOutside,
@@ -46,7 +46,7 @@ pub enum DocWhy {
 }
 
 impl DocWhy {
-    /// Returns the row of this reason: its name, what it means and what fixes it.
+    /// Returns the row of this reason: its name, its meaning and its remedy.
     pub fn reason(self) -> Reason
         ensures { result.name.now ≡ reason_name self }
     {
@@ -59,7 +59,7 @@ impl DocWhy {
             DocWhy::Doctype => Reason {
                 name: "Doctype",
                 means: "a document type declaration",
-                remedy: "drop it, with the entities replaced",
+                remedy: "drop it, with the entities replaced; ruvkhiska-narrow expands it in a schema",
             },
             DocWhy::Version => Reason {
                 name: "Version",
@@ -69,7 +69,7 @@ impl DocWhy {
             DocWhy::Encoding => Reason {
                 name: "Encoding",
                 means: "an XML declaration with an encoding other than UTF-8 and US-ASCII",
-                remedy: "convert the file: xmllint --encode UTF-8",
+                remedy: "convert the file: xmllint --encode UTF-8; ruvkhiska-narrow converts schemas",
             },
             DocWhy::BadReference => Reason {
                 name: "BadReference",
@@ -143,7 +143,7 @@ impl fmt::Display for DocWhy {
 
 impl std::error::Error for DocWhy {}
 
-/// Why bytes are no document that can be read.
+/// The errors of reading a document.
 #[derive(Clone, Copy, Debug, PartialEq, Eq, Error)]
 pub enum DocError {
     /// The first fault. The place is in bytes from 0.

@@ -8,8 +8,8 @@ use std::alloc::Global;
 use std::marker::Model;
 use xml_items::{ItemLabel, ItemNode, ItemTree};
 
-/// The items of a document: its root element with all that stands in it (XML Information Set). Names are expanded,
-/// texts are whole, and comments and processing instructions are gone.
+/// The items of a document: its root element with everything in it (XML Information Set). Names are expanded, adjacent texts are
+/// joined, and comments and processing instructions are dropped.
 #[derive(Drop)]
 pub struct Items {
     tree: ItemTree,
@@ -32,7 +32,7 @@ impl Model for Items {
 }
 
 impl Items {
-    /// The items that the tree is.
+    /// Returns the items that the tree represents.
     pub fn of(tree: ItemTree) -> Items
         requires { AreItems tree }
         ensures { result ≡ tree }
@@ -40,7 +40,7 @@ impl Items {
         Items { tree }
     }
 
-    /// The root element.
+    /// Returns the root element.
     pub fn root(&self) -> ItemNode<'_>
         ensures root { result ≡ self.now }
         ensures items { AreItems self.now }
@@ -48,7 +48,7 @@ impl Items {
         self.tree.root()
     }
 
-    /// The items as a tree with a list of kids at each node.
+    /// Returns the items as a tree with a list of children at each node.
     pub fn to_tree(&self, alloc: Global) -> Result<Tree<ItemLabel>, Memory>
         ensures tree { IfOk result (λ tree. tree ≡ self.now) }
         ensures items { AreItems self.now }

@@ -1,6 +1,6 @@
 //! Reads the text of an XML document into items, or reports the first fault of its text.
 //!
-//! Read first: docs/XML.md, `specs/Documents` (`DocOf`, `BrokenAt`), then `read_document` in `src/reader.rt`.
+//! Read first: docs/reference/XML.md, `specs/Documents` (`DocOf`, `BrokenAt`), then `read_document` in `src/reader.rt`.
 #![tactic(auto)]
 
 mod builder;

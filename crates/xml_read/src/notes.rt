@@ -1,4 +1,4 @@
-//! Written names of tags with the names that they stand for.
+//! Written names of tags with the names that they denote.
 ghost use Rattle.std.specs.Prelude.{◌≡◌, ◌∷◌, ◌++◌, [], List, ℕ, false, IfSome, OnOk};
 ghost use Rattle.base_texts.specs.declared.texts.Name.{Name};
 ghost use Rattle.xml_read.specs.Private.Noting.{AllKnown, KnownAs};
@@ -7,24 +7,24 @@ use base_texts::Memory;
 use std::alloc::Global;
 use xml_items::ElementName;
 
-// The number of places that a written name may be looked for at, and of notes.
+// The number of places for written names, and the greatest number of notes.
 const LOOKS: usize = 32;
 
-/// Written names of tags, and beside each the number of the name that it stands for where the reader is. Each is looked
-/// for at one place, by its length and its first and last byte, so that it is found by one comparison.
+/// Written names of tags, each with the number of the name that it denotes where the reader is. Each is looked up at one place,
+/// given by its length and its first and last byte, so one comparison finds it.
 #[derive(Drop)]
 pub(crate) struct Notes<'a> {
     pub(crate) written: Vec<&'a [u8]>,
     pub(crate) names: Vec<ElementName>,
-    // By what a written name looks like, where it may stand.
+    // The number of the last note at each place.
     looks: [u32; LOOKS],
-    // By the number of a note, that of the note which came behind it last.
+    // For the number of each note, the number of the note that followed it last.
     after: [u32; LOOKS],
     // The number of the note that came last.
     last: u32,
 }
 
-/// A written name, the number of the name that it stands for, and the number of this note.
+/// A written name, the number of the name that it denotes, and the number of this note.
 #[derive(Drop)]
 pub(crate) struct Note<'a> {
     pub(crate) written: &'a [u8],
@@ -45,7 +45,7 @@ fn look_of(written: &[u8]) -> usize {
 }
 
 impl<'a> Notes<'a> {
-    /// No notes. It takes no memory.
+    /// Returns an empty collection. It allocates nothing.
     pub(crate) fn new(alloc: Global) -> Notes<'a>
         ensures written { result.written.items ≡ [] }
         ensures names { result.names.items ≡ [] }
@@ -73,7 +73,7 @@ impl<'a> Notes<'a> {
         })
     }
 
-    /// The note of this written name.
+    /// Returns the note of this written name.
     #[inline(always)]
     pub(crate) fn find(&self, written: &[u8]) -> Option<Note<'a>>
         ensures same { IfSome result (λ note. note.written.now ≡ written.now) }
@@ -90,7 +90,7 @@ impl<'a> Notes<'a> {
         }
     }
 
-    /// The note that came last behind the one that came now.
+    /// Returns the note that last followed the current one.
     #[inline(always)]
     pub(crate) fn guess(&self) -> Option<Note<'a>>
         ensures { (inside : List (List ℕ × List ℕ)) (names : List Name) → AllKnown inside names self.now.written.items self.now.names.items → IfSome result (λ note. KnownAs inside names note.written.now note.name) }
@@ -99,7 +99,7 @@ impl<'a> Notes<'a> {
         self.noted(number)
     }
 
-    /// The note with this number has come.
+    /// Records that the note with this number was used.
     #[inline(always)]
     pub(crate) fn came(&mut self, number: u32)
         ensures written { self.new.written.items ≡ self.old.written.items }
@@ -112,7 +112,7 @@ impl<'a> Notes<'a> {
         self.last = number;
     }
 
-    // Notes a name behind the others.
+    // Adds a note of a name.
     #[inline(always)]
     fn keep(&mut self, written: &'a [u8], name: ElementName) -> Result<(), Memory>
         ensures written { OnOk result (self.new.written.items ≡ self.old.written.items ++ written.entry ∷ []) }
@@ -130,7 +130,7 @@ impl<'a> Notes<'a> {
         Ok(())
     }
 
-    // Forgets all.
+    // Drops all notes.
     fn clear(&mut self)
         ensures written { self.new.written.items ≡ [] }
         ensures names { self.new.names.items ≡ [] }
@@ -139,8 +139,8 @@ impl<'a> Notes<'a> {
         self.names.clear();
     }
 
-    /// Notes the name of an element that is entered. Where it binds prefixes, or there are many notes, the others are
-    /// forgotten.
+    /// Adds a note of the name of an element that is entered. If the element binds prefixes, or there are many notes, the other
+    /// notes are dropped.
     pub(crate) fn note_entered(
         &mut self,
         binds: bool,
@@ -160,7 +160,7 @@ impl<'a> Notes<'a> {
         self.keep(written, name)
     }
 
-    /// Forgets all where an element is left that binds so many prefixes, unless it binds none.
+    /// Drops all notes when an element is left that binds `count` prefixes, unless it binds none.
     #[inline(always)]
     pub(crate) fn note_left(&mut self, count: usize)
         ensures { (inside outer : List (List ℕ × List ℕ)) (names : List Name) → (count ≡ 0 → outer ≡ inside) → AllKnown inside names self.old.written.items self.old.names.items → AllKnown outer names self.new.written.items self.new.names.items }

@@ -1,10 +1,10 @@
-//! Tags that are as was guessed, on bytes.
+//! Tests bytes for a tag that was guessed.
 ghost use Rattle.std.specs.Prelude.{◌≡◌, ◌∷◌, ◌++◌, IfSome, IsUtf8};
 ghost use Rattle.xml_read.specs.Private.Building.{IsLeaf};
 
 use xml_pieces::plain_run;
 
-// What is behind `<`, if that stands first.
+// The rest after `<`, if it is at the start.
 #[inline(always)]
 pub(crate) fn past_less(bytes: &[u8]) -> Option<&[u8]>
     ensures { IfSome result (λ behind. bytes.now ≡ 0x3C ∷ behind.now) }
@@ -15,7 +15,7 @@ pub(crate) fn past_less(bytes: &[u8]) -> Option<&[u8]>
     }
 }
 
-// What is behind `</`, if that stands first.
+// The rest after `</`, if it is at the start.
 #[inline(always)]
 pub(crate) fn past_slash(bytes: &[u8]) -> Option<&[u8]>
     ensures { IfSome result (λ behind. bytes.now ≡ 0x3C ∷ 0x2F ∷ behind.now) }
@@ -26,7 +26,7 @@ pub(crate) fn past_slash(bytes: &[u8]) -> Option<&[u8]>
     }
 }
 
-// What is behind this name and a `>`, if they stand first.
+// The rest after this name and a `>`, if they are at the start.
 #[inline(always)]
 pub(crate) fn past_tag<'a>(name: &[u8], bytes: &'a [u8]) -> Option<&'a [u8]>
     ensures { IfSome result (λ behind. bytes.now ≡ name.now ++ 0x3E ∷ behind.now) }
@@ -48,8 +48,8 @@ pub(crate) fn past_tag<'a>(name: &[u8], bytes: &'a [u8]) -> Option<&'a [u8]>
     }
 }
 
-// How many plain characters stand first, if some do and the end tag of this name stands behind them; and what is behind
-// that.
+// The number of bytes of plain characters at the start, and the rest after the end tag of this name, if there are such characters
+// and the tag follows them.
 #[inline(always)]
 pub(crate) fn past_leaf<'a>(name: &[u8], inner: &'a [u8]) -> Option<(usize, &'a [u8])>
     requires { IsUtf8 inner.now }

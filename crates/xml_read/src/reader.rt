@@ -17,7 +17,7 @@ use xml_pieces::{NoneWhy, read_piece, why_none};
 
 const MARK: &[u8] = b"\xEF\xBB\xBF";
 
-// What stands behind a byte order mark, or all.
+// The bytes after a byte order mark, or all bytes without one.
 fn skip_mark(bytes: &[u8]) -> &[u8]
     ensures { result.now ≡ drop (mark_len bytes.now) bytes.now }
 {
@@ -40,7 +40,7 @@ fn why(none: NoneWhy) -> DocWhy
     }
 }
 
-// The items that the tree is, which keeps what items keep.
+// The items that the tree represents, where it satisfies the conditions on items.
 fn seal(root: ItemTree) -> Items
     requires { AreItems root }
     ensures { result ≡ root }
@@ -48,7 +48,7 @@ fn seal(root: ItemTree) -> Items
     Items::of(root)
 }
 
-// Takes the pieces of a document that is UTF-8, one after the other.
+// Reads the pieces of a document that is UTF-8, one after the other.
 fn read_pieces<'a>(
     alloc: Global,
     builder: &mut Builder<'a>,
@@ -121,9 +121,9 @@ fn check_utf8(bytes: &[u8]) -> Result<(), DocError>
     }
 }
 
-/// The items of a document, by XML 1.0 (fifth edition) and Namespaces in XML 1.0, or its first fault. Where the bytes
-/// aren't UTF-8 that is the fault; else it is that of the leftmost place, and at one place the first reason in the
-/// order of `DocWhy`. Places are in bytes from 0, and a byte order mark counts.
+/// Returns the items of a document, by XML 1.0 (fifth edition) and Namespaces in XML 1.0, or its first fault. If the bytes aren't
+/// UTF-8, that is the fault. Otherwise it is the fault at the leftmost place, and at one place the first reason in the order of
+/// `DocWhy`. Places are in bytes from 0, and a byte order mark counts.
 pub fn read_document(alloc: Global, bytes: &[u8]) -> Result<Items, DocError>
     requires { length bytes.now ≤ 16777216 }
     ensures ok { IfOk result (DocOf bytes.now) }
@@ -134,8 +134,8 @@ pub fn read_document(alloc: Global, bytes: &[u8]) -> Result<Items, DocError>
     read_utf8(alloc, ItemBuilder::new(alloc), bytes)
 }
 
-/// Returns what `read_document` returns of the bytes of a document, which the items share. Text that is in the document
-/// as it is read is not copied.
+/// Reads the bytes of a document as `read_document` does. The items share the document: text that is in it as it is read is not
+/// copied.
 pub fn read_shared(alloc: Global, document: &Document) -> Result<Items, DocError>
     requires { length document.now ≤ 16777216 }
     ensures ok { IfOk result (DocOf document.now) }

@@ -1,4 +1,4 @@
-//! Start tags and empty tags: what speaks against one, and what it opens.
+//! Start tags and empty tags: their errors, and what they open.
 ghost use Rattle.std.specs.List.{list_any};
 ghost use Rattle.std.specs.Option.{option_map};
 ghost use Rattle.std.specs.Prelude.{not, true, nat_le, ◌||◌, length, ◌&&◌, ◌≡◌, ◌∷◌, ◌++◌, [], map, reverse, None, IfOk, OnOk, IfErr};
@@ -28,7 +28,7 @@ pub(crate) fn value_of<'v>(value: &'v Value<'_>) -> &'v [u8]
     }
 }
 
-// One or the other, both looked at.
+// Whether one or the other holds. Both are evaluated.
 fn either(a: bool, b: bool) -> bool
     ensures { result ≡ (a || b) }
 {
@@ -178,7 +178,7 @@ fn read_attributes(
     Ok(all)
 }
 
-// What the attributes bind.
+// The bindings of the attributes.
 fn read_bindings(alloc: Global, attributes: &[Attribute<'_>]) -> Result<Vec<(Text, Text)>, Memory>
     requires { are_named (map attribute_of attributes.now) ≡ true }
     ensures { IfOk result (λ all. all.items ≡ names.bindings_of (map attribute_of attributes.now)) }
@@ -198,7 +198,7 @@ fn read_bindings(alloc: Global, attributes: &[Attribute<'_>]) -> Result<Vec<(Tex
     Ok(all)
 }
 
-// Adds what the attributes bind to what is in scope, the last of them first.
+// Adds the bindings of the attributes to those in scope, the last of them first.
 fn declare<'a>(
     alloc: Global,
     scope: &mut BindingsInScope<'a>,
@@ -220,7 +220,7 @@ fn declare<'a>(
     Ok(())
 }
 
-// What the attributes bind, which is in scope then.
+// The bindings of the attributes, which are then in scope.
 fn enter_scope<'a>(
     alloc: Global,
     scope: &mut BindingsInScope<'a>,
@@ -234,7 +234,7 @@ fn enter_scope<'a>(
     read_bindings(alloc, attributes)
 }
 
-// What a tag opens.
+// The name, attributes and bindings of the element that a tag opens.
 #[derive(Drop)]
 pub(crate) struct Head {
     pub(crate) name: Name,
@@ -242,7 +242,7 @@ pub(crate) struct Head {
     pub(crate) declares: Vec<(Text, Text)>,
 }
 
-// What speaks against the names and the bindings of a tag.
+// The first reason against the names and the bindings of a tag.
 fn first_of_names(tag: &Element<'_>) -> Option<DocWhy>
     ensures { result ≡ first_true ((contexts.has_bad_name (tag_seen tag.now), why.BadName) ∷ (contexts.has_long_name (tag_seen tag.now), why.LongName) ∷ (contexts.has_reserved (tag_seen tag.now), why.ReservedPrefix) ∷ []) }
 {
@@ -257,7 +257,7 @@ fn first_of_names(tag: &Element<'_>) -> Option<DocWhy>
     }
 }
 
-/// Where a tag begins: whether the root has ended, how many elements are open, and the offset of the tag in bytes.
+/// The place of a tag: whether the root has ended, the number of open elements, and the offset of the tag in bytes.
 #[derive(Clone, Copy)]
 pub(crate) struct TagPlace {
     pub(crate) ended: bool,
@@ -281,8 +281,8 @@ pub(crate) fn check_place(place: TagPlace) -> Result<(), DocError>
     Err(DocError::Syntax { at: place.at, why })
 }
 
-// Reads the attributes that bind nothing, where the bindings of their tag are in scope; or reports what speaks against
-// them or against the place of the tag.
+// Reads the attributes that bind nothing, where the bindings of their tag are in scope. Otherwise reports the first reason
+// against them or against the place of the tag.
 fn enter_attributes(
     alloc: Global,
     scope: &BindingsInScope<'_>,
@@ -311,8 +311,8 @@ fn enter_attributes(
     Ok(attributes)
 }
 
-// Reads what a tag opens, and brings its bindings into scope; or reports what speaks against the tag. Most tags have no
-// attributes and a plain name: only the place of such a tag is tested.
+// Reads the element that a tag opens, and brings its bindings into scope, or reports the first reason against the tag. Most tags
+// have no attributes and a plain name: only the place of such a tag is tested.
 pub(crate) fn enter<'a>(
     alloc: Global,
     scope: &mut BindingsInScope<'a>,

@@ -16,7 +16,7 @@ abbrev pub label_spaces : ItemLabel → List (List ℕ)
 label_spaces (Element name attributes declares at) = name.space ∷ attribute_spaces attributes
 label_spaces (Text text at) = []
 
--- the namespaces of all names in the order of the document: an element's, then those of its attributes
+-- The namespaces of all names in document order: an element's, then those of its attributes.
 abbrev mutual
   pub spaces : Rose ItemLabel → List (List ℕ)
   spaces (node label kids) = label_spaces label ++ all_spaces kids
@@ -28,13 +28,13 @@ abbrev mutual
 abbrev pub has_space : List (List ℕ) → List ℕ → Bool
 has_space seen space = list_any (bytes_eq space) seen
 
--- those that weren't seen before, each once
+-- The namespaces that weren't seen before, each once.
 abbrev pub unseen : List (List ℕ) → List (List ℕ) → List (List ℕ)
 unseen seen [] = []
 unseen seen (space ∷ more_spaces) =
     if has_space seen space then unseen seen more_spaces else space ∷ unseen (space ∷ seen) more_spaces
 
--- the namespaces that the root declares: all but the absent one and that of XML, in the order found
+-- The namespaces that the root declares: all except the absent one and that of XML, in the order found.
 abbrev pub declared_spaces : Rose ItemLabel → List (List ℕ)
 declared_spaces root = unseen ([] ∷ xml_space ∷ []) (spaces root)
 

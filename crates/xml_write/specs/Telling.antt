@@ -1,5 +1,5 @@
--- The text of items that are told one after another. An attribute that comes too late is told of by `late`, and nothing is
--- said of the text then.
+-- The text of items that are added one after another. `late` records an attribute that is added too late; then nothing is stated
+-- about the text.
 use Rattle.std.specs.Prelude.{◌≡◌, ◌⊎◌, ℕ, List, [], ◌∷◌, ◌++◌, Bool, true, false, Option, Some, None, if◌then◌else◌}
 use Rattle.std.specs.Borrow.{Bor}
 use Rattle.std.specs.List.{flat_map}
@@ -19,15 +19,15 @@ abbrev pub space_of : Option (Bor (List ℕ)) → List ℕ
 space_of None = []
 space_of (Some space) = space.now
 
--- more may be behind the entries of a table
+-- The table may have more entries after those of the first one.
 abbrev pub Extends : List (List ℕ × List ℕ) → List (List ℕ × List ℕ) → Type 0
 Extends table whole = (entries : List (List ℕ × List ℕ)) × (whole ≡ table ++ entries)
 
--- the end of a start tag that has none so far
+-- The end of a start tag, unless it is written already.
 abbrev pub end_of_tag : Bool → List ℕ
 end_of_tag in_tag = if in_tag then 62 ∷ [] else []
 
--- it is written before the first item that stands in the element
+-- The end of the start tag, which is written before the first item of the element.
 abbrev pub before_items : Bool → List (Rose ItemLabel) → List ℕ
 before_items in_tag [] = []
 before_items in_tag (item ∷ items) = end_of_tag in_tag
@@ -36,26 +36,26 @@ abbrev pub is_still_in_tag : Bool → List (Rose ItemLabel) → Bool
 is_still_in_tag in_tag [] = in_tag
 is_still_in_tag in_tag (item ∷ items) = false
 
--- what stands in an element that has a text alone, which may be empty
+-- The content of an element that has only a text, which may be empty.
 abbrev pub words_in : List ℕ → Roses ItemLabel
 words_in [] = none
 words_in (byte ∷ bytes) = more (node (Text (byte ∷ bytes) 0) none) none
 
--- nothing was told
+-- Nothing was added.
 pub record IsBegun (b : TextBuilder) : Type 0 where
   pub on_time : b.late ≡ false
   pub prefixes : b.prefixes ≡ []
   pub in_tag : b.in_tag ≡ false
   pub text : b.text.items ≡ xml_declaration
 
--- A start tag is ended, if there is one.
+-- The start tag is ended, if it was not.
 pub record EndsTag (old new : TextBuilder) : Type 0 where
   pub late : new.late ≡ old.late
   pub prefixes : new.prefixes ≡ old.prefixes
   pub in_tag : new.in_tag ≡ false
   pub text : new.text.items ≡ old.text.items ++ end_of_tag old.in_tag
 
--- The attributes of the innermost open element, and items in it. A prefix that a namespace has is that which it keeps.
+-- The attributes of the innermost open element, and items in it. A namespace keeps the prefix that it has.
 pub record Told (old new : TextBuilder) (attributes : List (Name × List ℕ)) (items : List (Rose ItemLabel)) : Type 0 where
   pub on_time : old.late ≡ false
   pub prefixes : new.prefixes ≡ with_spaces old.prefixes (attribute_spaces attributes ++ all_spaces (roses_of items))
@@ -67,7 +67,7 @@ pub record Told (old new : TextBuilder) (attributes : List (Name × List ℕ)) (
 abbrev pub Tells : TextBuilder → TextBuilder → List (Name × List ℕ) → List (Rose ItemLabel) → Type 0
 Tells old new attributes items = new.late ≡ false → Told old new attributes items
 
--- an element of this name is open, in which nothing stands
+-- An element of this name is open, and has no content yet.
 pub record Begun (old new : TextBuilder) (name : Name) (tag : OpenTag) : Type 0 where
   pub on_time : old.late ≡ false
   pub prefixes : new.prefixes ≡ with_space old.prefixes name.space
@@ -85,7 +85,7 @@ pub record Closes (tag : OpenTag) (old new : TextBuilder) : Type 0 where
   pub in_tag : new.in_tag ≡ false
   pub text : new.text.items ≡ old.text.items ++ (if old.in_tag then 47 ∷ 62 ∷ [] else 60 ∷ 47 ∷ (qualifier_text tag.qualifier ++ tag.local.now) ++ 62 ∷ [])
 
--- the text of the root of which all was told, unless an attribute came too late
+-- The text of the document after all of its root was added, unless an attribute came too late.
 abbrev pub IsWhole : TextBuilder → Name → Option (Vec ℕ) → Type 0
 IsWhole b name None = b.late ≡ true
 IsWhole b name (Some out) = (begun : TextBuilder) (attributes : List (Name × List ℕ)) (items : Roses ItemLabel)

@@ -11,7 +11,7 @@ use Rattle.xml_write.specs.Spaces.{prefixes, prefix_for}
 
 -- ---- characters (XML 1.0, sections 2.4, 2.11 and 3.3.3). A byte over 7F is part of a longer character, and stays.
 
--- a byte of a text: a carriage return would be read as a line feed
+-- A byte of a text. A carriage return is escaped, since it would be read as a line feed.
 abbrev pub text_escape : ℕ → List ℕ
 text_escape byte =
     if byte == 38 then codes "&amp;"
@@ -19,7 +19,7 @@ text_escape byte =
     else (if byte == 62 then codes "&gt;"
     else (if byte == 13 then codes "&#13;" else byte ∷ [])))
 
--- a byte of an attribute's value: a tab and a line feed would be read as spaces
+-- A byte of an attribute's value. A tab and a line feed are escaped, since they would be read as spaces.
 abbrev pub value_escape : ℕ → List ℕ
 value_escape byte =
     if byte == 34 then codes "&quot;"
@@ -32,7 +32,7 @@ value_escape byte =
 abbrev pub written_name : List (List ℕ × List ℕ) → Name → List ℕ
 written_name table name = if is_empty name.space then name.local else prefix_for table name.space ++ 58 ∷ name.local
 
--- the value of an attribute, behind its name
+-- The value of an attribute, after its name.
 abbrev pub written_value : List ℕ → List ℕ
 written_value value = 61 ∷ 34 ∷ flat_map value_escape value ++ 34 ∷ []
 

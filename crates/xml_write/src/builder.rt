@@ -1,4 +1,4 @@
-//! The text of items that are told one after another.
+//! Writes the text of items that are added one after another.
 ghost use Rattle.std.specs.Prelude.{◌≡◌, ◌++◌, ◌∷◌, ◌||◌, [], not, IfOk, OnOk};
 ghost use Rattle.base_trees.specs.Rose.{node, none};
 ghost use Rattle.xml_items.specs.declared.label.ItemLabel.TheVariants as item;
@@ -12,16 +12,16 @@ use crate::writing::{CharacterPlace, XML_DECLARATION, write_escaped, write_value
 use base_texts::{Memory, Text};
 use std::alloc::{AllocError, Global};
 
-/// The text of a document while its items are told in their order: an element, its attributes, what stands in it, and its
-/// end. What is told is written at once, and no item is kept.
+/// The text of a document while its items are added in document order: an element, its attributes, its content, and its end. Each
+/// item is written at once, and none is kept.
 ///
-/// An attribute that is told when something stands in its element already is too late: then there is no text in the end.
+/// An attribute that is added after content of its element is too late: then `finish` returns no text.
 #[derive(Drop)]
 pub struct TextBuilder<'a> {
     prefixes: Prefixes<'a>,
-    // All but the declarations of namespaces, which are known in the end.
+    // The text without the declarations of namespaces, which are known only at the end.
     text: Vec<u8>,
-    // Whether the last start tag has no end so far.
+    // Whether the last start tag is still without its end.
     in_tag: bool,
     late: bool,
 }
@@ -36,7 +36,7 @@ pub struct OpenTag<'a> {
 impl<'a> TextBuilder<'a> {
     ghost use Rattle.xml_write.specs.Telling.{space_of, words_in, IsBegun, Tells, Begins, Closes, IsWhole, EndsTag};
 
-    /// A document of which nothing was told.
+    /// Returns a builder without items.
     pub fn new(alloc: Global) -> Result<TextBuilder<'a>, Memory>
         ensures { IfOk result IsBegun }
     {
@@ -49,7 +49,7 @@ impl<'a> TextBuilder<'a> {
         })
     }
 
-    // Ends the last start tag, behind which something stands.
+    // Ends the last start tag, before content is written.
     #[inline(always)]
     fn end_tag(&mut self) -> Result<(), AllocError>
         ensures { OnOk result (EndsTag self.old self.new) }
@@ -90,7 +90,7 @@ impl<'a> TextBuilder<'a> {
         write_escaped(&mut self.text, CharacterPlace::Content, text)
     }
 
-    /// Adds an element without attributes in which a text stands, or nothing, where it is empty.
+    /// Adds an element without attributes that has only a text, or no content if the text is empty.
     #[inline(always)]
     pub fn text_element(
         &mut self,
@@ -125,7 +125,7 @@ impl<'a> TextBuilder<'a> {
         Ok(OpenTag { qualifier, local })
     }
 
-    /// Ends an element. Where nothing stands in it, it is an empty tag.
+    /// Ends an element. If it has no content, it is written as an empty tag.
     #[inline(always)]
     pub fn close(&mut self, alloc: Global, tag: OpenTag<'a>) -> Result<(), AllocError>
         ensures { OnOk result (Closes tag.entry self.old self.new) }
@@ -137,7 +137,7 @@ impl<'a> TextBuilder<'a> {
         write_end_tag(alloc, &mut self.text, tag.qualifier, tag.local)
     }
 
-    /// The text of the document, whose root has this name. None where an attribute was told too late.
+    /// Returns the text of the document, whose root has this name. `None` if an attribute was added too late.
     pub fn finish(
         self,
         alloc: Global,
@@ -159,7 +159,7 @@ impl<'a> TextBuilder<'a> {
     }
 }
 
-// A local name behind what stands before it.
+// A local name after its qualifier.
 #[inline(always)]
 fn write_qualified(out: &mut Vec<u8>, qualifier: Qualifier, local: &[u8]) -> Result<(), AllocError>
     ensures { OnOk result (out.new.items ≡ out.old.items ++ (qualifier_text qualifier ++ local.now)) }

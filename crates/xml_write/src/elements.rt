@@ -1,4 +1,4 @@
-//! Elements in which a text stands alone.
+//! Elements that have only a text.
 ghost use Rattle.std.specs.Prelude.{◌≡◌, ◌≤◌, ◌<◌, ◌+◌, ◌++◌, ◌∷◌, [], length, OnOk};
 ghost use Rattle.std.specs.Bool.{OnTrue};
 ghost use Rattle.std.specs.List.{flat_map};
@@ -11,8 +11,8 @@ use crate::writing::{CharacterPlace, split_plain, write_escaped};
 use std::alloc::{AllocError, Global};
 use std::mem;
 
-// How many bytes a name and a text have at most that are written one by one: a call that copies takes as long as some ten
-// of them.
+// The greatest length in bytes of a name and of a text that are written byte by byte. A call that copies takes as long as about
+// ten single bytes.
 const FEW: usize = 32;
 
 // Appends at most three bytes for which there is room.
@@ -51,7 +51,7 @@ fn put_four(out: &mut Vec<u8>, first: u8, second: u8, third: u8, fourth: u8)
     out.push_reserved(fourth);
 }
 
-// Appends bytes for which there is room, four at once.
+// Appends bytes for which there is room, four at a time.
 #[inline(always)]
 fn put_all(out: &mut Vec<u8>, bytes: &[u8])
     requires { HasRoom out.old (length bytes.now) }
@@ -65,7 +65,7 @@ fn put_all(out: &mut Vec<u8>, bytes: &[u8])
     put_last(out, rest);
 }
 
-// Makes room for so many bytes, where there is none.
+// Reserves room for `count` bytes, unless there is enough.
 #[inline(always)]
 fn make_room(out: &mut Vec<u8>, count: usize) -> Result<(), AllocError>
     ensures items { OnOk result (out.new.items ≡ out.old.items) }
@@ -112,7 +112,7 @@ fn put_end(out: &mut Vec<u8>, name: DigitName<'_>)
     out.push_reserved(b'>');
 }
 
-// Appends an element of this name. The text is written as it is.
+// Appends an element of this name. The text is written without escapes.
 #[inline(always)]
 fn put_element(out: &mut Vec<u8>, name: DigitName<'_>, text: &[u8])
     requires { HasRoom out.old (11 + length name.local.now + length name.local.now + length text.now) }
@@ -134,8 +134,8 @@ pub(crate) fn write_byte(out: &mut Vec<u8>, byte: u8) -> Result<(), AllocError>
     Ok(())
 }
 
-// Makes room for a start tag of this name without its end, and appends it. The list is taken out meanwhile, so that its
-// length isn't written at each byte.
+// Reserves room for a start tag of this name without its end, and appends it. The list is moved to a local variable meanwhile, so
+// that its length isn't stored for each byte.
 #[inline(always)]
 fn write_few_start(alloc: Global, out: &mut Vec<u8>, name: DigitName<'_>) -> Result<(), AllocError>
     requires { length name.local.now ≤ 32 }
@@ -148,7 +148,7 @@ fn write_few_start(alloc: Global, out: &mut Vec<u8>, name: DigitName<'_>) -> Res
     Ok(())
 }
 
-// Makes room for an end tag of this name, and appends it.
+// Reserves room for an end tag of this name, and appends it.
 #[inline(always)]
 fn write_few_end(alloc: Global, out: &mut Vec<u8>, name: DigitName<'_>) -> Result<(), AllocError>
     requires { length name.local.now ≤ 32 }
@@ -161,7 +161,7 @@ fn write_few_end(alloc: Global, out: &mut Vec<u8>, name: DigitName<'_>) -> Resul
     Ok(())
 }
 
-// Makes room for an element of this name, and appends it. The text is written as it is.
+// Reserves room for an element of this name, and appends it. The text is written without escapes.
 #[inline(always)]
 fn write_few(
     alloc: Global,
@@ -180,7 +180,7 @@ fn write_few(
     Ok(())
 }
 
-// Whether a text has few bytes, at least one, and each stands in an element as itself.
+// Whether a text has few bytes, at least one, and each needs no escape in an element.
 #[inline(always)]
 fn needs_no_escape(text: &[u8]) -> bool
     ensures some { OnTrue result (0 < length text.now) }
@@ -194,7 +194,7 @@ fn needs_no_escape(text: &[u8]) -> bool
     other.is_empty()
 }
 
-// An element of this name without attributes, in which a text stands, or nothing, where it is empty.
+// An element of this name without attributes that has only a text, or no content if the text is empty.
 fn write_any(
     out: &mut Vec<u8>,
     qualifier: Qualifier,
@@ -216,8 +216,8 @@ fn write_any(
     Ok(())
 }
 
-/// An element of this name without attributes, in which a text stands, or nothing, where it is empty. Where it is short,
-/// as most are, it is written at once.
+/// Appends an element of this name without attributes that has only a text, or no content if the text is empty. A short one, as
+/// most are, is written byte by byte.
 #[inline(always)]
 pub(crate) fn write_text_element(
     alloc: Global,
@@ -236,7 +236,7 @@ pub(crate) fn write_text_element(
     write_any(out, qualifier, local, text)
 }
 
-/// A start tag of this name without its end.
+/// Appends a start tag of this name without its end.
 #[inline(always)]
 pub(crate) fn write_start_tag(
     alloc: Global,
@@ -255,7 +255,7 @@ pub(crate) fn write_start_tag(
     out.extend_from_slice(local)
 }
 
-/// An end tag of this name.
+/// Appends an end tag of this name.
 #[inline(always)]
 pub(crate) fn write_end_tag(
     alloc: Global,

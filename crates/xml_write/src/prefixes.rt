@@ -21,7 +21,7 @@ pub(crate) enum Prefix {
     Numbered(usize),
 }
 
-// What stands before the local part of a name: nothing, a prefix with a colon, or the colon alone where a namespace has
+// The qualifier of a name, which precedes its local part: nothing, a prefix with a colon, or only the colon where a namespace has
 // no prefix.
 #[derive(Clone, Copy)]
 pub(crate) enum Qualifier {
@@ -31,13 +31,13 @@ pub(crate) enum Qualifier {
     Unknown,
 }
 
-// The namespaces found so far, each with its prefix, in the order found. That of XML and the absent one have no entry.
-// One is found in time in proportion to the logarithm of their number, whatever names a stranger chooses.
+// The namespaces found so far, each with its prefix, in the order found. That of XML and the absent one have no entry. A
+// namespace is found in time logarithmic in their number, even for hostile input.
 #[derive(Drop)]
 pub(crate) struct Prefixes<'a> {
     found: Vec<(&'a [u8], Prefix)>,
     by_space: BTreeMap<&'a [u8], Prefix>,
-    // The namespace that was asked for last, where it needs no entry more, and what stands before a local name in it.
+    // The last namespace that was looked up without adding an entry, and the qualifier of its names.
     last: Option<(&'a Text, Qualifier)>,
 }
 
@@ -70,7 +70,7 @@ impl<'a> Prefixes<'a> {
         self.found.as_slice()
     }
 
-    // The prefix under which a namespace is declared. Most names are in the one that was found first.
+    // The prefix under which a namespace is declared. Most names are in the namespace that was found first.
     #[inline(always)]
     fn get(&self, space: &[u8]) -> Option<Prefix>
         ensures { option_map prefix_text result ≡ lookup (bytes_eq space.now) self.now }
@@ -83,7 +83,7 @@ impl<'a> Prefixes<'a> {
         self.by_space.get(space).copied()
     }
 
-    // A namespace that needs no entry more.
+    // Whether a namespace needs no new entry.
     #[inline(always)]
     fn is_bound(&self, space: &[u8]) -> bool
         ensures { result ≡ is_bound self.now space.now }
@@ -91,7 +91,7 @@ impl<'a> Prefixes<'a> {
         space.is_empty() || space == XML_SPACE.as_bytes() || self.get(space).is_some()
     }
 
-    // The prefix of a namespace that is new.
+    // The prefix of a new namespace.
     fn next(&self, space: &[u8]) -> Prefix
         ensures { prefix_text result ≡ next_prefix self.now space.now }
     {
@@ -114,7 +114,7 @@ impl<'a> Prefixes<'a> {
         match self.by_space.insert(space, prefix) {
             Ok(_) => Ok(()),
             Err(_) => {
-                // The prefix is taken back.
+                // The prefix is removed.
                 let _ = self.found.pop();
                 Err(AllocError)
             }
@@ -157,7 +157,7 @@ impl<'a> Prefixes<'a> {
         Ok(())
     }
 
-    // What stands before the local part of a name in this namespace, where it needs no entry more.
+    // The qualifier of a name in this namespace, if it needs no new entry.
     #[inline(always)]
     fn known(&self, space: &[u8]) -> Option<Qualifier>
         ensures { MatchOption result (is_bound self.now space.now ≡ false) (λ q. (is_bound self.now space.now ≡ true) × (qualifier_text q ≡ before_local self.now space.now)) }
@@ -174,7 +174,7 @@ impl<'a> Prefixes<'a> {
         }
     }
 
-    // What stands before the local part of a name in this namespace, which gets an entry where it needs one.
+    // The qualifier of a name in this namespace. An entry is added if it is needed.
     #[inline(always)]
     pub(crate) fn declared(&mut self, space: &'a [u8]) -> Result<Qualifier, AllocError>
         ensures table { OnOk result (self.new ≡ with_space self.old space.now) }
@@ -187,8 +187,8 @@ impl<'a> Prefixes<'a> {
         Ok(self.qualifier(space))
     }
 
-    // Returns what precedes the local part of a name in this namespace, which may be absent. A namespace without an entry
-    // gets one. Most names are in the namespace of the name before.
+    // Returns the qualifier of a name in this namespace, which may be absent. A namespace without an entry gets one. Most names
+    // are in the namespace of the name before.
     #[inline(always)]
     pub(crate) fn declared_text(&mut self, space: Option<&'a Text>) -> Result<Qualifier, AllocError>
         ensures table { OnOk result (self.new ≡ with_space self.old (space_of space.entry)) }
@@ -205,8 +205,8 @@ impl<'a> Prefixes<'a> {
         self.declared_anew(space)
     }
 
-    // Returns what precedes the local part of a name in this namespace, where the name before is in another one. A
-    // namespace without an entry gets one.
+    // Returns the qualifier of a name in this namespace, where the name before is in another one. A namespace without an entry
+    // gets one.
     #[inline(never)]
     fn declared_anew(&mut self, space: &'a Text) -> Result<Qualifier, AllocError>
         ensures table { OnOk result (self.new ≡ with_space self.old space.now) }
@@ -217,7 +217,7 @@ impl<'a> Prefixes<'a> {
         Ok(qualifier)
     }
 
-    // What stands before the local part of a name in this namespace.
+    // The qualifier of a name in this namespace.
     #[inline(always)]
     pub(crate) fn qualifier(&self, space: &[u8]) -> Qualifier
         ensures { qualifier_text result ≡ before_local self.now space.now }
@@ -249,7 +249,7 @@ impl Prefix {
         }
     }
 
-    // The digit, where it is `n` with one digit, as most are.
+    // The digit, if the prefix is `n` with one digit, as most are.
     #[inline(always)]
     fn digit(self) -> Option<u8>
         ensures { IfSome result (λ digit. prefix_text self ++ 58 ∷ [] ≡ 110 ∷ digit ∷ 58 ∷ []) }
@@ -260,7 +260,7 @@ impl Prefix {
         }
     }
 
-    // Writes the prefix and a colon. One of one digit, as most are, is written at once.
+    // Writes the prefix and a colon. A prefix of one digit, as most are, is written in one step.
     #[inline(always)]
     fn write_before_colon(self, out: &mut Vec<u8>) -> Result<(), AllocError>
         ensures { OnOk result (out.new.items ≡ out.old.items ++ (prefix_text self ++ 58 ∷ [])) }
@@ -276,7 +276,7 @@ impl Prefix {
         }
     }
 
-    // Writes what begins a start tag of a name with this prefix.
+    // Writes the beginning of a start tag of a name with this prefix.
     #[inline(always)]
     fn write_start(self, out: &mut Vec<u8>) -> Result<(), AllocError>
         ensures { OnOk result (out.new.items ≡ out.old.items ++ 60 ∷ (prefix_text self ++ 58 ∷ [])) }
@@ -292,7 +292,7 @@ impl Prefix {
         }
     }
 
-    // Writes what begins an end tag of a name with this prefix.
+    // Writes the beginning of an end tag of a name with this prefix.
     #[inline(always)]
     fn write_end(self, out: &mut Vec<u8>) -> Result<(), AllocError>
         ensures { OnOk result (out.new.items ≡ out.old.items ++ 60 ∷ 47 ∷ (prefix_text self ++ 58 ∷ [])) }
@@ -310,7 +310,7 @@ impl Prefix {
 }
 
 impl Qualifier {
-    // The digit of its prefix, where that is `n` with one digit.
+    // The digit of its prefix, if that is `n` with one digit.
     #[inline(always)]
     pub(crate) fn digit(self) -> Option<u8>
         ensures { IfSome result (λ digit. qualifier_text self ≡ 110 ∷ digit ∷ 58 ∷ []) }
@@ -333,7 +333,7 @@ impl Qualifier {
         }
     }
 
-    // Writes what begins a start tag.
+    // Writes the beginning of a start tag.
     #[inline(always)]
     pub(crate) fn write_start(self, out: &mut Vec<u8>) -> Result<(), AllocError>
         ensures { OnOk result (out.new.items ≡ out.old.items ++ 60 ∷ qualifier_text self) }
@@ -347,7 +347,7 @@ impl Qualifier {
         }
     }
 
-    // Writes what begins an end tag.
+    // Writes the beginning of an end tag.
     #[inline(always)]
     pub(crate) fn write_end(self, out: &mut Vec<u8>) -> Result<(), AllocError>
         ensures { OnOk result (out.new.items ≡ out.old.items ++ 60 ∷ 47 ∷ qualifier_text self) }

@@ -1,4 +1,4 @@
-//! What stands at the front of a document, and what its root declares.
+//! The beginning of a document, and the declarations of its root.
 ghost use Rattle.std.specs.Prelude.{◌≡◌, ◌++◌, ◌∷◌, length, IfOk};
 ghost use Rattle.std.specs.List.{flat_map};
 ghost use Rattle.xml_write.specs.Written.{written_name, written_declaration, xml_declaration};
@@ -7,7 +7,7 @@ use crate::prefixes::Prefixes;
 use crate::writing::{XML_DECLARATION, write_declarations};
 use std::alloc::{AllocError, Global};
 
-// How many bytes stand before the declarations of namespaces, which come behind the name of the root.
+// The number of bytes before the declarations of namespaces, which follow the name of the root.
 pub(crate) fn front_len(
     alloc: Global,
     prefixes: &Prefixes<'_>,

@@ -1,13 +1,13 @@
-//! Bytes that are put in among those of a vector.
+//! Inserts bytes into a vector.
 ghost use Rattle.std.specs.Prelude.{◌≡◌, ◌+◌, ◌-◌, ◌≤◌, ◌++◌, length, take, drop, OnOk, vec_len};
 ghost use lib.Seq.{paste};
 
 use std::alloc::AllocError;
 
-// As many bytes are moved at once.
+// The number of bytes that are moved at a time.
 const BLOCK: usize = 4096;
 
-// Copies `count` bytes, by way of a block of their own, to a place that they may reach into.
+// Copies `count` bytes, through a separate block, to a place that may overlap them.
 #[inline(always)]
 fn copy_by_block(bytes: &mut [u8], block: &mut [u8; BLOCK], from: usize, to: usize, count: usize)
     requires small { count ≤ 4096 }
@@ -19,7 +19,7 @@ fn copy_by_block(bytes: &mut [u8], block: &mut [u8; BLOCK], from: usize, to: usi
     bytes[to..to + count].copy_from_slice(&block[..count]);
 }
 
-// Moves all but the last `gap` bytes up by as many places, the last of them first.
+// Moves all bytes except the last `gap` up by `gap` places, the last of them first.
 fn move_up(bytes: &mut [u8], gap: usize)
     requires { gap ≤ length bytes.old }
     ensures { drop gap bytes.new ≡ take (length bytes.old - gap) bytes.old }
@@ -33,7 +33,7 @@ fn move_up(bytes: &mut [u8], gap: usize)
     }
 }
 
-// Puts bytes before all others but the last ones, which give their places.
+// Inserts bytes before all others. The last ones are overwritten.
 fn put_before(bytes: &mut [u8], more: &[u8])
     requires { length more.now ≤ length bytes.old }
     ensures { bytes.new ≡ more.now ++ take (length bytes.old - length more.now) bytes.old }
@@ -42,7 +42,7 @@ fn put_before(bytes: &mut [u8], more: &[u8])
     bytes[..more.len()].copy_from_slice(more);
 }
 
-// Puts bytes in at a place. Those behind it are moved in blocks, so that no second vector is needed.
+// Inserts bytes at a place. The bytes after it are moved in blocks, so that no second vector is needed.
 pub(crate) fn insert(out: &mut Vec<u8>, at: usize, more: &[u8]) -> Result<(), AllocError>
     requires { at ≤ vec_len out.old }
     ensures { OnOk result (out.new.items ≡ take at out.old.items ++ more.now ++ drop at out.old.items) }

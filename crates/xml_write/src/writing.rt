@@ -14,14 +14,14 @@ use xml_read::Items;
 
 pub(crate) const XML_DECLARATION: &[u8] = b"<?xml version=\"1.0\" encoding=\"UTF-8\"?>\n";
 
-// Where characters stand: in an element, or in an attribute's value.
+// The place of characters: in an element, or in an attribute's value.
 #[derive(Clone, Copy)]
 pub(crate) enum CharacterPlace {
     Content,
     Value,
 }
 
-// What is written in place of a byte that can't stand there as itself.
+// The reference that is written for a byte that can't be written as itself.
 #[inline(always)]
 fn reference(place: CharacterPlace, byte: u8) -> Option<&'static [u8]>
     ensures some { IfSome result (λ text. escape_in place byte ≡ text.now) }
@@ -40,7 +40,7 @@ fn reference(place: CharacterPlace, byte: u8) -> Option<&'static [u8]>
     Some(text)
 }
 
-// The longest front of the bytes that stands there as itself, and the rest.
+// The longest prefix of the bytes that needs no escape there, and the rest.
 #[inline(always)]
 pub(crate) fn split_plain(place: CharacterPlace, bytes: &[u8]) -> (&[u8], &[u8])
     ensures parts { bytes.now ≡ result.0.now ++ result.1.now }
@@ -76,7 +76,7 @@ pub(crate) fn write_escaped(
     }
 }
 
-// A name behind what stands before its local part.
+// A name: its qualifier, then its local part.
 #[inline(always)]
 fn write_name(out: &mut Vec<u8>, qualifier: Qualifier, name: &Name) -> Result<(), AllocError>
     ensures { OnOk result (out.new.items ≡ out.old.items ++ named qualifier name.now) }
@@ -85,7 +85,7 @@ fn write_name(out: &mut Vec<u8>, qualifier: Qualifier, name: &Name) -> Result<()
     out.extend_from_slice(name.local.bytes())
 }
 
-// The value of an attribute, behind its name.
+// The value of an attribute, after its name.
 pub(crate) fn write_value(out: &mut Vec<u8>, value: &[u8]) -> Result<(), AllocError>
     ensures { OnOk result (out.new.items ≡ out.old.items ++ written_value value.now) }
 {
@@ -142,7 +142,7 @@ pub(crate) fn write_declarations(
     Ok(())
 }
 
-// A start tag: its name with what precedes the local part, the declarations of namespaces, and the attributes.
+// A start tag: its name with its qualifier, the declarations of namespaces, and the attributes.
 #[derive(Clone, Copy)]
 struct StartTag<'t, 'a> {
     qualifier: Qualifier,
@@ -226,9 +226,9 @@ fn write_root(alloc: Global, root: &ItemNode<'_>) -> Result<Vec<u8>, Memory>
     Ok(out)
 }
 
-/// The text of a document with these items, in UTF-8. All namespaces are declared on the root, each with one prefix, and
-/// the default namespace isn't used. The time is linear in the length of the text, but for a factor of the logarithm of
-/// the number of namespaces. The text is read back as the same items.
+/// Returns the text of a document with these items, in UTF-8. All namespaces are declared on the root, each with one prefix, and
+/// the default namespace isn't used. The time is linear in the length of the text, times the logarithm of the number of
+/// namespaces. The text is read back as the same items.
 pub fn write_document(alloc: Global, items: &Items) -> Result<Vec<u8>, Memory>
     ensures written { IfOk result (λ text. text.items ≡ written items.now) }
     ensures read_back { IfOk result (λ text. ReadsAs text.items items.now) }

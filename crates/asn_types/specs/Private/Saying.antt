@@ -1,4 +1,4 @@
--- What the code keeps of encoding instructions, so that asking takes no time.
+-- The summary that the code keeps of encoding instructions, so that each query takes constant time.
 use Rattle.std.specs.Prelude.{◌≡◌, ℕ, zero, suc, ◌+◌, Bool, true, false, ◌||◌, Option, Some, List, [], ◌∷◌, if◌then◌else◌}
 use Rattle.base_texts.specs.declared.white_space.WhiteSpace.{WhiteSpace}
 use Rattle.base_texts.specs.declared.white_space.WhiteSpace.TheVariants.{Preserve}
@@ -7,19 +7,19 @@ use Rattle.asn_types.specs.declared.marks.Instruction.TheVariants as mark
 use Rattle.asn_types.specs.declared.said.Said.{Said}
 use Rattle.asn_types.specs.Marks.{is_attribute, is_untagged, is_use_nil, is_embed_values, is_use_order, is_list, is_use_union, has_attribute, has_untagged, has_use_nil, has_embed_values, has_use_order, has_list, has_use_union, white_space_of}
 
--- how many stand before the first NAME: all, where there is none
+-- The number of instructions that precede the first NAME; all, if there is none.
 abbrev pub name_place : List Instruction → ℕ
 name_place [] = zero
 name_place (mark.Name name ∷ marks) = zero
 name_place (_ ∷ marks) = suc (name_place marks)
 
--- how many stand before the first NAMESPACE: all, where there is none
+-- The number of instructions that precede the first NAMESPACE; all, if there is none.
 abbrev pub namespace_place : List Instruction → ℕ
 namespace_place [] = zero
 namespace_place (mark.Namespace space ∷ marks) = zero
 namespace_place (_ ∷ marks) = suc (namespace_place marks)
 
--- these are what the instructions say, which stand from this place on
+-- The summary is that of the instructions, the first of which has this place.
 pub record IsSaid (marks : List Instruction) (at : ℕ) (said : Said) : Type 0 where
   pub attribute : said.attribute ≡ has_attribute marks
   pub untagged : said.untagged ≡ has_untagged marks
@@ -58,7 +58,7 @@ abbrev pub white_space_with : Instruction → WhiteSpace → WhiteSpace
 white_space_with (mark.WhiteSpace how) behind = how
 white_space_with _ behind = behind
 
--- with one more instruction at this place, before those that say what is known
+-- The summary with one more instruction at this place, which precedes those summarised.
 abbrev pub with_mark : Said → ℕ → Instruction → Said
 with_mark behind at m = record {
   attribute = is_attribute m || behind.attribute;
@@ -73,12 +73,12 @@ with_mark behind at m = record {
   namespace_at = if is_namespace m then at else behind.namespace_at;
 }
 
--- what is told where the instruction at the place of the first NAME is this, or there is none
+-- The local name, if the instruction at the place of the first NAME is this one, or there is none.
 abbrev pub name_in : List ℕ → Option Instruction → List ℕ
 name_in generated (Some (mark.Name name)) = name
 name_in generated _ = generated
 
--- the namespace of the instruction at the place of the first NAMESPACE, empty where there is none
+-- The namespace, if the instruction at the place of the first NAMESPACE is this one; empty if there is none.
 abbrev pub space_in : Option Instruction → List ℕ
 space_in (Some (mark.Namespace space)) = space
 space_in _ = []

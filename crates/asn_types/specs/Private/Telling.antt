@@ -1,4 +1,4 @@
--- What the code keeps of the encoding instructions of a type that may stand for a simple type.
+-- The summary that the code keeps of the encoding instructions of a type that may be that of a simple type.
 use Rattle.std.specs.Prelude.{◌≡◌, ℕ, length, Bool, true, false, Option, Some, None, List, [], ◌∷◌, if◌then◌else◌}
 use Rattle.simple_types.specs.declared.simples.Simple.{Simple}
 use Rattle.std.specs.List.Sorted.{IsStrictlySortedBy}
@@ -35,18 +35,18 @@ beside _ m = told_.Other
 abbrev pub with_mark : Told → Instruction → Told
 with_mark seen m = if counts m then beside seen m else seen
 
--- the simple type that is mapped to the type, or that there is none
+-- The simple type found is mapped to the type, or none is found and the type is not that of a simple type.
 abbrev pub Finds : Option Simple → Rose TypeLabel → Type 0
 Finds None t = IsSimple t → ⊥
 Finds (Some simple) t = Sound (space_of simple) × MapsTo (space_of simple) t
 
--- a type without parts
+-- The type has no parts.
 abbrev pub IsLeaf : Form → Type 0
 IsLeaf (form.SequenceOf part least most) = ⊥
 IsLeaf (form.Choice parts) = ⊥
 IsLeaf _ = Unit {0}
 
--- an ENUMERATED of these words
+-- The type is an ENUMERATED of these words.
 abbrev pub IsFormOfWords : Form → List (List ℕ) → Type 0
 IsFormOfWords f words =
     (identifiers : List (List ℕ)) × (f ≡ form.Words identifiers words) × IsCounted (length words) × IsStrictlySortedBy (slice_cmp nat_cmp) words

@@ -1,4 +1,4 @@
--- What the code asks of a value of a SEQUENCE.
+-- The rules of a value of a SEQUENCE that the code tests.
 use Rattle.std.specs.Prelude.{List, MatchBool}
 use Rattle.base_trees.specs.Rose.{Rose}
 use Rattle.simple_types.specs.declared.labels.ValueLabel.{ValueLabel}

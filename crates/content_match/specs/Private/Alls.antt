@@ -1,4 +1,4 @@
--- What a plan and a matcher keep of an all.
+-- The invariants of the plan and of a matcher of an all.
 use Rattle.std.specs.Prelude.{◌≡◌, ℕ, suc, ◌^◌, ◌<◌, List, [], ◌∷◌, length, Option, Some, None, MatchOption, Bool, true, false, not}
 use Rattle.base_trees.specs.Rose.{Rose, roses_of, label_of, depth_all}
 use Rattle.base_texts.specs.declared.texts.Name.{Name}
@@ -16,31 +16,31 @@ use Rattle.content_match.specs.declared.plans.PlanLabel.{PlanLabel}
 abbrev pub whole : Particles → Particle
 whole ps = occurs (all ps) 1 (Some 1)
 
--- the kids of an all
+-- the children of an all
 abbrev pub kids_in : AllPlan → Particles
 kids_in a = particles_of (roses_of a.kids.items)
 
 abbrev pub levels_in : AllPlan → ℕ
 levels_in a = suc (depth_all (roses_of a.kids.items))
 
--- of each kid, whether it may not be empty
+-- for each child, whether it may not be empty
 abbrev pub needed : List (Rose PlanLabel) → List Bool
 needed [] = []
 needed (t ∷ ts) = is_needed (label_of t) ∷ needed ts
 
--- how many are set
+-- the number of flags that are set
 abbrev pub wanted_in : List Bool → ℕ
 wanted_in [] = 0
 wanted_in (true ∷ bs) = suc (wanted_in bs)
 wanted_in (false ∷ bs) = wanted_in bs
 
--- for each kid a mark, on none
+-- for each child a mark, which is not set
 abbrev pub no_marks : List (Rose PlanLabel) → List Bool
 no_marks [] = []
 no_marks (t ∷ ts) = false ∷ no_marks ts
 
--- The plans are those of the kids, the table tells the kid of a name, and the number is that of the kids that may not be
--- empty.
+-- The plans are those of the children, the table gives the child of a name, and the number is that of the children that may not
+-- be empty.
 pub record IsAllPlan (a : AllPlan) : Type 0 where
   pub tells : TellsOne a.group (kids_in a)
   pub are_plans : ArePlans 1 (kids_in a) (roses_of a.kids.items)
@@ -53,18 +53,19 @@ AreRequired none (b ∷ bs) = ⊥
 AreRequired (more p ps) [] = ⊥
 AreRequired (more p ps) (b ∷ bs) = (b ≡ not (empties p)) × AreRequired ps bs
 
--- There is a mark for each kid, and the number is that of the kids without one that may not be empty.
+-- There is a mark for each child, and `left` is the number of children without a mark that may not be empty.
 pub record IsMarked (ps : Particles) (required marks : List Bool) (left : ℕ) : Type 0 where
   pub required_are : AreRequired ps required
   pub marks_fit : length marks ≡ count_of ps
   pub left_is : left ≡ missing ps marks
 
--- before the first leaf the marks are on no kid
+-- Before the first leaf no child has a mark.
 abbrev pub AreMarks : Particles → List ℕ → List Bool → Type 0
 AreMarks ps [] ms = ms ≡ unmarked ps
 AreMarks ps (k ∷ ks) ms = Unit {0}
 
--- A name that begins the kid can't come next, and all stays; or the kid takes it, and this is its leaf.
+-- If the result is `None`, a name that begins the child can't come next, and the position is unchanged. Otherwise the child
+-- matches, and the result is its leaf.
 abbrev pub KidTaken : AllPlan → ℕ → Position → Position → Option Leaf → Type 0
 KidTaken a k old new result =
     MatchOption result

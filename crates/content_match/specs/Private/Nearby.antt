@@ -1,4 +1,4 @@
--- The leaf beside the last one, where that is a kid of the top.
+-- The leaf next to the last one, where that is a child of the top.
 use Rattle.std.specs.Prelude.{◌≡◌, ℕ, suc, ◌+◌, ◌≤◌, List, Some, true, slice_get}
 use Rattle.base_trees.specs.Rose.{Rose, label_of, kids_of}
 use Rattle.base_texts.specs.declared.texts.Name.{Name}
@@ -17,7 +17,7 @@ use Rattle.content_match.specs.declared.plans.PlanLabel.{PlanLabel}
 abbrev pub IsOrdered : Rose PlanLabel → Type 0
 IsOrdered t = (g : Group) × ((label_of t).kind ≡ PlanGroup g) × (g.ordered ≡ true)
 
--- There is a kid at this place, an element of this name, and this is its leaf.
+-- There is a child at this place, an element of this name, and this is its leaf.
 pub record IsNamedKid (ts : List (Rose PlanLabel)) (k : ℕ) (a : Name) (leaf : Leaf) : Type 0 where
   pub child : Rose PlanLabel
   pub there : slice_get ts k ≡ Some child
@@ -26,14 +26,14 @@ pub record IsNamedKid (ts : List (Rose PlanLabel)) (k : ℕ) (a : Name) (leaf : 
   pub same : name_eq a own ≡ true
   pub number : leaf.particle ≡ (label_of child).number
 
--- It is the first turn of the leaf behind this kid of a sequence, and has the name.
+-- The result is the first turn of the leaf after this child of a sequence, and has the name.
 pub record LiesBehind (t : Rose PlanLabel) (k : ℕ) (a : Name) (b : Beside) : Type 0 where
   pub ordered : IsOrdered t
   pub kid_is : b.kid ≡ suc k
   pub turn_is : b.turn ≡ 0
   pub named : IsNamedKid (kids_of t) (suc k) a b.leaf
 
--- From this turn of this kid the name leads to it.
+-- From this turn of this child the name leads to the result.
 pub record LiesBeside (t : Rose PlanLabel) (k turn : ℕ) (a : Name) (b : Beside) : Type 0 where
   pub child : Rose PlanLabel
   pub there : slice_get (kids_of t) b.kid ≡ Some child

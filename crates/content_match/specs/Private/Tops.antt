@@ -1,4 +1,4 @@
--- What a plan and a matcher keep of a content model, whether it is an all or not.
+-- The plan of a content model and the position of a matcher, for an all or another particle.
 use Rattle.std.specs.Prelude.{◌≡◌, ℕ, ◌≤◌, List, [], Option, None, MatchOption, Bool, true, false}
 use Rattle.std.specs.Vec.{vec_capacity}
 use Rattle.base_trees.specs.Rose.{height}
@@ -36,7 +36,7 @@ abbrev pub IsTop : TopPlan → Type 0
 IsTop (TreePlan t) = IsPlan 0 (particle_of t) t
 IsTop (WholePlan a) = IsAllPlan a
 
--- the marks at the start, and how many kids may not be empty
+-- The marks at the start, and the number of children that may not be empty.
 abbrev pub marks_of : TopPlan → List Bool
 marks_of (TreePlan t) = []
 marks_of (WholePlan a) = no_marks a.kids.items
@@ -45,11 +45,11 @@ abbrev pub required_of : TopPlan → ℕ
 required_of (TreePlan t) = 0
 required_of (WholePlan a) = a.required
 
--- there is room for the turns and the kids of all levels
+-- there is room for the turns and the children of all levels
 abbrev pub HasRoom : TopPlan → Position → Type 0
 HasRoom top position = (height_of top ≤ vec_capacity position.turns) × (height_of top ≤ vec_capacity position.kids)
 
--- the turns and the kids go down to a leaf, and the marks are those of an all
+-- The turns and the children are the path to a leaf, and the marks are those of an all.
 abbrev pub StandsAt : TopPlan → Position → Type 0
 StandsAt (TreePlan t) position = OnWay position.turns.items position.kids.items t
 StandsAt (WholePlan a) position =
@@ -58,7 +58,8 @@ StandsAt (WholePlan a) position =
 abbrev pub spot_at : TopPlan → Position → Option Spot
 spot_at top position = spot_in (particle_of_top top) position.turns.items position.kids.items position.marks.items
 
--- The name leads to no leaf, and all stays; or it leads to this leaf.
+-- If the result is `None`, the name leads to no leaf, and the position is unchanged. Otherwise the name leads to the resulting
+-- leaf.
 abbrev pub Gone : TopPlan → Position → Position → Name → Option Leaf → Type 0
 Gone top old new a result =
     MatchOption result

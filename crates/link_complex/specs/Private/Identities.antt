@@ -1,4 +1,4 @@
--- What the types and the element particles of the code stand for.
+-- The types and the element particles that values of the code represent.
 use Rattle.std.specs.Prelude.{ℕ, List, map, Option}
 use Rattle.std.specs.Borrow.{Bor}
 use Rattle.std.specs.BTreeMap.{BTreeMap, get_by}
@@ -23,14 +23,14 @@ identity_of (kept.InPlace place) = InPlace place
 abbrev pub type_of : Option KeptType → Option TypeIdentity
 type_of o = option_map identity_of o
 
--- what the table has at the name
+-- The type that the table has for the name.
 abbrev pub kept_in : BTreeMap (Bor Name) KeptType → Name → Option KeptType
 kept_in table a = get_by (λ k. name_cmp a k.now) table
 
 abbrev pub type_in : BTreeMap (Bor Name) KeptType → Name → Option TypeIdentity
 type_in table a = type_of (kept_in table a)
 
--- the types of the local declarations
+-- The types of the local declarations.
 abbrev pub types_in : BTreeMap (Bor Name) KeptType → RawDoc → ℕ → Option TypeIdentity
 types_in table doc = type_at (type_in table) (doc_of doc)
 
@@ -49,6 +49,6 @@ particles_of ps = map particle_of ps
 abbrev pub leader_of : KeptLeader → Leader
 leader_of l = record { place = l.place; kind = type_of l.kind; other = l.other }
 
--- the leader that the table has at the name
+-- The leader that the table has for the name.
 abbrev pub leader_in : BTreeMap (Bor Name) KeptLeader → Name → Option Leader
 leader_in table a = option_map leader_of (get_by (λ k. name_cmp a k.now) table)

@@ -1,4 +1,4 @@
--- What the references of the code stand for.
+-- The references that values of the code represent.
 use Rattle.std.specs.Prelude.{List, map}
 use Rattle.link_names.specs.References.{Mention, mention}
 use Rattle.link_names.specs.declared.references.Mention.{Mention as Kept}

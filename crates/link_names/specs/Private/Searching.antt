@@ -1,8 +1,8 @@
--- For private contracts alone: what a search through a graph has seen.
+-- For private contracts only: what a search through a graph has seen.
 use Rattle.std.specs.Prelude.{◌≡◌, ◌<◌, ◌≤◌, ℕ, zero, suc, ◌+◌, ◌*◌, Bool, true, false, ◌⊎◌, List, [], ◌∷◌, length}
 use Rattle.base_texts.specs.Lists.{HasItem}
 
--- the mark of a node
+-- The mark of a node.
 abbrev pub mark : List Bool → ℕ → Bool
 mark [] n = false
 mark (b ∷ bs) zero = b
@@ -13,7 +13,7 @@ unseen [] = 0
 unseen (true ∷ bs) = unseen bs
 unseen (false ∷ bs) = suc (unseen bs)
 
--- What is seen and open, before and after some nodes were marked and opened.
+-- The nodes seen and open, before and after some nodes were marked and opened.
 pub record Opened (seen : List Bool) (open_ : List ℕ) (marked : List Bool) (opened : List ℕ) (nodes : List ℕ) : Type 0 where
   pub long : length marked ≡ length seen
   pub kept : (n : ℕ) → mark seen n ≡ true → mark marked n ≡ true

@@ -1,4 +1,4 @@
--- What the simple types of the code stand for with their spaces, for private contracts only.
+-- The simple types with their spaces that values of the code represent, for private contracts only.
 use Rattle.std.specs.Prelude.{List, map}
 use Rattle.simple_types.specs.Seen.{space_of}
 use Rattle.link_names.specs.CyclesSeen.{definition_of}

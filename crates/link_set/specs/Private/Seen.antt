@@ -1,4 +1,4 @@
--- What the lists of the code stand for.
+-- The elements and attributes that values of the code represent.
 use Rattle.std.specs.Prelude.{List, map}
 use Rattle.schema_components.specs.Seen.{element_of, attribute_of}
 use Rattle.link_set.specs.Written.{WrittenElement, WrittenAttribute, written_element, written_attribute}

@@ -1,4 +1,4 @@
--- What the tables of numbers tell, for private contracts only.
+-- The numbers that the tables of the code contain, for private contracts only.
 use Rattle.std.specs.Prelude.{ℕ, List, map, Option}
 use Rattle.std.specs.Borrow.{Bor}
 use Rattle.std.specs.BTreeMap.{BTreeMap, get_by}
@@ -27,7 +27,7 @@ entry_of e = entry (option_map (λ (a : Bor Name). a.now) e.name) e.place
 abbrev pub entries_of : List KeptEntry → List NamedPlace
 entries_of es = map entry_of es
 
--- what the table has at the rank of a built-in type
+-- The number that the table has for the rank of a built-in type.
 abbrev pub ranked_in : BTreeMap ℕ ℕ → Builtin → Option ℕ
 ranked_in table which = get_by (λ k. nat_cmp (rank which) k) table
 
@@ -55,10 +55,10 @@ told_by n =
       complexes = told_types n.types.complexes;
     }
 
--- the attribute that the table has at the name
+-- The attribute that the table has for the name.
 abbrev pub attribute_in : BTreeMap (Bor Name) (Bor GlobalAttribute) → Name → Option GlobalAttribute
 attribute_in table a = option_map (λ (g : Bor GlobalAttribute). g.now) (get_by (λ k. name_cmp a k.now) table)
 
--- what the names tell of a name
+-- The attribute that the names have for a name.
 abbrev pub found_in : AttributeNames → Name → Option GlobalAttribute
 found_in names a = attribute_in names.named a

@@ -1,4 +1,4 @@
--- What only private contracts need: the types that the code has made, and those that one is made from.
+-- For private contracts only: the types that the code has made, and those that one is made from.
 use Rattle.std.specs.Prelude.{ℕ, List, [], ◌∷◌, map, Option, Some, None, IfSome}
 use Rattle.std.specs.Option.{option_map}
 use Rattle.simple_types.specs.declared.simples.Simple.{Simple}
@@ -23,7 +23,7 @@ abbrev pub seen_all : List Part → Spaces
 seen_all [] = none
 seen_all (p ∷ ps) = more (seen p) (seen_all ps)
 
--- some members and those behind them, if each is there
+-- The first members followed by the others, if all of those are there.
 abbrev pub with_front : Spaces → Option Spaces → Option Spaces
 with_front front None = None
 with_front front (Some rest) = Some (joined front rest)

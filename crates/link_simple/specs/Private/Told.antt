@@ -1,4 +1,4 @@
--- What only private contracts need: types of which each part has a number.
+-- For private contracts only: types each part of which has a number.
 use Rattle.std.specs.Prelude.{◌≡◌, ℕ, List, Some, IsSome, slice_get}
 use Rattle.schema_components.specs.declared.simple_definitions.RawRef.TheVariants as reference
 use Rattle.schema_components.specs.Raw.{Base, Named, Inner, Bases, none, more, How, Restrict, ListOf, UnionOf}
@@ -6,7 +6,7 @@ use Rattle.link_names.specs.Order.{place}
 use Rattle.link_names.specs.Cycles.{SimpleNumbers, numbers_in}
 use Rattle.link_names.specs.SimpleTypes.{SimpleDefinition}
 
--- a built-in type needs none
+-- The part has a number. A built-in type needs none.
 abbrev pub IsPartTold : SimpleNumbers → ℕ → Base → Type 0
 IsPartTold ns file (Named (reference.Builtin which)) = Unit {0}
 IsPartTold ns file (Named (reference.Other name)) = IsSome (ns.named name)

@@ -1,4 +1,4 @@
--- What only private contracts need: types of which each restriction has few enumerations and each union a member.
+-- For private contracts only: types whose restrictions have few enumerations, and whose unions have members.
 use Rattle.std.specs.Prelude.{◌≡◌, true, List, [], ◌∷◌}
 use Rattle.schema_components.specs.Varieties.{how_varied}
 use Rattle.link_names.specs.SimpleTypes.{SimpleDefinition}

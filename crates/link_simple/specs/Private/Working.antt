@@ -1,4 +1,4 @@
--- What only private contracts need: the types made so far, each after its parts.
+-- For private contracts only: the types made so far, each after its parts.
 use Rattle.std.specs.Prelude.{◌≡◌, ◌<◌, ℕ, Bool, true, List, length, Option, Some, None, Err, IsSome, IfSome, slice_get}
 use Rattle.simple_types.specs.Seen.{space_of}
 use Rattle.simple_types.specs.Sound.{Sound}
@@ -26,13 +26,13 @@ fault_left body (left.Made simple) = None
 fault_left body (left.Refused why) = Some (fault why body)
 fault_left body left.PartMissing = None
 
--- of a type that is done
+-- The fault is that of a type that is done.
 abbrev pub IsFaultAmong : List SimpleDefinition → List (Option Space) → List Bool → LinkingFault → Type 0
 IsFaultAmong ds made done f =
     (n : ℕ) × (d : SimpleDefinition) × (mark done n ≡ true) × (slice_get ds n ≡ Some d) × (f.place ≡ d.body)
     × IsLeft (numbers_in ds) made d.place.file d.how (Err f.why)
 
--- those that are done are what their parts leave, in each making of all
+-- The types that are done are the results of making them from their parts, in each list of all spaces.
 pub record Stands (ds : List SimpleDefinition) (made : List (Option Space)) (done : List Bool) (found : Option LinkingFault) : Type 0 where
   pub long : length made ≡ length ds
   pub marks : length done ≡ length ds
@@ -46,7 +46,7 @@ pub record Stands (ds : List SimpleDefinition) (made : List (Option Space)) (don
 abbrev pub StandsIn : List SimpleDefinition → List Bool → Work → Type 0
 StandsIn ds done w = Stands ds (entries_of w.entries.items) done w.found
 
--- and all are done
+-- All types are done.
 pub record Finished (ds : List SimpleDefinition) (made : List (Option Space)) (done : List Bool) (found : Option LinkingFault) : Type 0 where
   pub stands : Stands ds made done found
   pub all : (n : ℕ) → n < length done → mark done n ≡ true

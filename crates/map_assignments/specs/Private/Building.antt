@@ -23,8 +23,8 @@ use Rattle.map_assignments.specs.Plans.{Label, item, TypePlan, Parts}
 use Rattle.map_assignments.specs.Planning.{is_once, particle_type, in_place}
 use Rattle.map_assignments.specs.Naming.{type_label, component_with, wanted, part_standard, part_marks, repeated_part, AreTaken, AreNamed}
 
--- one part more, with an identifier made from this name, with this default or fixed value, and with the instructions that its
--- identifier gives
+-- One part is added, with an identifier made from this name, with this default or fixed value, and with the instructions that its
+-- identifier gives.
 pub record AddsPart (before after : PartList) (name : List ℕ) (standard : Standard) (marks : List ℕ → List Instruction) (optional : Bool) (kid : Rose TypeLabel) : Type 0 where
   pub identifier : List ℕ
   pub taken : IsTaken Identifier before.scope name identifier
@@ -35,7 +35,7 @@ pub record AddsPart (before after : PartList) (name : List ℕ) (standard : Stan
 abbrev pub Adds : PartList → PartList → Label → Bool → Rose TypeLabel → Type 0
 Adds before after l optional kid = AddsPart before after (wanted l) (part_standard l) (part_marks l) optional kid
 
--- An identifier made from this name is taken for this part, which isn't added yet.
+-- An identifier made from this name is reserved for this part, which isn't added yet.
 pub record TakesPart (before after : PartList) (name : List ℕ) (standard : Standard) (marks : List ℕ → List Instruction) (optional : Bool) (made : Component) : Type 0 where
   pub identifier : List ℕ
   pub taken : IsTaken Identifier before.scope name identifier
@@ -47,26 +47,26 @@ pub record TakesPart (before after : PartList) (name : List ℕ) (standard : Sta
 abbrev pub Takes : PartList → PartList → Label → Bool → Component → Type 0
 Takes before after l optional made = TakesPart before after (wanted l) (part_standard l) (part_marks l) optional made
 
--- Whatever parts follow that are those of the rest, with the parts so far they are those of the whole.
+-- If the parts that follow are those of the rest, then they and the parts so far together are those of the whole.
 abbrev pub LeadsToNamed : (Subject → ℕ) → PartList → Parts → Parts → Type 0
 LeadsToNamed place made rest whole =
     (parts : List Component) (ts : List (Rose TypeLabel)) → AreNamed place made.scope rest parts (roses_of ts)
     → AreNamed place [] whole (made.components.items ++ parts) (roses_of (made.kids.items ++ ts))
 
--- the type of a declaration at a particle, where so many types without a name may stand in one another
+-- The type of a declaration at a particle, in which at most `levels` types without a name are nested.
 abbrev pub declared : Set → ℕ → ℕ → TypePlan
 declared s levels = particle_type s (in_place s levels)
 
 abbrev pub term_of : Rose ParticleLabel → Term
 term_of (node l ts) = term_seen l.kind (all_seen ts)
 
--- a sequence that stands once, or an all
+-- It is a sequence that occurs once, or an all.
 abbrev pub stands_as_parts : ParticleKind → ℕ → Option ℕ → Bool
 stands_as_parts Sequence least most = is_once least most
 stands_as_parts AllKind least most = true
 stands_as_parts _ least most = false
 
--- each element particle names a declaration of the set
+-- Each element particle names a declaration of the set.
 abbrev pub IsKnown : Set → Rose ParticleLabel → Type 0
 IsKnown s t = All (linked.IsNamed s) (linked.leaves (seen t))
 
@@ -75,16 +75,16 @@ AreKnown s ts = All (linked.IsNamed s) (linked.all_leaves (all_seen (roses_of ts
 
 -- ---- the order of child elements
 
--- Whatever identifiers follow behind those of the scope, with those that are made they are taken for all names behind the
--- first.
+-- If identifiers are made for the rest after those of the scope, then they and those made before are made for all names, after
+-- the first ones.
 abbrev pub LeadsToNames : List (List ℕ) → List (List ℕ) → List (List ℕ) → List (List ℕ) → List (List ℕ) → Type 0
 LeadsToNames first scope made rest names = (gs : List (List ℕ)) → AreTaken scope rest gs → AreTaken first names (made ++ gs)
 
--- and where all that are taken are made
+-- The identifiers of the scope are exactly those made before.
 abbrev pub LeadsToScope : List (List ℕ) → List (List ℕ) → List (List ℕ) → Type 0
 LeadsToScope scope rest names = LeadsToNames [] scope scope rest names
 
--- the type of the order of elements whose parts have these identifiers
+-- The type of the order of elements whose parts have these identifiers.
 abbrev pub order_tree : List (List ℕ) → Rose TypeLabel
 order_tree names =
     node (type_label (form.SequenceOf (repeated_part item) 0 None) []) (rose.more (node (type_label (form.Order names) []) rose.none) rose.none)

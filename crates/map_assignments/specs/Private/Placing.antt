@@ -1,4 +1,4 @@
--- The numbers of assignments as the code keeps them; for private contracts.
+-- The numbers of assignments as the code represents them; for private contracts.
 use Rattle.std.specs.Prelude.{◌≡◌, ℕ, ◌<◌, List, map, length, slice_get, unwrap_or}
 use Rattle.asn_types.specs.declared.modules.Assignment.{Assignment}
 use Rattle.schema_components.specs.Components.{Set}
@@ -19,13 +19,13 @@ place_of p (Nillable n) = number_at p.nillables.items n p.count
 abbrev pub references_of : List Assignment → List (List ℕ)
 references_of made = map (λ (a : Assignment). a.reference) made
 
--- a number for each component of the set
+-- There is a number for each component of the set.
 abbrev pub HasLists : Set → Places → Type 0
 HasLists s p =
     (length p.elements.items ≡ s.globals) × (length p.attributes.items ≡ length s.attributes) × (length p.simples.items ≡ length s.simples)
     × (length p.complexes.items ≡ length s.complexes) × (length p.nillables.items ≡ length s.complexes)
 
--- there is a number of the subject
+-- There is a number for the subject.
 abbrev pub HasPlace : Places → Subject → Type 0
 HasPlace p (Element n) = n < length p.elements.items
 HasPlace p (Attribute n) = n < length p.attributes.items

@@ -14,7 +14,7 @@ use Rattle.map_subjects.specs.Subjects.{name_of, rank, order_of}
 abbrev pub entry_with : Subject → Name → NamedSubject
 entry_with w name = record { subject = w; name = name }
 
--- the entry of a component, where it has a name
+-- The entry of a component, if it has a name.
 abbrev pub entries_with : Subject → Option Name → List NamedSubject
 entries_with w None = []
 entries_with w (Some name) = entry_with w name ∷ []
@@ -22,7 +22,7 @@ entries_with w (Some name) = entry_with w name ∷ []
 abbrev pub entries_of : Set → Subject → List NamedSubject
 entries_of s w = entries_with w (name_of s w)
 
--- the entries of the first so many components of a kind
+-- The entries of the first n components of a kind.
 abbrev pub firsts : Set → (ℕ → Subject) → ℕ → List NamedSubject
 firsts s of_kind zero = []
 firsts s of_kind (suc n) = firsts s of_kind n ++ entries_of s (of_kind n)
@@ -48,7 +48,7 @@ declaration_entries s = element_entries s ++ attribute_entries s
 abbrev pub type_entries : Set → List NamedSubject
 type_entries s = (simple_entries s ++ complex_entries s) ++ nillable_entries s
 
--- all, in the order of their kinds and numbers
+-- The entries of all components, in the order of their kinds and numbers.
 abbrev pub collected : Set → List NamedSubject
 collected s = declaration_entries s ++ type_entries s
 
@@ -57,12 +57,12 @@ collected s = declaration_entries s ++ type_entries s
 abbrev pub is_marked : List Bool → ℕ → Bool
 is_marked marks n = unwrap_or (slice_get marks n) false
 
--- there is a mark for a complex type
+-- If the type is complex, there is a mark for it.
 abbrev pub HasMark : ℕ → TypeOf → Type 0
 HasMark count (kind.Simple n) = Unit {0}
 HasMark count (kind.Complex n) = n < count
 
--- ---- the entries that stand before a global element of this name
+-- ---- the entries that precede a global element of this name
 
 abbrev pub is_before : Name → NamedSubject → Bool
 is_before name e = is_lt (order_of (rank e.subject) e.name 0 name)

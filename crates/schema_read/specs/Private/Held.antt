@@ -1,4 +1,4 @@
--- For private contracts alone: what the values of the code can hold of the components of a document.
+-- For private contracts only: the components of a document that the values of the code can represent.
 use Rattle.std.specs.Prelude.{◌+◌, ◌<◌, ◌≤◌, ◌^◌, List, [], ◌∷◌, ◌++◌, length, map, Option, Some, None}
 use Rattle.base_trees.specs.Rose.{Allowed}
 use Rattle.content_models.specs.Kids.{MayHave}
@@ -10,14 +10,14 @@ use Rattle.schema_components.specs.Seen.{local_of}
 use Rattle.schema_read.specs.Particles.{Made}
 use Rattle.schema_read.specs.Raw.{Parts}
 
--- a content model in which each particle may have those below it
+-- A content model in which each particle may have its children.
 abbrev pub ContentHeld : RawContent → Type 0
 ContentHeld content.Empty = Unit {0}
 ContentHeld (content.Simple base at) = Unit {0}
 ContentHeld (content.ElementOnly model) = Allowed MayHave model
 ContentHeld (content.Mixed model) = Allowed MayHave model
 
--- and behind the place of a complex type there is another place of 64 bits
+-- The content can be represented, and the byte after the place of the complex type has a place of 64 bits.
 pub record BodyHeld (body : Complex) : Type 0 where
   pub place : body.at + 1 < 2 ^ 64
   pub content : ContentHeld body.content
@@ -54,16 +54,16 @@ abbrev pub LocalsHeld : List Local → Type 0
 LocalsHeld [] = Unit {0}
 LocalsHeld (l ∷ ls) = LocalHeld l × LocalsHeld ls
 
--- local declarations, whose numbers have 32 bits
+-- Local declarations whose numbers have 32 bits.
 pub record Numbered (locals : List Local) : Type 0 where
   pub few : length locals ≤ 2 ^ 32
   pub held : LocalsHeld locals
 
--- those that are made, behind those that there are
+-- The local declarations present and those that are added have numbers of 32 bits.
 abbrev pub HasRoom : {A : Type 0} → List RawLocal → Made A → Type 0
 HasRoom before m = Numbered (map local_of before ++ m.locals)
 
--- the same, and what is made of them
+-- The same holds, and the value can be represented.
 pub record IsHeld {A : Type 0} (Held : A → Type 0) (before : List RawLocal) (m : Made A) : Type 0 where
   pub value : Held m.value
   pub room : HasRoom before m

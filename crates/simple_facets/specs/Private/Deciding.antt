@@ -1,5 +1,5 @@
--- Whether a number is one of a space of whole numbers, and a treated text one of a space of texts, as tests. They are false
--- of all other spaces. Private contracts use them.
+-- Tests whether a number is in a space of whole numbers, and a treated text in a space of texts. They are false for all other
+-- spaces. Private contracts use them.
 use Rattle.std.specs.Prelude.{◌≡◌, ℕ, Bool, true, false, ◌&&◌, is_some, ℤ, Option, List, position, bytes_eq}
 use Rattle.std.specs.Ordering.{int_eq}
 use Rattle.base_texts.specs.declared.white_space.WhiteSpace.{WhiteSpace}

@@ -1,4 +1,4 @@
--- How the bindings in scope are found by their prefix.
+-- The lookup of bindings in scope by their prefix.
 use Rattle.std.specs.Prelude.{◌≡◌, ℕ, List, [], ◌∷◌, length, reverse, bytes_eq, Option, Some, None, if◌then◌else◌}
 use Rattle.std.specs.Borrow.{Bor}
 use Rattle.std.specs.Ordering.{nat_cmp}
@@ -10,17 +10,17 @@ use Rattle.xml_pieces.specs.declared.scope.Binding.{Binding}
 abbrev pub bound : Binding → List ℕ × List ℕ
 bound b = (b.prefix.now, b.space)
 
--- of bindings, the innermost first: the place of the innermost of this prefix, where the outermost has the place 0
+-- For bindings with the innermost first: the place of the innermost of this prefix, where the outermost has the place 0.
 abbrev pub place_of : List ℕ → List Binding → Option ℕ
 place_of prefix [] = None
 place_of prefix (b ∷ outer) = if bytes_eq b.prefix.now prefix then Some (length outer) else place_of prefix outer
 
--- of bindings, the innermost first: each knows the place of the one that it hides
+-- For bindings with the innermost first: each has the place of the one that it hides.
 abbrev pub Hides : List Binding → Type 0
 Hides [] = Unit {0}
 Hides (b ∷ outer) = (b.hidden ≡ place_of b.prefix.now outer) × Hides outer
 
--- the map has the place of the innermost binding of each prefix; the bindings stand with the outermost first
+-- The map has the place of the innermost binding of each prefix. The bindings are listed with the outermost first.
 pub record Indexed (bindings : List Binding) (innermost : BTreeMap (Bor (List ℕ)) ℕ) : Type 0 where
   pub found : (prefix : List ℕ) → get_by (λ key. slice_cmp nat_cmp prefix key.now) innermost ≡ place_of prefix (reverse bindings)
   pub hides : Hides (reverse bindings)

@@ -1,4 +1,4 @@
--- What a reader of the code has so far, as a state.
+-- The state that a reader of the code represents.
 use Rattle.std.specs.Prelude.{◌≡◌, ◌⊎◌, ◌+◌, ◌<◌, ◌≤◌, ℕ, true, List, [], ◌∷◌, ◌++◌, length, map, take, drop, reverse, None, string_bytes, IsUtf8}
 use Rattle.std.specs.Borrow.{Bor}
 use Rattle.base_texts.specs.declared.texts.Name.{Name}
@@ -25,9 +25,9 @@ use Rattle.xml_read.specs.Private.Entering.{Stopped, have_utf8, IsNamed}
 use Rattle.xml_read.specs.Private.Noting.{AllKnown, KnownAs, bare}
 use Rattle.xml_read.specs.Private.States.{Above, State, nothing, context, kids_of_state, closed, with_leaf, step}
 
--- ---- an element that is open, by its written name and the open nodes from its own on
+-- ---- an open element, by its written name and the open nodes from its own on
 
--- the label of the first, or else one without a name
+-- The label of the first open node, or one without a name if there is none.
 abbrev pub label_in : List (zips.Above ItemLabel) → ItemLabel
 label_in [] = Text [] 0
 label_in (a ∷ up) = a.label
@@ -62,12 +62,12 @@ above_of written up = record {
   before = before_in up;
 }
 
--- the names as written stand beside the open nodes, the innermost first
+-- The written names combined with the open nodes, the innermost first.
 abbrev pub aboves : List (Bor (List ℕ)) → List (zips.Above ItemLabel) → List Above
 aboves [] up = []
 aboves (written ∷ names) up = above_of written.now up ∷ aboves names (up_in up)
 
--- how many elements are open
+-- The number of open elements.
 abbrev pub depth_of : Builder → ℕ
 depth_of b = length b.open.items
 
@@ -86,45 +86,45 @@ state b = record {
 abbrev pub node_of : Above → zips.Above ItemLabel
 node_of a = record { label = Element a.name a.attributes a.declares a.at; before = a.before }
 
--- nor against that of each element that is open
+-- No reason is against the name of each open element either.
 abbrev pub AreNamed : List Open → Type 0
 AreNamed [] = Unit {0}
 AreNamed (e ∷ es) = IsNamed e.written (flat_map (λ o. o.declares) (e ∷ es) ++ (xml_prefix, xml_space) ∷ []) × AreNamed es
 
--- the bindings at hand are those in scope, the elements that are open have been tested, the open nodes are these, and the
--- notes are right
+-- The bindings kept are those in scope, the open elements have been tested, the open nodes are those of the state, and the notes
+-- are right.
 pub record Scoped (b : Builder) : Type 0 where
   pub scope_is : reverse b.scope ≡ scope (context (state b))
   pub named : AreNamed (context (state b)).elements
   pub nodes : map node_of (state b).above ≡ b.items.zip.above
   pub noted : AllKnown (reverse b.scope) b.items.names b.notes.written.items b.notes.names.items
 
--- nothing speaks against the piece, and the reader has taken its step
+-- No reason is against the piece, and the reader has made its step.
 pub record Takes (p : Piece) (at : ℕ) (old new : Builder) : Type 0 where
   pub none : reason p (context (state old)) ≡ None
   pub steps : state new ≡ step p at (state old)
   pub scoped : Scoped new
 
--- a piece stands first, with this behind it, nothing speaks against it, and the reader has taken its step
+-- A piece is at the start, `behind` follows it, no reason is against it, and the reader has made its step.
 pub record TakesFirst (rest behind : List ℕ) (at : ℕ) (old new : Builder) : Type 0 where
   pub piece : Piece
   pub begins : pieces.Begins piece rest behind
   pub takes : Takes piece at old new
 
--- so many plain characters stand first, behind them the end tag of this name, and this behind that
+-- `len` bytes of plain characters are at the start, the end tag of this name follows them, and `behind` follows that.
 pub record IsLeaf (name inner : List ℕ) (len : ℕ) (behind : List ℕ) : Type 0 where
   pub some : 0 < len
   pub within : len ≤ length inner
   pub run : IsPlainRun (take len inner)
   pub parts : drop len inner ≡ 0x3C ∷ 0x2F ∷ (name ++ 0x3E ∷ behind)
 
--- the reader has taken an element, in which these characters stand alone
+-- The reader has added an element that has only these characters.
 pub record PutsLeaf (tag : pieces.Tag) (at : ℕ) (text : List ℕ) (text_at : ℕ) (old new : Builder) : Type 0 where
   pub steps : state new ≡ with_leaf tag at text text_at (state old)
   pub scoped : Scoped new
 
--- an element of plain characters alone stands first, with this behind it, nothing speaks against its start tag, and the
--- reader has taken it
+-- An element of only plain characters is at the start, `behind` follows it, no reason is against its start tag, and the reader
+-- has added it.
 pub record TakesLeaf (rest behind : List ℕ) (at : ℕ) (old new : Builder) : Type 0 where
   pub name : List ℕ
   pub inner : List ℕ
@@ -134,7 +134,7 @@ pub record TakesLeaf (rest behind : List ℕ) (at : ℕ) (old new : Builder) : T
   pub leaf : IsLeaf name inner len behind
   pub puts : PutsLeaf (bare name) at (take len inner) (at + length name + 2) old new
 
--- a piece, or an element of plain characters alone
+-- The reader has added a piece, or an element of only plain characters.
 abbrev pub TakesKnown : List ℕ → List ℕ → ℕ → Builder → Builder → Type 0
 TakesKnown rest behind at old new = TakesFirst rest behind at old new ⊎ TakesLeaf rest behind at old new
 
@@ -144,31 +144,31 @@ tag_of (opens.Read tag) = tag_seen tag.now
 tag_of (opens.Noted note) = bare note.now.written.now
 tag_of (opens.Leaf note inner len) = bare note.now.written.now
 
--- this many plain characters are first, behind the start tag of this name at this place
+-- `len` bytes of plain characters are at the start, after the start tag of this name at this place.
 pub record CanPut (name : List ℕ) (inner : List ℕ) (len at : ℕ) : Type 0 where
   pub some : 0 < len
   pub within : len ≤ length inner
   pub run : IsPlainRun (take len inner)
   pub place : at + length name ≤ 16777216
 
--- what is known of an opening: the values of a tag are UTF-8, and a note is right where the reader is
+-- The preconditions of an opening: the values of a tag are UTF-8, and a note is right where the reader is.
 abbrev pub CanOpen : Opening → ℕ → Builder → Type 0
 CanOpen (opens.Read tag) at b = have_utf8 (tag_seen tag.now).attributes ≡ true
 CanOpen (opens.Noted note) at b = KnownAs (reverse b.scope) b.items.names note.now.written.now note.now.name
 CanOpen (opens.Leaf note inner len) at b = KnownAs (reverse b.scope) b.items.names note.now.written.now note.now.name × CanPut note.now.written.now inner.now len at
 
--- nothing speaks against the start tag, and the reader has taken it, or the complete element
+-- No reason is against the start tag, and the reader has made its step, or has added the complete element.
 abbrev pub Opens : Opening → ℕ → Builder → Builder → Type 0
 Opens (opens.Read tag) at old new = Takes (Start (tag_seen tag.now)) at old new
 Opens (opens.Noted note) at old new = Takes (Start (bare note.now.written.now)) at old new
 Opens (opens.Leaf note inner len) at old new = (reason (Start (bare note.now.written.now)) (context (state old)) ≡ None) × PutsLeaf (bare note.now.written.now) at (take len inner.now) (at + length note.now.written.now + 2) old new
 
--- the error is what speaks against the piece that is first, or want of memory
+-- The error is the first reason against the piece at the start, or an allocation failure.
 abbrev pub StopsFirst : List ℕ → ℕ → Builder → DocError → Type 0
 StopsFirst rest at old (errors.Syntax place why) = (piece : Piece) × (behind : List ℕ) × pieces.Begins piece rest behind × Stopped (reason piece (context (state old))) at (errors.Syntax place why)
 StopsFirst rest at old errors.Memory = Unit {0}
 
--- the name of the innermost element and a `>` stand first, with this behind them
+-- The name of the innermost element and a `>` are at the start, and `behind` follows them.
 pub record EndsInnermost (written behind : List ℕ) (c : Context) : Type 0 where
   pub name : List ℕ
   pub innermost : is_innermost name c.elements ≡ true
@@ -179,7 +179,7 @@ pub record Begins (b : Builder) : Type 0 where
   pub steps : state b ≡ nothing
   pub scoped : Scoped b
 
--- a document has been read: its root has ended, and stands alone
+-- A document has been read: its root has ended, and is the only tree.
 pub record HasRead (bytes : List ℕ) (b : Builder) : Type 0 where
   pub closed : b.items.zip.above ≡ []
   pub root : Rose ItemLabel
@@ -187,7 +187,7 @@ pub record HasRead (bytes : List ℕ) (b : Builder) : Type 0 where
   pub doc : DocOf bytes root
   pub items : AreItems root
 
--- the characters are a node, and nothing else has changed
+-- The characters are a node, and the rest of the state is unchanged.
 pub record Flushed (old new : Builder) : Type 0 where
   pub kids : new.items.zip.kids ≡ kids_of_state (state old)
   pub same_above : new.items.zip.above ≡ old.items.zip.above
@@ -206,14 +206,14 @@ pub record Shuts (old new : Builder) : Type 0 where
   pub steps : state new ≡ closed (state old).above (state old)
   pub scoped : Scoped new
 
--- neither the bindings nor the nodes nor the notes have changed
+-- The bindings, the nodes, the open names and the notes are unchanged.
 pub record Kept (old new : Builder) : Type 0 where
   pub scope : new.scope ≡ old.scope
   pub items : new.items ≡ old.items
   pub names : new.open.items ≡ old.open.items
   pub notes : new.notes ≡ old.notes
 
--- what a piece gives to texts and values is UTF-8
+-- The bytes that a piece adds to texts and values are UTF-8.
 abbrev pub GivesUtf8 : Piece → Type 0
 GivesUtf8 Declaration = Unit {0}
 GivesUtf8 (Start tag) = have_utf8 tag.attributes ≡ true

@@ -1,4 +1,4 @@
--- What is read at a tag.
+-- The element that a tag opens.
 use Rattle.std.specs.Prelude.{◌≡◌, ℕ, Bool, true, false, ◌&&◌, List, [], ◌∷◌, nat_le, Option, Some, None}
 use Rattle.std.specs.List.{list_all}
 use Rattle.std.specs.Str.{is_utf8}
@@ -13,13 +13,13 @@ use Rattle.xml_pieces.specs.Namespaces.{is_long, is_unbound, bindings_of, attrib
 use Rattle.xml_pieces.specs.QNames.{prefix_of, is_qname}
 use Rattle.xml_read.specs.Contexts.{tag_scope, start_reason, has_unbound, has_duplicate}
 
--- nothing speaks against a name where these bindings are in scope
+-- No reason is against a name where these bindings are in scope.
 pub record IsNamed (written : List ℕ) (inside : List (List ℕ × List ℕ)) : Type 0 where
   pub qname : is_qname written ≡ true
   pub short : is_long written ≡ false
   pub bound : is_unbound inside (prefix_of written) ≡ false
 
--- the tests of a tag behind those of its names, where these bindings are in scope within it
+-- The tests of a tag after those of its names, where these bindings are in scope within it.
 abbrev pub inner_tests : Tag → List (List ℕ × List ℕ) → Bool → ℕ → List (Bool × DocWhy)
 inner_tests tag inside ended depth =
     (has_unbound tag inside, why.UnboundPrefix)
@@ -28,22 +28,22 @@ inner_tests tag inside ended depth =
     ∷ (nat_le 64 depth, why.TooDeep)
     ∷ []
 
--- the tests of the place of a tag: the root has ended, or this many elements are open
+-- The tests of the place of a tag, by whether the root has ended and by the number of open elements.
 abbrev pub place_tests : Bool → ℕ → List (Bool × DocWhy)
 place_tests ended depth = (ended, why.ExtraRoot) ∷ (nat_le 64 depth, why.TooDeep) ∷ []
 
--- nothing speaks against the tag, and this is what it opens
+-- No reason is against the tag, and it opens an element of this name with these attributes and bindings.
 pub record EntersAs (outer : List (List ℕ × List ℕ)) (ended : Bool) (depth : ℕ) (tag : Tag) (name : Name) (attributes : List (Name × List ℕ)) (declares : List (List ℕ × List ℕ)) : Type 0 where
   pub none : start_reason tag outer ended depth ≡ None
   pub name_is : name ≡ element_name (tag_scope tag outer) tag.name
   pub attributes_are : attributes ≡ attributes_of (tag_scope tag outer) tag.attributes
   pub declares_are : declares ≡ bindings_of tag.attributes
 
--- so it is with what has been read of the tag
+-- No reason is against the tag, and `head` is the element that it opens.
 pub record Enters (outer : List (List ℕ × List ℕ)) (ended : Bool) (depth : ℕ) (tag : Tag) (head : Head) : Type 0 where
   pub opens : EntersAs outer ended depth tag head.name head.attributes.items head.declares.items
 
--- the error is that reason at this place, or want of memory
+-- The error is that reason at this place, or an allocation failure.
 abbrev pub Stopped : Option DocWhy → ℕ → DocError → Type 0
 Stopped reason at (errors.Syntax place why) = (place ≡ at) × (reason ≡ Some why)
 Stopped reason at errors.Memory = Unit {0}
@@ -52,6 +52,6 @@ Stopped reason at errors.Memory = Unit {0}
 abbrev pub have_utf8 : List (List ℕ × List ℕ) → Bool
 have_utf8 attributes = list_all (λ a. is_utf8 a.1) attributes
 
--- and their names are QNames
+-- The names of attributes are QNames.
 abbrev pub are_named : List (List ℕ × List ℕ) → Bool
 are_named attributes = list_all (λ a. is_qname a.0 && is_utf8 a.1) attributes

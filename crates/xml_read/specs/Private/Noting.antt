@@ -1,4 +1,4 @@
--- Written names with the numbers of the names that they stand for.
+-- Written names with the numbers of the names that they denote.
 use Rattle.std.specs.Prelude.{◌≡◌, ℕ, List, [], ◌∷◌, Some, slice_get}
 use Rattle.base_texts.specs.declared.texts.Name.{Name}
 use Rattle.xml_pieces.specs.Pieces.{Tag}
@@ -6,12 +6,12 @@ use Rattle.std.specs.Borrow.{Bor}
 use Rattle.xml_pieces.specs.Namespaces.{element_name}
 use Rattle.xml_read.specs.Private.Entering.{IsNamed}
 
--- where these bindings are in scope, nothing speaks against the written name, and it stands for the name with this number
+-- Where these bindings are in scope, no reason is against the written name, and it denotes the name with this number.
 pub record KnownAs (inside : List (List ℕ × List ℕ)) (names : List Name) (written : List ℕ) (number : ℕ) : Type 0 where
   pub named : IsNamed written inside
   pub name : slice_get names number ≡ Some (element_name inside written)
 
--- so it is with all notes
+-- All notes are right.
 abbrev pub AllKnown : List (List ℕ × List ℕ) → List Name → List (Bor (List ℕ)) → List ℕ → Type 0
 AllKnown inside names [] [] = Unit {0}
 AllKnown inside names [] (number ∷ numbers) = ⊥

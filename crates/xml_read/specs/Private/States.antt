@@ -1,4 +1,4 @@
--- What a reader has so far, as one value: what it does at a piece is a step from one to the next.
+-- The state of a reader as one value. Each piece makes a step from one state to the next.
 use Rattle.std.specs.Prelude.{ℕ, Bool, true, false, List, [], ◌∷◌, ◌++◌, map, encode_utf8, if◌then◌else◌}
 use Rattle.base_texts.specs.declared.texts.Name.{Name}
 use Rattle.base_texts.specs.Limits.{is_empty}
@@ -9,7 +9,7 @@ use Rattle.xml_items.specs.declared.label.ItemLabel.TheVariants.{Element, Text}
 use Rattle.xml_pieces.specs.Namespaces.{bindings_of, attributes_of, element_name}
 use Rattle.xml_read.specs.Contexts.{Context, Open, scope, tag_scope, brackets_after}
 
--- an element that is open, with what stands before it beside it
+-- An element that is open, with the nodes that precede it at its level.
 pub record Above : Type 0 where
   pub written : List ℕ
   pub name : Name
@@ -21,9 +21,9 @@ pub record Above : Type 0 where
 pub record State : Type 0 where
   -- the elements that are open, the innermost first
   pub above : List Above
-  -- what stands in the innermost of them, or outside
+  -- the nodes in the innermost of them, or outside
   pub kids : List (Rose ItemLabel)
-  -- the characters behind these, which are no node yet, and their place
+  -- the characters after these nodes, which are no node yet, and their place
   pub text : List ℕ
   pub text_at : ℕ
   pub ended : Bool
@@ -41,7 +41,7 @@ context s = record { elements = map open_of s.above; ended = s.ended; first = s.
 
 -- ---- steps
 
--- the kids with the text behind them
+-- The children with the text after them.
 abbrev pub with_text : List (Rose ItemLabel) → List ℕ → ℕ → List (Rose ItemLabel)
 with_text kids text at = if is_empty text then kids else kids ++ node (Text text at) none ∷ []
 
@@ -101,7 +101,7 @@ closed (a ∷ above) s = record {
 abbrev pub passed : State → State
 passed s = record { above = s.above; kids = s.kids; text = s.text; text_at = s.text_at; ended = s.ended; first = false; brackets = 0 }
 
--- characters, of which so many `]` stand at the end
+-- Characters are added, and `brackets` of them at the end are `]`.
 abbrev pub written_on : List ℕ → ℕ → ℕ → State → State
 written_on text at brackets s = record {
   above = s.above;
@@ -113,14 +113,14 @@ written_on text at brackets s = record {
   brackets = brackets;
 }
 
--- characters outside the root, which are white space
+-- Characters outside the root, which are white space, are dropped.
 abbrev pub left_out : ℕ → State → State
 left_out brackets s = record { above = s.above; kids = s.kids; text = s.text; text_at = s.text_at; ended = s.ended; first = false; brackets = brackets }
 
 abbrev pub added : List ℕ → ℕ → ℕ → State → State
 added text at brackets s = if is_empty s.above then left_out brackets s else written_on text at brackets s
 
--- an element, behind the start of which these characters stand alone
+-- An element is added that has only these characters.
 abbrev pub with_leaf : Tag → ℕ → List ℕ → ℕ → State → State
 with_leaf tag at text text_at s = let inner = added text text_at 0 (opened tag at s) in closed inner.above inner
 

@@ -1,4 +1,4 @@
--- What is written of a byte where it stands. Only private contracts use this.
+-- The text that is written for a byte at its place. Only private contracts use this.
 use Rattle.std.specs.Prelude.{ℕ, List}
 use Rattle.xml_write.specs.declared.writing.CharacterPlace.{CharacterPlace}
 use Rattle.xml_write.specs.declared.writing.CharacterPlace.TheVariants as places

@@ -19,7 +19,7 @@ use Rattle.asn_types.proofs.simples.+simples.Goals as goal
 
 pub list_at-returns-then-has_list : goal.list_at-returns-then-has_list
 list_at-returns-then-has_list t c simple =
-    let known = list-of c.args.node.now c.args.part.now c.args.min c.args.max c.requires.list simple in
+    let known = list-of c.args.node.now c.args.part.now c.args.bounds.min c.args.bounds.max c.requires.list simple in
     let kid = c.in-Some.kid.now in
     let same = same_some known.first kid (sym known.is_first ∙ ap (λ ks. slice_get ks 0) (sym c.kids.ensures) ∙ sym c.in-Some.ensures.value) in
     let found = subst (λ o. Finds o kid) c.in-Some-2.is c.in_ok-item.ensures in
@@ -35,8 +35,8 @@ list_at-returns t c =
     let form = subst (IsForm c.args.module.now) c.requires.list (form-well_formed c.args.module.now node c.requires.sound) in
     let marks = ap (λ l. counting l.marks) (sym c.label.ensures) ∙ c.tell_list.ensures.0 c.if-not-tell_list.false in
     let first = ap (λ ks. slice_get ks 0) (sym c.kids.ensures) ∙ sym c.in-Some.ensures.value in
-    let maps = list-maps node c.args.part.now c.args.min c.args.max item kid c.requires.list marks (c.is_always_there.ensures.0 c.if-not-is_always_there.false) first found.1 in
-    let is = list_space c.in_ok-item-2.item c.args.min c.args.max ∙ ap (λ s. ListOf (space_of s) c.args.min c.args.max) c.in_ok-item-2.ensures.ok in
+    let maps = list-maps node c.args.part.now c.args.bounds.min c.args.bounds.max item kid c.requires.list marks (c.is_always_there.ensures.0 c.if-not-is_always_there.false) first found.1 in
+    let is = list_space c.in_ok-item-2.item c.args.bounds.min c.args.bounds.max ∙ ap (λ s. ListOf (space_of s) c.args.bounds.min c.args.bounds.max) c.in_ok-item-2.ensures.ok in
     subst (λ s. Sound s × MapsTo s node) (sym is) ((found.0, sym c.has_list.ensures ∙ c.if-has_list.false, form), maps)
 
 pub members_at-find_simple-requires : goal.members_at-find_simple-requires

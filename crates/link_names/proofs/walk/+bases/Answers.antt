@@ -9,7 +9,7 @@ use Rattle.link_names.proofs.walk.+bases.Goals as goal
 pub push_base-returns-in-Named : goal.push_base-returns-in-Named
 push_base-returns-in-Named t c =
     let told = ap (in_base c.args.file c.args.at c.args.role) (ap base_of c.in-Named.is ∙ named_base c.in-Named.name) in
-    rw told c.push_reference.ensures
+    rw told c.push_part.ensures
 
 pub push_base-push_simple-requires : goal.push_base-push_simple-requires
 push_base-push_simple-requires t c =

@@ -142,8 +142,8 @@ pub declare_own-element_of-requires : goal.declare_own-element_of-requires
 declare_own-element_of-requires t c =
     let d = c.decreases in (
       omega (arith, d),
-      declared_held (said c.args.self.setting) (bindings_in c.args.self.scope.now) c.args.own.now c.args.at (roses_of c.args.kids.now) c.args.locals.now.items c.hold.new.locals.items
-          (Reference no_name c.args.at) c.in_ok-name.name (local_name c.args.self.setting.target.now c.args.self.setting.elements_qualified c.args.own.now) tt
+      declared_held (said c.args.self.setting) (bindings_in c.args.self.scope.now) c.args.tag.own.now c.args.tag.at (roses_of c.args.kids.now) c.args.locals.now.items c.hold.new.locals.items
+          (Reference no_name c.args.tag.at) c.in_ok-name.name (local_name c.args.self.setting.target.now c.args.self.setting.elements_qualified c.args.tag.own.now) tt
           c.in_ok-hold.ensures c.in_ok-name.ensures c.requires,
     )
 
@@ -151,15 +151,15 @@ pub declare_own-put_own-requires : goal.declare_own-put_own-requires
 declare_own-put_own-requires t c =
     let before = c.args.locals.now.items in
     let counted : c.len-number.result ≡ length before = omega (arith, c.len-number.ensures, c.args.locals.now.ok.0) in
-    held_within before c.hold.new.locals.items c.element_of.new.locals.items (Reference no_name c.args.at) (seen.element_of c.in_ok-element.element)
+    held_within before c.hold.new.locals.items c.element_of.new.locals.items (Reference no_name c.args.tag.at) (seen.element_of c.in_ok-element.element)
     c.len-number.result c.in_ok-hold.ensures c.in_ok-element.ensures counted
 
 pub declare_own-returns : goal.declare_own-returns
 declare_own-returns t c =
     let counted : c.len-number.result ≡ length c.args.locals.now.items = omega (arith, c.len-number.ensures, c.args.locals.now.ok.0) in
-    declared_in_place (said c.args.self.setting) (bindings_in c.args.self.scope.now) c.args.own.now c.args.at (roses_of c.args.kids.now)
-    c.args.locals.now.items c.hold.new.locals.items c.element_of.new.locals.items c.put_own.new.locals.items (Reference no_name c.args.at)
-    c.in_ok-name.name (local_name c.args.self.setting.target.now c.args.self.setting.elements_qualified c.args.own.now) (seen.element_of c.in_ok-element.element) c.len-number.result
+    declared_in_place (said c.args.self.setting) (bindings_in c.args.self.scope.now) c.args.tag.own.now c.args.tag.at (roses_of c.args.kids.now)
+    c.args.locals.now.items c.hold.new.locals.items c.element_of.new.locals.items c.put_own.new.locals.items (Reference no_name c.args.tag.at)
+    c.in_ok-name.name (local_name c.args.self.setting.target.now c.args.self.setting.elements_qualified c.args.tag.own.now) (seen.element_of c.in_ok-element.element) c.len-number.result
     c.in_ok-hold.ensures c.in_ok-name.ensures c.in_ok-element.ensures counted c.put_own.ensures
 
 pub inner_kind-loop-kid-preserved : goal.inner_kind-loop-kid-preserved
