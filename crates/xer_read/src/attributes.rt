@@ -1,13 +1,13 @@
 //! The parts that stand for attributes.
-ghost use Rattle.std.specs.Prelude.{◌≡◌, ◌∷◌, [], true, Some, None, ◌<◌, length, map, All, OnOk, MatchOption};
+ghost use Rattle.std.specs.Prelude.{◌≡◌, ◌∷◌, [], ℕ, List, true, ◌<◌, length, map, All, OnOk};
+ghost use Rattle.base_texts.specs.declared.texts.Name.{Name};
 ghost use Rattle.schema_components.specs.Declarable.{is_declarable_attribute};
 ghost use Rattle.schema_components.specs.Linked.{IsUse, IsLinked};
 ghost use Rattle.schema_components.specs.SetParts.{parts_of};
 ghost use Rattle.validity_rules.specs.Asked.{attribute_in};
-ghost use Rattle.validity_rules.specs.Attributes as rule;
 ghost use Rattle.validity_rules.specs.Attributes.{left};
 ghost use Rattle.validity_check.specs.Texts.{AreTexts};
-ghost use Rattle.xer_read.specs.Private.Contents.{IsTaken, AreTaken, AttributesMade};
+ghost use Rattle.xer_read.specs.Private.Contents.{IsTaken, IsTextOf, AreTaken, AttributesMade};
 ghost use Rattle.xer_read.specs.Private.Putting.{PartsPut};
 
 use base_texts::{Memory, Name, Text};
@@ -22,17 +22,15 @@ fn put_attribute(
     alloc: Global,
     set: &SchemaSet,
     declared: &AttributeUse,
-    attributes: &[(Name, Text)],
     text: Option<&Text>,
     values: &mut ValueBuilder,
 ) -> Result<(), Memory>
     requires linked { IsLinked set.now }
     requires declared { IsUse set.now declared.now }
-    requires taken { IsTaken (left attributes.now) (attribute_in (parts_of set.now) declared.now) }
-    requires text { MatchOption text (rule.text_of attributes.now declared.now.name ≡ None) (λ t. rule.text_of attributes.now declared.now.name ≡ Some t.now) }
-    ensures { OnOk result (PartsPut (AttributesMade (attribute_in (parts_of set.now) declared.now ∷ []) (left attributes.now)) values.old values.new) }
+    requires taken { (xs : List (Name × List ℕ)) × IsTaken (left xs) (attribute_in (parts_of set.now) declared.now) × IsTextOf xs declared.now.name text }
+    ensures { OnOk result ((xs : List (Name × List ℕ)) → IsTaken (left xs) (attribute_in (parts_of set.now) declared.now) → IsTextOf xs declared.now.name text.entry
+        → PartsPut (AttributesMade (attribute_in (parts_of set.now) declared.now ∷ []) (left xs)) values.old values.new) }
 {
-    let _ = attributes;
     match text {
         None => values.part(false),
         Some(found) => {
@@ -66,7 +64,7 @@ fn put_few(
 {
     for declared in uses {
         let text = text_of(attributes, &declared.name);
-        put_attribute(alloc, set, declared, attributes, text, values)?;
+        put_attribute(alloc, set, declared, text, values)?;
     }
     Ok(())
 }
@@ -76,20 +74,19 @@ fn put_each(
     alloc: Global,
     set: &SchemaSet,
     uses: &[AttributeUse],
-    attributes: &[(Name, Text)],
     texts: &[Option<&Text>],
     values: &mut ValueBuilder,
 ) -> Result<(), Memory>
     requires linked { IsLinked set.now }
     requires uses { All (IsUse set.now) uses.now }
-    requires taken { AreTaken set.now attributes.now uses.now }
-    requires texts { AreTexts attributes.now uses.now texts.now }
-    ensures { OnOk result (PartsPut (AttributesMade (map (attribute_in (parts_of set.now)) uses.now) (left attributes.now)) values.old values.new) }
+    requires taken { (xs : List (Name × List ℕ)) × AreTaken set.now xs uses.now × AreTexts xs uses.now texts.now }
+    ensures { OnOk result ((xs : List (Name × List ℕ)) → AreTaken set.now xs uses.now → AreTexts xs uses.now texts.now
+        → PartsPut (AttributesMade (map (attribute_in (parts_of set.now)) uses.now) (left xs)) values.old values.new) }
 {
     'uses: for i in 0..uses.len() {
         let declared = &uses[i];
         let text = texts[i];
-        put_attribute(alloc, set, declared, attributes, text, values)?;
+        put_attribute(alloc, set, declared, text, values)?;
     }
     Ok(())
 }
@@ -115,5 +112,5 @@ pub(crate) fn put_attributes(
         return put_few(alloc, set, uses.list, attributes, values);
     }
     let texts = uses.texts_of(alloc, attributes)?;
-    put_each(alloc, set, uses.list, attributes, &texts, values)
+    put_each(alloc, set, uses.list, &texts, values)
 }

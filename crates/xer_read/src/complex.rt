@@ -18,7 +18,7 @@ ghost use Rattle.value_builder.specs.Built.{Stands, Puts, flagged, with_parts};
 ghost use Rattle.value_contents.specs.Made.{Child};
 ghost use Rattle.xer_read.specs.Private.Slots.{Keeps, part_flags, part_values, order_value};
 ghost use Rattle.xer_read.specs.Private.Keeping.{strings_put};
-ghost use Rattle.xer_read.specs.Private.Contents.{AreTaken, is_plain_at, is_ordered, OrderMade, NothingMade, IsNilFilled, Begins, IsGathered, ComplexPut};
+ghost use Rattle.xer_read.specs.Private.Contents.{AreTaken, is_plain_at, in_any_order, OrderMade, NothingMade, IsNilFilled, Begins, IsGathered, ComplexPut};
 ghost use Rattle.xer_read.specs.Private.Putting.{PartsPut};
 
 use crate::attributes::put_attributes;
@@ -26,11 +26,12 @@ use crate::gathering::Gathered;
 use crate::orders::any_order;
 use crate::strings::put_texts;
 use crate::texts::put_text;
-use base_texts::{Memory, Name, Text};
+use crate::walk::Element;
+use base_texts::Memory;
 use schema_components::{SchemaSet, TypeOf};
 use simple_types::{Flags, Simple, ValueLabel};
 use std::alloc::Global;
-use validity_check::{CheckError, Declared, Inside, check_empty, check_no_content};
+use validity_check::{CheckError, Inside, check_empty, check_no_content};
 use validity_rules::InvalidWhy;
 use value_builder::ValueBuilder;
 use xml_items::ItemKids;
@@ -77,7 +78,7 @@ fn put_numbers(numbers: &[u32], values: &mut ValueBuilder) -> Result<(), Memory>
 
 // The part for the order of child elements, and no part where they come in the order of the content model.
 fn put_order(inside: Inside<'_>, numbers: &[u32], values: &mut ValueBuilder) -> Result<(), Memory>
-    ensures { OnOk result (PartsPut (OrderMade (is_ordered (inside_told inside.entry)) numbers.now) values.old values.new) }
+    ensures { OnOk result (PartsPut (OrderMade (in_any_order (inside_told inside.entry)) numbers.now) values.old values.new) }
 {
     match any_order(inside) {
         None => Ok(()),
@@ -91,23 +92,27 @@ fn put_order(inside: Inside<'_>, numbers: &[u32], values: &mut ValueBuilder) -> 
 /// A SEQUENCE is open, with the parts for texts, for the order of child elements that come in any, and for attributes.
 pub(crate) fn begin_complex(
     alloc: Global,
-    set: &SchemaSet,
-    declared: &Declared,
-    attributes: &[(Name, Text)],
+    element: &Element,
     nil: bool,
     numbers: &[u32],
-    kids: &ItemKids<'_>,
     values: &mut ValueBuilder,
 ) -> Result<(), Memory>
-    requires linked { IsLinked set.now }
-    requires uses { All (IsUse set.now) declared.now.uses.list.now }
-    requires taken { AreTaken set.now attributes.now declared.now.uses.list.now }
-    ensures { OnOk result (Begins (told (parts_of set.now) declared.now) attributes.now (strings_put nil (roses_of kids.now)) numbers.now values.old values.new) }
+    requires linked { IsLinked element.now.set.now }
+    requires uses { All (IsUse element.now.set.now) element.now.declared.uses.list.now }
+    requires taken { AreTaken element.now.set.now element.now.attributes.now element.now.declared.uses.list.now }
+    ensures { OnOk result (Begins (told (parts_of element.now.set.now) element.now.declared) element.now.attributes.now (strings_put nil (roses_of element.now.parent.kids)) numbers.now values.old values.new) }
 {
+    let declared = element.declared;
     values.open(no_components())?;
-    put_texts(alloc, declared.inside, nil, kids, values)?;
+    put_texts(alloc, declared.inside, nil, &element.parent.kids, values)?;
     put_order(declared.inside, numbers, values)?;
-    put_attributes(alloc, set, &declared.uses, attributes, values)
+    put_attributes(
+        alloc,
+        element.set,
+        &declared.uses,
+        element.attributes,
+        values,
+    )
 }
 
 // The part for a content in which nothing may stand: one where the element may be nil.
@@ -163,20 +168,13 @@ pub(crate) fn walk_text(
 }
 
 // The value of an element that is nil, which has no kids.
-fn put_nil(
-    alloc: Global,
-    set: &SchemaSet,
-    declared: &Declared,
-    attributes: &[(Name, Text)],
-    kids: &ItemKids<'_>,
-    values: &mut ValueBuilder,
-) -> Result<(), Memory>
-    requires linked { IsLinked set.now }
-    requires uses { All (IsUse set.now) declared.now.uses.list.now }
-    requires taken { AreTaken set.now attributes.now declared.now.uses.list.now }
-    ensures { OnOk result ((v : Rose ValueLabel) × IsNilFilled (told (parts_of set.now) declared.now) attributes.now v × Puts (added v) values.old values.new) }
+fn put_nil(alloc: Global, element: &Element, values: &mut ValueBuilder) -> Result<(), Memory>
+    requires linked { IsLinked element.now.set.now }
+    requires uses { All (IsUse element.now.set.now) element.now.declared.uses.list.now }
+    requires taken { AreTaken element.now.set.now element.now.attributes.now element.now.declared.uses.list.now }
+    ensures { OnOk result ((v : Rose ValueLabel) × IsNilFilled (told (parts_of element.now.set.now) element.now.declared) element.now.attributes.now v × Puts (added v) values.old values.new) }
 {
-    begin_complex(alloc, set, declared, attributes, true, &[], kids, values)?;
+    begin_complex(alloc, element, true, &[], values)?;
     values.part(false)?;
     values.close();
     Ok(())
@@ -185,21 +183,18 @@ fn put_nil(
 /// The element is nil.
 pub(crate) fn walk_nil(
     alloc: Global,
-    set: &SchemaSet,
-    declared: &Declared,
-    attributes: &[(Name, Text)],
-    kids: &ItemKids<'_>,
+    element: &Element,
     values: &mut ValueBuilder,
 ) -> Result<(), CheckError>
-    requires linked { IsLinked set.now }
-    requires uses { All (IsUse set.now) declared.now.uses.list.now }
-    requires taken { AreTaken set.now attributes.now declared.now.uses.list.now }
+    requires linked { IsLinked element.now.set.now }
+    requires uses { All (IsUse element.now.set.now) element.now.declared.uses.list.now }
+    requires taken { AreTaken element.now.set.now element.now.attributes.now element.now.declared.uses.list.now }
     ensures { MatchResult result
-        (λ _. (roses_of kids.now ≡ none) × ((v : Rose ValueLabel) × IsNilFilled (told (parts_of set.now) declared.now) attributes.now v × Puts (added v) values.old values.new))
-        (Tells (FirstKid (roses_of kids.now) (λ _. InvalidWhy.NilWithContent))) }
+        (λ _. (roses_of element.now.parent.kids ≡ none) × ((v : Rose ValueLabel) × IsNilFilled (told (parts_of element.now.set.now) element.now.declared) element.now.attributes.now v × Puts (added v) values.old values.new))
+        (Tells (FirstKid (roses_of element.now.parent.kids) (λ _. InvalidWhy.NilWithContent))) }
 {
-    check_empty(kids.again())?;
-    put_nil(alloc, set, declared, attributes, kids, values)?;
+    check_empty(element.parent.kids.again())?;
+    put_nil(alloc, element, values)?;
     Ok(())
 }
 
@@ -222,31 +217,27 @@ fn put_gathered(nillable: bool, gathered: Gathered, values: &mut ValueBuilder) -
 }
 
 /// The value of an element whose child elements came in any order and are gathered.
-pub(crate) fn put_ordered(
+pub(crate) fn put_any_order(
     alloc: Global,
-    set: &SchemaSet,
-    declared: &Declared,
-    attributes: &[(Name, Text)],
+    element: &Element,
     gathered: Gathered,
-    kids: &ItemKids<'_>,
     values: &mut ValueBuilder,
 ) -> Result<(), Memory>
-    requires linked { IsLinked set.now }
-    requires uses { All (IsUse set.now) declared.now.uses.list.now }
-    requires taken { AreTaken set.now attributes.now declared.now.uses.list.now }
-    requires sound { are_sound (roses_of kids.now) ≡ true }
+    requires linked { IsLinked element.now.set.now }
+    requires uses { All (IsUse element.now.set.now) element.now.declared.uses.list.now }
+    requires taken { AreTaken element.now.set.now element.now.attributes.now element.now.declared.uses.list.now }
+    requires sound { are_sound (roses_of element.now.parent.kids) ≡ true }
     requires most { gathered.most ≡ values.old.most }
     requires outside { gathered.outside ≡ values.old.nodes }
-    requires gathered { IsGathered set.now (inside_told declared.now.inside) (roses_of kids.now) gathered }
+    requires gathered { IsGathered element.now.set.now (inside_told element.now.declared.inside) (roses_of element.now.parent.kids) gathered }
     requires stands { (z : Zip ValueLabel) × Stands values.old z }
     ensures limit { OnOk result (values.new.most ≡ values.old.most) }
-    ensures put { OnOk result ((z : Zip ValueLabel) → Stands values.old z → ComplexPut set.now (told (parts_of set.now) declared.now) attributes.now (roses_of kids.now) z values.new) }
+    ensures put { OnOk result ((z : Zip ValueLabel) → Stands values.old z
+        → ComplexPut element.now.set.now (told (parts_of element.now.set.now) element.now.declared) element.now.attributes.now (roses_of element.now.parent.kids) z values.new) }
 {
     let numbers = gathered.numbers();
-    begin_complex(
-        alloc, set, declared, attributes, false, numbers, kids, values,
-    )?;
-    put_gathered(declared.nillable, gathered, values)?;
+    begin_complex(alloc, element, false, numbers, values)?;
+    put_gathered(element.declared.nillable, gathered, values)?;
     values.close();
     Ok(())
 }

@@ -10,6 +10,7 @@ ghost use Rattle.value_builder.specs.Built.{nothing_of, Stands, Puts, with_parts
 ghost use Rattle.xer_read.specs.Private.Slots.{no_slots, filled_at, flags_of, values_of, Keeps, AreSlots, AllFit};
 
 use base_texts::Memory;
+use content_match::Matcher;
 use content_models::Particle;
 use std::alloc::Global;
 use value_builder::ValueBuilder;
@@ -26,6 +27,13 @@ pub(crate) struct Gathered {
     nodes: u64,
     slots: Vec<Option<ValueBuilder>>,
     numbers: Vec<u32>,
+}
+
+/// How far a matcher of an all came among child elements, and what is gathered of them.
+#[derive(Drop)]
+pub(crate) struct Gathering<'a> {
+    pub matcher: Matcher<'a>,
+    pub gathered: Gathered,
 }
 
 impl Gathered {

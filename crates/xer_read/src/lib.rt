@@ -21,6 +21,7 @@ mod root;
 mod small;
 mod strings;
 mod texts;
+mod walk;
 mod ways;
 
 pub use error::ReadError as ReadValueError;

@@ -14,7 +14,7 @@ ghost use Rattle.map_assignments.specs.Planning.{is_all};
 ghost use Rattle.validity_rules.specs.Faults.{At};
 ghost use Rattle.validity_check.specs.Answers.{Tells};
 ghost use Rattle.validity_check.specs.Told.{inside_told};
-ghost use Rattle.xer_read.specs.Private.Contents.{is_ordered, HasNoAll};
+ghost use Rattle.xer_read.specs.Private.Contents.{HasNoAll};
 
 use base_texts::{Name, Steps};
 use content_match::{Leaf, Matcher};

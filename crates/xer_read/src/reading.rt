@@ -16,13 +16,14 @@ ghost use Rattle.xer_read.specs.Answers.{IsValueOf, IsTooLarge, IsOnlyValue, Rea
 use crate::error::ReadError;
 use crate::root::walk_root;
 use crate::small::see_simples;
+use crate::walk::Walk;
 use base_flat_trees::Whole;
 use base_texts::Steps;
 use schema_components::SchemaSet;
 use simple_types::Value;
 use std::alloc::Global;
 use std::sync::ledger::Ledger;
-use validity_check::CheckError;
+use validity_check::{CheckError, Plans};
 use value_builder::ValueBuilder;
 use xml_read::Items;
 
@@ -47,7 +48,9 @@ pub fn check_items<L: Ledger>(
     ensures later { steps.old ≤ steps.new }
 {
     let mut values = ValueBuilder::new(alloc, 0);
-    walk_root(alloc, set, root, items, &mut values, steps)
+    let plans = Plans::new(alloc, set)?;
+    let mut walk = Walk { plans, steps };
+    walk_root(set, &mut walk, root, items, &mut values)
 }
 
 // The value, unless more nodes were counted than it may have.
@@ -105,7 +108,9 @@ pub fn read_value<L: Ledger>(
 {
     see_simples(set);
     let mut values = room_for(alloc, items);
-    match walk_root(alloc, set, root, items, &mut values, steps) {
+    let plans = Plans::new(alloc, set)?;
+    let mut walk = Walk { plans, steps };
+    match walk_root(set, &mut walk, root, items, &mut values) {
         Err(CheckError::Invalid { at, why }) => Err(ReadError::Invalid { at, why }),
         Err(CheckError::Memory) => Err(ReadError::Memory),
         Ok(()) => finished(values),
