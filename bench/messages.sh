@@ -9,7 +9,7 @@ cd "$(dirname "$0")/.."
 library=${LIBRARY:-crates/ruvkhiska_c/out/libruvkhiska_c.a}
 program=${PROGRAM:-bin/transcode}
 calls=${CALLS:-1000}
-heap=$(dirname "$(readlink -f "$(command -v rt)")")/../c/liblibc_c.a
+heap=$(dirname "$(rt doc)")/c/liblibc_c.a
 work=$(mktemp -d)
 trap 'rm -rf "$work"' EXIT
 ${CC:-cc} -O2 -std=c11 -D_POSIX_C_SOURCE=199309L -Wall -Wextra -o "$work/messages" bench/messages.c "$library" "$heap" -lexpat

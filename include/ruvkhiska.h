@@ -14,8 +14,8 @@
  *     ruvkhiska_free(&octets);
  *     ruvkhiska_close(&converter);
  *
- * Each call says by its status how it ended, and a call that refuses tells why. The code of these calls is proved to do what
- * stands here, as long as C keeps what stands under "What C keeps", which nothing can check.
+ * The status of each call says how it ended, and a call that rejects gives the reason. The code of these calls is proved to do what
+ * this page says, as long as C keeps what "What C keeps" says, which nothing can check. That memory is freed isn't proved.
  *
  * WHAT C KEEPS
  *
@@ -41,6 +41,9 @@
 #include <stdbool.h>
 #include <stddef.h>
 #include <stdint.h>
+
+/* The version of this header. */
+#define RUVKHISKA_VERSION "1.0.0"
 
 #ifdef __cplusplus
 extern "C" {
@@ -85,8 +88,8 @@ enum {
     RUVKHISKA_DER = 2
 };
 
-/* The line that tells a refusal, as the program for scripts writes it: `count` bytes, with the end of line, and no zero byte
- * behind them. It is written by each call that has one; where the call is done, `count` is 0. It owns no memory. */
+/* The complete line of a rejection, as the program for scripts writes it: `count` bytes, with the end of line, and no zero byte after
+ * them. Each call that has one writes it. If the call is done, `count` is 0. It owns no memory. */
 typedef struct {
     size_t count;
     uint8_t text[128];

@@ -101,15 +101,15 @@ def try_names(docs):
 
 
 def try_code(docs):
-    """A word in marks of code that is written as names of the code are, as `IsMapOf` or `read_value`, stands in the code or in an
+    """Tries that a word in backquotes that has the form of a name of the code, as `IsMapOf` or `read_value`, is in the code or in an
     example."""
-    names = set()
-    for top in ("crates", "examples", "include"):
+    names = set(TOOLS)
+    for top in ("crates", "examples", "include", "python"):
         for folder, below, files in os.walk(f"{HERE}/{top}"):
             below[:] = [it for it in below if it != "out"]
             for name in files:
                 names.add(name.split(".")[0])
-                if name.endswith((".rt", ".antt", ".asn1", ".h")):
+                if name.endswith((".rt", ".antt", ".asn1", ".h", ".py")):
                     names |= set(re.findall(r"[A-Za-z]\w*", text_of(f"{folder}/{name}")))
             names |= set(below)
     for page in pages():
@@ -135,6 +135,16 @@ def try_narrow(docs):
     docs.holds(said == sorted(said), "the rules of docs/guide/NARROW.md aren't in the order of names")
 
 
+# The word that shows that a block of docs/guide/INTEROP.md needs a tool, and the script of tests/interop that knows whether it is installed.
+TOOLS = {"erlc": "erlang", "tshark": "wireshark", "asn1c-codec": "asn1c", "asn1crypto": "asn1crypto", "asn1Decoding": "libtasn1", "openssl": "openssl"}
+
+
+def missing_tool(block):
+    """Returns the tool that a block of commands needs and that isn't installed, or None."""
+    needed = [name for word, name in TOOLS.items() if word in block]
+    return next((it for it in needed if subprocess.run([f"{HERE}/tests/interop/{it}.sh", "--check"]).returncode), None)
+
+
 def try_commands(docs):
     python = narrow_python()
     for page in pages():
@@ -144,6 +154,9 @@ def try_commands(docs):
         for block in re.findall(r"(?m)(?:^    .*\n?)+", text_of(page)):
             lines = [it[4:] for it in block.rstrip("\n").split("\n")]
             if not any(it.startswith("$ ") and re.search("bin/(ruvkhiska|transcode)|narrow/ruvkhiska-narrow", it) for it in lines):
+                continue
+            if missing := missing_tool(block):
+                print(f"not tried: commands of {page}, which need {missing}")
                 continue
             said = []
             for line in [*lines, "$ "]:

@@ -27,9 +27,7 @@ MOST = 35
 EXCEPTIONS = """
 docs/internals/ARCHITECTURE.md: the simple type that a printed type stands for
 docs/internals/ARCHITECTURE.md: takes no octet before it is needed
-docs/internals/ARCHITECTURE.md: Answers a command: from words
 docs/reference/REASONS.md: the child element can't follow those before it
-docs/reference/REASONS.md: put it into `annotation`
 """
 # What a schema or a program would be said to take. An input takes time and memory.
 TAKEN = "schema|model|document|text|octet|name|list|map|word|value|front"

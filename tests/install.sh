@@ -1,14 +1,14 @@
 #!/usr/bin/env bash
 # Installs to folders and from Debian packages, and uses what is installed: the programs, the C library by pkg-config from C and C++,
-# the manual pages, and the completions. Then it uninstalls, and nothing may be left. It prints what is wrong, and its status is 1 if
-# anything is.
+# the package for Python, the manual pages, and the completions. Then it uninstalls, and nothing may be left. It prints what is wrong,
+# and its status is 1 if anything is.
 #
 #     tests/install.sh          needs the programs and the archive of the C library (`make build`), a C and a C++ compiler,
-#                               pkg-config, man and `script` of util-linux; a minute, mostly for the packages
+#                               pkg-config, Python 3, man and `script` of util-linux; two minutes, mostly for the packages
 #
 # PEOPLE, PROGRAM and LIBRARY name other builds of bin/ruvkhiska, bin/transcode and the archive, and HEAP another kit's heap. ROOT
-# names a folder with a clean Debian (`debootstrap --variant=minbase bookworm FOLDER`): the packages are installed, run and purged
-# in it, which needs root. Without it dpkg installs them into an empty folder.
+# names a folder with a clean Debian (`debootstrap --variant=minbase --include=python3 bookworm FOLDER`): the packages are installed,
+# run and purged in it, which needs root. Without it dpkg installs them into an empty folder.
 set -eu
 umask 022
 cd "$(dirname "$0")/.."
@@ -86,19 +86,34 @@ try_programs() {
     cd "$here"
 }
 
+# try_narrow PREFIX: ruvkhiska-narrow writes and reports what it does in the repository.
+try_narrow() {
+    local python=
+    for it in python3 /usr/bin/python3; do
+        if "$it" -c 'import xmlschema' 2> /dev/null; then python=$it; fi
+    done
+    if [ -z "$python" ]; then echo 'not tried: ruvkhiska-narrow, which needs python3-xmlschema'; return; fi
+    "$python" narrow/ruvkhiska-narrow -o "$work/narrow-1" examples/ubl-invoice.xsd > "$work/report" || same 'status of ruvkhiska-narrow' 2 $?
+    (cd "$1/share/doc/ruvkhiska" && "$python" "$1/bin/ruvkhiska-narrow" -o "$work/narrow-2" examples/ubl-invoice.xsd) |
+        sed 's|/narrow-2:|/narrow-1:|' | cmp - "$work/report" || fail 'ruvkhiska-narrow: another report'
+    diff -r "$work/narrow-1" "$work/narrow-2" || fail 'ruvkhiska-narrow: other schemas'
+    rm -r "$work/narrow-1" "$work/narrow-2"
+}
+
 # try_library PREFIX LIBDIR [SYSROOT]: programs in C and C++ over the shared and the static library.
 try_library() {
     local prefix=$1 libdir=$2 flags libs by_name
     export PKG_CONFIG_PATH=$libdir/pkgconfig PKG_CONFIG_SYSROOT_DIR=${3:-} PKG_CONFIG_ALLOW_SYSTEM_CFLAGS=1 PKG_CONFIG_ALLOW_SYSTEM_LIBS=1
     same 'version of pkg-config' "$version" "$(pkg-config --modversion ruvkhiska)"
+    same 'version of the header' "$version" "$(sed -n 's/^#define RUVKHISKA_VERSION "\(.*\)"$/\1/p' "$prefix/include/ruvkhiska.h")"
     flags=$(pkg-config --cflags ruvkhiska)
     libs=$(pkg-config --libs ruvkhiska)
     # shellcheck disable=SC2086
     {
-        cc -std=c99 -Wall -Wextra -pedantic -Werror $flags examples/messages.c $libs -o "$work/c-shared"
-        cc -std=c11 -Wall -Wextra -pedantic -Werror $flags examples/messages.c "$libdir/libruvkhiska.a" -o "$work/c-static"
-        c++ -std=c++17 -Wall -Wextra -pedantic -Werror $flags "$work/program.cpp" $libs -o "$work/cpp-shared"
-        c++ -std=c++17 -Wall -Wextra -pedantic -Werror $flags "$work/program.cpp" "$libdir/libruvkhiska.a" -o "$work/cpp-static"
+        cc -std=c99 -Wall -Wextra -pedantic -Wconversion -Werror $flags examples/messages.c $libs -o "$work/c-shared"
+        cc -std=c11 -Wall -Wextra -pedantic -Wconversion -Werror $flags examples/messages.c "$libdir/libruvkhiska.a" -o "$work/c-static"
+        c++ -std=c++17 -Wall -Wextra -pedantic -Wconversion -Werror $flags "$work/program.cpp" $libs -o "$work/cpp-shared"
+        c++ -std=c++17 -Wall -Wextra -pedantic -Wconversion -Werror $flags "$work/program.cpp" "$libdir/libruvkhiska.a" -o "$work/cpp-static"
     } || fail 'a program does not compile or link'
     for it in shared static; do
         LD_LIBRARY_PATH=$libdir "$work/c-$it" urn:po order 0 examples/orders.txt examples/order.xsd > "$work/by-$it" || fail "C, $it: status $?"
@@ -111,6 +126,19 @@ try_library() {
     same 'the name that is linked' "libruvkhiska.so.${version%%.*}" "$by_name"
     if grep -i rattle "$libdir/pkgconfig/ruvkhiska.pc"; then fail 'ruvkhiska.pc names the kit'; fi
     unset PKG_CONFIG_PATH PKG_CONFIG_SYSROOT_DIR PKG_CONFIG_ALLOW_SYSTEM_CFLAGS PKG_CONFIG_ALLOW_SYSTEM_LIBS
+}
+
+# try_python PREFIX [LIBRARY]: the package for Python, which finds the library of its installation, or else this one.
+try_python() {
+    local folder words=(env)
+    folder=$(dirname "$(dirname "$(find "$1" -path '*/ruvkhiska/__init__.py')")")
+    words+=("PYTHONPATH=$folder" ${2:+"RUVKHISKA_LIBRARY=$2"} python3)
+    same 'the package and its version' "$folder/ruvkhiska/__init__.py $version" "$("${words[@]}" -c 'import ruvkhiska; print(ruvkhiska.__file__, ruvkhiska.__version__)')"
+    "${words[@]}" -m unittest discover -q python/tests > "$work/tests" 2>&1 || { fail 'the tests of the package'; cat "$work/tests"; }
+    "${words[@]}" examples/messages.py urn:po order 0 examples/orders.txt examples/order.xsd > "$work/by-python" || fail "Python: status $?"
+    cmp "$work/by-shared" "$work/by-python" || fail 'C and Python write different lines'
+    "${words[@]}" -m pydoc ruvkhiska > "$work/page"
+    grep -q 'prepare(self, root' "$work/page" || fail 'help(ruvkhiska)'
 }
 
 # by_key WORDS: what bash makes of typed words, with a tab.
@@ -150,13 +178,15 @@ PREFIX=$prefix install/install.sh install > /dev/null
 cmp "$PEOPLE" "$prefix/bin/ruvkhiska" || fail 'bin/ruvkhiska is not the program that was built'
 cmp "$PROGRAM" "$prefix/bin/transcode" || fail 'bin/transcode is not the program that was built'
 try_programs "$prefix"
+try_narrow "$prefix"
 try_library "$prefix" "$prefix/lib"
+try_python "$prefix"
 try_pages "$prefix" "$prefix/share/zsh/site-functions"
-(cd "$prefix" && find . ! -type d | sort) > "$work/files"
+(cd "$prefix" && find . ! -type d ! -name '*.pyc' | sort) > "$work/files"
 
 # Twice is once, and what others installed stays.
 PREFIX=$prefix install/install.sh install > /dev/null
-(cd "$prefix" && find . ! -type d | sort) | cmp - "$work/files" || fail 'installed twice, there are other files'
+(cd "$prefix" && find . ! -type d ! -name '*.pyc' | sort) | cmp - "$work/files" || fail 'installed twice, there are other files'
 touch "$prefix/lib/other"
 PREFIX=$prefix install/install.sh uninstall > /dev/null
 same 'left of an installation with a file of others' "$prefix/lib/other" "$(find "$prefix" ! -type d)"
@@ -184,6 +214,7 @@ rest_of() {
 
 # by_dpkg WORD..: dpkg over the root; in an empty folder there is no libc6.
 by_dpkg() {
+    # shellcheck disable=SC2086
     dpkg --root="$root" $force "$@" > "$work/log" 2>&1 || { fail "dpkg $1"; cat "$work/log"; }
 }
 
@@ -194,6 +225,11 @@ try_root() {
         fail 'C in the root'
     cmp "$work/by-shared" "$work/by-root" || fail 'C in the root: other lines'
     rm "$root/usr/bin/ruvkhiska-messages"
+    same 'Python in the root' $octets "$(chroot "$root" python3 -c "
+import ruvkhiska
+path = '/usr/share/doc/ruvkhiska/examples/order'
+with open(path + '.xml', 'rb') as file:
+    print(ruvkhiska.Schemas.from_files(path + '.xsd').prepare().encode(file.read()).hex())")"
     same 'to-per in the root' $octets "$(chroot "$root" sh -c 'cd /usr/share/doc/ruvkhiska && ruvkhiska to-per examples/order.xsd -i examples/order.xml' | od -An -v -tx1 | tr -d ' \n')"
 }
 
@@ -210,17 +246,19 @@ else
     fi
     root=${ROOT:-} force=
     if [ -z "$root" ]; then
-        root=$work/root force=--force-depends
+        root=$work/root force='--force-depends --force-script-chrootless'
         mkdir -p "$root/var/lib/dpkg/info" "$root/var/lib/dpkg/updates"
         touch "$root/var/lib/dpkg/status"
     fi
     rest_of "$root" > "$work/before"
     by_dpkg -i "$work"/debs/*.deb
     try_programs "$root/usr"
+    try_narrow "$root/usr"
     try_library "$root/usr" "$root/usr/lib/x86_64-linux-gnu" "$root"
+    PYTHONDONTWRITEBYTECODE=1 try_python "$root/usr" "$root/usr/lib/x86_64-linux-gnu/libruvkhiska.so.${version%%.*}"
     try_pages "$root/usr" "$root/usr/share/zsh/vendor-completions"
     if [ -n "${ROOT:-}" ]; then try_root; else echo 'not tried: a clean Debian, which ROOT would name'; fi
-    by_dpkg --purge ruvkhiska libruvkhiska-dev "libruvkhiska${version%%.*}"
+    by_dpkg --purge python3-ruvkhiska ruvkhiska libruvkhiska-dev "libruvkhiska${version%%.*}"
     rest_of "$root" | diff "$work/before" - || fail 'files are left of packages'
 fi
 

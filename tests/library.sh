@@ -1,17 +1,17 @@
 #!/usr/bin/env bash
-# The library's face for C: compiles and runs the examples in C and in Python over the same messages, holds what they write
-# against the program's, refuses each allocation in turn, and counts blocks over a million messages.
+# The library for C: compiles and runs the examples in C and in Python over the same messages, compares what they write with the
+# program's answers, refuses each allocation in turn, and counts blocks over a million messages.
 #
 #     tests/library.sh          needs a C compiler, Python 3, and the archive or the time to prove it; then some seconds
 #
-# LIBRARY names the archive (libruvkhiska_c.a), PROGRAM the program for scripts, with which the answers are compared where it is
-# there, MESSAGES how many messages are counted.
+# LIBRARY names the archive (libruvkhiska_c.a, or bin/libruvkhiska-unproved.a of tests/quick.sh), PROGRAM the program for scripts,
+# with which the answers are compared if it is there, MESSAGES how many messages are counted.
 set -eu
 cd "$(dirname "$0")/.."
 library=${LIBRARY:-crates/ruvkhiska_c/out/libruvkhiska_c.a}
 program=${PROGRAM:-bin/transcode}
 messages=${MESSAGES:-1000000}
-heap=$(dirname "$(readlink -f "$(command -v rt)")")/../c/liblibc_c.a
+heap=$(dirname "$(rt doc)")/c/liblibc_c.a
 [ -f "$library" ] || (cd crates/ruvkhiska_c && rt lib)
 work=$(mktemp -d)
 trap 'rm -rf "$work"' EXIT
@@ -68,8 +68,8 @@ by_program() {
 
 for syntax in 0 1 2; do
     "$work/messages" urn:po order "$syntax" examples/orders.txt examples/order.xsd > "$work/by-c" || fail "examples/messages.c: status $?"
-    python3 examples/messages.py "$work/libruvkhiska.so" urn:po order "$syntax" examples/orders.txt examples/order.xsd > "$work/by-python" ||
-        fail "examples/messages.py: status $?"
+    RUVKHISKA_LIBRARY=$work/libruvkhiska.so PYTHONPATH=python python3 examples/messages.py \
+        urn:po order "$syntax" examples/orders.txt examples/order.xsd > "$work/by-python" || fail "examples/messages.py: status $?"
     cmp "$work/by-c" "$work/by-python" || fail "C and Python answer otherwise, syntax $syntax"
     if [ -x "$program" ]; then
         case $syntax in

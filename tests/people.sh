@@ -74,7 +74,7 @@ for name in order features names boolean defaults; do
 done
 
 # Helps: at most 23 lines each, with an example; the manual.
-for command in '' show check to-per to-xml trial; do
+for command in '' show check to-per to-xml each-to-xml show-back trial; do
     expect 0 '' $command --help
     [ "$(wc -l < out)" -lt 24 ] || { echo "wrong: $command --help has $(wc -l < out) lines"; wrong=1; }
     grep -q Example out || { echo "wrong: $command --help has no example"; wrong=1; }
@@ -96,9 +96,11 @@ near check chek order.xsd
 near show show --plian order.xsd
 near to-per to-per -t ber order.xsd
 near trial trial
+near each-to-xml each-to-xlm order.xsd
+near show-back showback order.asn1
 expect 2 'error: ' show
 expect 2 'error: '
-expect 2 'ruvkhiska: Usage: ' check '{}order' order.xsd
+expect 2 'error: ROOT is name or ' check '{}order' order.xsd
 
 # Roots.
 expect 6 'pair: UnknownRoot: ' check pair order.xsd -i order.xml
@@ -124,6 +126,22 @@ printf 'A' > f.per
 expect 9 'f.per: bit ' to-xml "$root" order.xsd -i f.per
 cat order.per order.per > g.per
 expect 10 'g.per: octet ' to-xml "$root" order.xsd -i g.per
+
+# Records, and modules read back.
+cat order.per order.per order.per > records.per
+expect 0 '' each-to-xml order.xsd -i records.per -o records.xml
+[ "$(grep -o ':order>$' records.xml | wc -l)" = 3 ] || { echo 'wrong: three records'; wrong=1; }
+printf 'A' >> records.per
+expect 15 'records.per: record 4, bit ' each-to-xml "$root" order.xsd -i records.per -o records.xml
+[ "$(grep -o ':order>$' records.xml | wc -l)" = 3 ] || { echo 'wrong: the documents before a faulty record'; wrong=1; }
+expect 0 '' each-to-xml order.xsd -i /dev/null -o none.xml
+[ -f none.xml ] && [ ! -s none.xml ] || { echo 'wrong: the file of no records'; wrong=1; }
+expect 22 'none/records.xml: WriteFault: ' each-to-xml order.xsd -i order.per -o none/records.xml
+"$program" show order.xsd > order.asn1
+expect 0 '' show-back order.asn1
+[ -s out ] || { echo 'wrong: the lines of a module'; wrong=1; }
+printf 'A' >> order.asn1
+expect 14 "order.asn1:$(wc -l < order.asn1 | awk '{print $1 + 1}'):" show-back order.asn1
 
 # The outside.
 expect 20 'missing.xsd: LoadFault: ' show missing.xsd

@@ -163,6 +163,8 @@ class Complaints:
         bits = re.fullmatch(r"input, bit (\d+): per: (\w+)", told)
         octets = re.fullmatch(r"input, byte (\d+): der: (\w+)", told)
         trailing = re.fullmatch(r"input, byte (\d+): trailing", told)
+        record = re.fullmatch(r"record (\d+), bit (\d+): per: (\w+)", told)
+        module = re.fullmatch(r"file 1, byte (\d+): module: (\w+)", told)
         if bits:
             self.reasons.add(("per", bits[2]))
             self.holds(row, status, f"input: bit {bits[1]}: {bits[2]}: ", self.run(row, row.files, row.input))
@@ -171,6 +173,14 @@ class Complaints:
             self.holds(row, status, f"input: octet {octets[1]}: {octets[2]}: ", self.run(row, row.files, row.input))
         elif trailing:
             self.holds(row, status, f"input: octet {trailing[1]}: Trailing: ", self.run(row, row.files, row.input))
+        elif record:
+            front = f"input: record {record[1]}, bit {record[2]}: {record[3]}: "
+            self.holds(row, status, front, self.run(row, row.files, row.input))
+        elif module:
+            self.reasons.add(("module", module[2]))
+            line, column = place_of(row.files[row.words[1]], int(module[1]))
+            front = f"{row.words[1]}:{line}:{column}: {module[2]}: "
+            self.holds(row, status, front, self.run(row, row.files, row.input))
         elif placed:
             self.placed(row, status, placed)
 

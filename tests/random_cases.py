@@ -1209,8 +1209,8 @@ class Schema:
             bits = Bits(aligned)
             encode(bits)
             due.append(bits.complete())
-        self.nodes = Node(encode).tree()
-        due.append(octets_in(self.nodes))
+        due.append(octets_in(Node(encode).tree()))
+        self.encode = encode
         head = '<?xml version="1.0" encoding="UTF-8"?>\n' * (rng.random() < 0.3)
         spaces = f' xmlns:t="urn:t" xmlns:u="urn:a" xmlns:xsi="{INSTANCE}"'
         return f"{head}{text[:at]}{spaces}{text[at:]}", due

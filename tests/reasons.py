@@ -32,7 +32,7 @@ TABLES = {
     "module": ("crates/module_text/src/reasons.rt", "ModuleWhy"),
 }
 # Where the words of the outcomes without a reason are.
-WORDS = ("crates/transcode_words/src/outcome.rt", "crates/people_complaints/src/words.rt")
+WORDS = ("crates/transcode_words/src/outcome.rt", "crates/people_complaints/src/composing.rt")
 # Enums of reasons that are passed on under the names of the others.
 PASSED_ON = {"NoneWhy"}
 # The row of a variant, or of an outcome without a reason.

@@ -11,7 +11,8 @@ use Rattle.asn_names.specs.declared.conversion.NameKind.TheVariants.{Reference, 
 abbrev pub letters_and_digits : List (ℕ × ℕ)
 letters_and_digits = (0x41, 0x5A) ∷ (0x61, 0x7A) ∷ (0x30, 0x39) ∷ []
 
--- What is kept of a character: a hyphen for a space, a full stop, a low line and a hyphen; a letter or a digit as it is.
+-- What is kept of a character. A letter or a digit is kept as it is. A space, a full stop, a low line and a hyphen each give a
+-- hyphen.
 unfoldable pub kept : ℕ → Option ℕ
 kept c = if c == 0x20 || c == 0x2E || c == 0x5F || c == 0x2D then Some 0x2D else if in_ranges letters_and_digits c then Some c else None
 

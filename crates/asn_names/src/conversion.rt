@@ -58,8 +58,8 @@ fn begin(name: &mut String, kind: NameKind, c: char) -> Result<(), AllocError>
     name.push(cased(kind, c))
 }
 
-/// Returns the ASN.1 name of an XML name, by X.694: its ASCII letters and digits, and one hyphen for each run of spaces, full
-/// stops, low lines and hyphens between them. It begins with a letter in the case of its kind.
+/// Returns the ASN.1 name of an XML name (X.694). It keeps the ASCII letters and digits, and writes one hyphen for each run of
+/// spaces, full stops, low lines and hyphens between them. The result begins with a letter in the case of its kind.
 pub fn convert(alloc: Global, kind: NameKind, name: &Text) -> Result<Text, Memory>
     ensures { IfOk result (λ made. made ≡ converted kind (chars name.now)) }
 {

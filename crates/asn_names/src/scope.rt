@@ -108,8 +108,8 @@ impl Scope {
         self.suffixed(converted)
     }
 
-    /// Adds and returns the name. If it is in use, or is a reserved word and a reference is required, it adds and returns the
-    /// name with a hyphen and the least positive number that makes it free.
+    /// Adds and returns the name if it is free. A name that is in use is not free, nor is a reserved word for a reference. Such a
+    /// name gets a suffix: a hyphen and the least positive number that makes it free.
     pub fn take(&mut self, kind: NameKind, converted: &Text) -> Result<Text, Memory>
         ensures taken { IfOk result (λ name. IsTaken kind self.old converted.now name) }
         ensures fresh { IfOk result (λ name. ¬ Contains self.old name) }

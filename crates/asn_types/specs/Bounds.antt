@@ -1,4 +1,4 @@
--- The widths of bounds and numbers in each module: whole numbers have 128 bits, and sizes 32.
+-- The widths of bounds and numbers in each module: integers have 128 bits, and sizes 32.
 use Rattle.std.specs.Prelude.{◌≡◌, ◌<◌, ◌^◌, ℕ, ℤ, true, Option, Some, None, List, All}
 use Rattle.base_trees.specs.Rose.{Rose, node, Roses, none, more}
 use Rattle.simple_types.specs.Lexical.{is_128_bits}

@@ -173,8 +173,8 @@ abbrev mutual
   AllWellFormed M none = Unit {0}
   AllWellFormed M (more t ts) = AreWellFormed M t × AllWellFormed M ts
 
--- The part of a SEQUENCE OF has no identifier if and only if it is the item of a LIST, one of the texts of EMBED-VALUES or an
--- item of the order of USE-ORDER.
+-- The part of a SEQUENCE OF has no identifier if and only if it is one of three: an item of a LIST, a text of EMBED-VALUES, or an
+-- item of USE-ORDER.
 abbrev pub IsItemNamed : Bool → Form → Type 0
 IsItemNamed nameless (form.SequenceOf part least most) = is_empty part.identifier ≡ nameless
 IsItemNamed nameless _ = Unit {0}

@@ -1,4 +1,4 @@
-//! The simple types that types stand for.
+//! Finds the simple type that a type represents.
 ghost use Rattle.std.specs.Prelude.{◌≡◌, ◌↔◌, IfOk, IsTrue, MatchOption};
 ghost use Rattle.base_trees.specs.Rose.{node, label_of, roses_of, Roses};
 ghost use Rattle.simple_types.specs.Space.{Spaces};
@@ -19,7 +19,7 @@ use base_trees::Tree;
 use simple_types::{Class, Simple, SimpleList, TextList, has_characters, has_list, is_union};
 use std::alloc::Global;
 
-// Whether the word has XML characters alone and is left as it is by the treatment.
+// Returns whether the word has only XML characters and the treatment leaves it unchanged.
 #[tactic(auto, unfolding(simple_types::specs::Lexical::in_class))]
 fn is_word(how: WhiteSpace, word: &Text) -> bool
     ensures { IsTrue result ↔ IsWord how word.now }
@@ -38,7 +38,7 @@ fn are_words(how: WhiteSpace, words: &[Text]) -> bool
     true
 }
 
-// Whether an item or alternative is never absent and has no instructions but NAME.
+// Returns whether an item or alternative is never absent and has no instructions except NAME.
 fn is_always_there(part: &Component) -> bool
     ensures { IsTrue result ↔ IsPlain part.now }
 {
@@ -56,7 +56,7 @@ fn are_always_there(parts: &[Component]) -> bool
     true
 }
 
-// The simple type of an ENUMERATED of these words.
+// Returns the simple type of an ENUMERATED of these words.
 #[tactic(auto, unfolding(simple_types::specs::Seen::space_of))]
 fn words_at(alloc: Global, label: &TypeLabel, words: &TextList) -> Result<Option<Simple>, Memory>
     requires form { IsFormOfWords label.now.form words.now }
@@ -72,7 +72,7 @@ fn words_at(alloc: Global, label: &TypeLabel, words: &TextList) -> Result<Option
     Ok(Some(Simple::Words { space, words }))
 }
 
-// The simple type of a type without parts.
+// Returns the simple type of a type without parts.
 #[tactic(auto, unfolding(simple_types::specs::Seen::space_of))]
 fn leaf_at(alloc: Global, module: &Module, label: &TypeLabel) -> Result<Option<Simple>, Memory>
     requires form { IsForm module.now label.now.form }
@@ -116,7 +116,7 @@ fn leaf_at(alloc: Global, module: &Module, label: &TypeLabel) -> Result<Option<S
     }
 }
 
-// The simple types of these types, none of which is a union.
+// Returns the simple types of these types. None if one of them is a union, or has no simple type.
 #[cycle(simples)]
 fn members_at(
     alloc: Global,
@@ -141,7 +141,7 @@ fn members_at(
     Ok(Some(members))
 }
 
-// The simple type of a CHOICE.
+// Returns the simple type of a CHOICE.
 #[cycle(simples)]
 fn union_at(
     alloc: Global,
@@ -173,7 +173,7 @@ struct Bounds {
     max: Option<u32>,
 }
 
-// The simple type of a SEQUENCE OF.
+// Returns the simple type of a SEQUENCE OF.
 #[cycle(simples)]
 fn list_at(
     alloc: Global,
@@ -206,7 +206,7 @@ fn list_at(
     }))
 }
 
-// The simple type that is mapped to the type, which is no reference.
+// Returns the simple type that is mapped to the type, which is not a reference.
 #[cycle(simples)]
 fn find_simple(
     alloc: Global,
@@ -230,7 +230,7 @@ fn find_simple(
     }
 }
 
-// The simple type that is mapped to a type without parts, where there is one.
+// Returns the simple type that is mapped to a type without parts, if there is one.
 #[tactic(auto, unfolding(simple_types::specs::Seen::space_of))]
 fn made_leaf(alloc: Global, label: &TypeLabel) -> Result<Simple, Memory>
     requires { IsLeaf label.now.form }
@@ -257,7 +257,7 @@ fn made_leaf(alloc: Global, label: &TypeLabel) -> Result<Simple, Memory>
     }
 }
 
-// The simple types that are mapped to these types, where there are such.
+// Returns the simple types that are mapped to these types, if there are any.
 #[cycle(making)]
 fn made_members(alloc: Global, kids: &[Tree<TypeLabel>]) -> Result<Vec<Simple>, Memory>
     ensures { IfOk result (λ members. spaces_in members.items ≡ spaces_at (roses_of kids.now)) }
@@ -270,7 +270,7 @@ fn made_members(alloc: Global, kids: &[Tree<TypeLabel>]) -> Result<Vec<Simple>, 
     Ok(members)
 }
 
-// The simple type that is mapped to the first of these types, where there is one.
+// Returns the simple type that is mapped to the first of these types, if there is one.
 #[cycle(making)]
 fn made_item(alloc: Global, kids: &[Tree<TypeLabel>]) -> Result<Simple, Memory>
     ensures { IfOk result (λ item. space_of item ≡ first_space (roses_of kids.now)) }
@@ -281,8 +281,8 @@ fn made_item(alloc: Global, kids: &[Tree<TypeLabel>]) -> Result<Simple, Memory>
     }
 }
 
-/// The simple type that is mapped to the type, where there is one: whether there is one isn't tested. The numbers and
-/// words of an ENUMERATED are shared, so the time grows with the number of types that the simple type is made of alone.
+/// Returns the simple type that is mapped to the type. It doesn't test whether there is one. The numbers and words of an ENUMERATED
+/// are shared. So the time grows only with the number of types that the simple type is made of.
 #[cycle(making)]
 pub fn simple_at(alloc: Global, node: &Tree<TypeLabel>) -> Result<Simple, Memory>
     ensures { IfOk result (λ simple. space_of simple ≡ space_at node.now) }
@@ -306,8 +306,8 @@ pub fn simple_at(alloc: Global, node: &Tree<TypeLabel>) -> Result<Simple, Memory
     }
 }
 
-/// The simple type that is mapped to the type, or to that to which it refers. Identifiers, NAME and TEXT count for
-/// nothing in this. None where there is no such simple type.
+/// Returns the simple type that is mapped to the type, or to the type that its references reach. Identifiers, NAME and TEXT make no
+/// difference. None if there is no such simple type.
 pub fn simple_of(
     alloc: Global,
     module: &Module,
@@ -316,7 +316,7 @@ pub fn simple_of(
     requires { IsOf module.now node.now }
     ensures { IfOk result (λ found. Finds found (resolve module.now node.now)) }
 {
-    // What each module keeps is known once one of its readers was called.
+    // Calling one of the module's readers makes its invariant known.
     let _ = module.count();
     find_simple(alloc, module, resolve(module, node))
 }

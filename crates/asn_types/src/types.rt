@@ -95,7 +95,7 @@ pub enum Form {
     Numbers {
         numbers: NumberList,
     },
-    /// ENUMERATED of items with these identifiers, each for the text of the same number.
+    /// ENUMERATED of items with these identifiers. The text of each item is the word with its number.
     Words {
         identifiers: TextList,
         words: TextList,

@@ -64,8 +64,8 @@ repeated n (Some place) = Some (replicate n place)
 abbrev pub none_if : Bool → Option (List ComponentPlace)
 none_if holds = if holds then Some [] else None
 
--- The places of the children of a value with this label and n children, if it is of a type with this form: its number, index and
--- size are within bounds (X.680, clauses 18 to 29 and 41).
+-- The places of the children of a value with this label and n children. There are none unless it is of a type with this form. Its
+-- number, index and size must be within bounds (X.680, clauses 18 to 29 and 41).
 abbrev pub places_in : TypeLabel → List (Rose TypeLabel) → Form → ValueLabel → ℕ → Option (List ComponentPlace)
 places_in l ts form.Bool (value.Bool b) n = Some []
 places_in l ts (form.Int least greatest) (value.Int z) n = none_if (is_128_bits z && is_from least z && is_to greatest z)
@@ -141,8 +141,8 @@ abbrev pub element_flags : TypeLabel → ValueLabel → List Bool
 element_flags l (value.Sequence present) = flags_from l 0 (parts_of l.form) present
 element_flags _ _ = []
 
--- The value that has the elements that are in an order: the content of a USE-NIL type, if it is present, and each other value
--- itself.
+-- The value that has the elements in an order. For a USE-NIL type it is the content, if that is present. For each other type it is
+-- the value itself.
 abbrev pub ordered_value : TypeLabel → Rose ValueLabel → Option ValueLabel
 ordered_value l v =
     if has_use_nil l.marks
@@ -201,9 +201,9 @@ module _ (M : List Assignment) where
 
 -- ---- default and fixed values
 
--- A part that may be absent is never present with its default or fixed value, since canonical encodings omit what the type states
--- (X.691, clause 19.5). A part with a fixed value has no other value. So a part with a fixed value is present if and only if it
--- may not be absent, and has that value.
+-- A part that may be absent is never present with its default or fixed value: canonical encodings omit what the type states (X.691,
+-- clause 19.5). A part with a fixed value has no other value. So a part with a fixed value is present if and only if it may not be
+-- absent, and has that value.
 abbrev pub Kept : List Assignment → Component → Rose TypeLabel → Rose ValueLabel → Type 0
 Kept M part t v = elim part.standard [
   | Free ↦ Unit {0}

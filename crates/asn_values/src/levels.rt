@@ -4,8 +4,7 @@ ghost use Rattle.asn_values.specs.Values as rule;
 
 use asn_types::Role;
 
-/// Returns the number of elements that are nested down to a part with this role, where `depth` are nested down to the node
-/// that has the part.
+/// Returns the nesting depth of elements at a part with this role. `depth` is that at the node that has the part.
 #[inline(always)]
 pub fn below(role: Role, depth: u32) -> u32
     requires { depth ≤ 64 }

@@ -212,14 +212,13 @@ pub(crate) fn own_at(
 
 /// Returns whether a value follows the rules of its first node. A text consists of XML characters, its WHITESPACE leaves it
 /// unchanged, and it is within its size and class. A value of a LIST or USE-UNION type is the one that its own spelling gives. A
-/// value of an EMBED-VALUES type has one text more than child elements, and none if its content is absent. The order of a value
-/// of a USE-ORDER type names each child element that is present once, by its number among all that may be, and no other. It is
-/// empty if the content is absent.
+/// value of an EMBED-VALUES type has one text more than child elements, and none if its content is absent. The order of a value of
+/// a USE-ORDER type names each child element that is present once, and no other. It names an element by its number among all that
+/// may be present. It is empty if the content is absent.
 ///
 /// The time grows with the value, and for LIST and USE-UNION with the number of types that the simple type is made of. The number
-/// of numbers or words of an ENUMERATED hardly matters. For EMBED-VALUES the groups of the value are visited, but no child
-/// element. For USE-ORDER the time grows with the number of components: at most one item more of the order is visited than there
-/// may be child elements.
+/// of numbers or words of an ENUMERATED hardly matters. For EMBED-VALUES the groups of the value are visited, but no child element.
+/// For USE-ORDER the time grows with the number of components: it visits at most one item more than there may be child elements.
 pub fn own(
     alloc: Global,
     module: &Module,

@@ -19,7 +19,7 @@ use simple_types::{
 use std::alloc::Global;
 use std::iter::Iterator;
 
-// Returns the digits of a whole number.
+// Returns the digits of an integer.
 fn whole_text(alloc: Global, label: &ValueLabel) -> Result<Text, Memory>
     ensures { IfOk result (λ text. text ≡ spelled_whole label.now) }
 {
@@ -104,9 +104,9 @@ fn write_spelling(
     }
 }
 
-/// Returns the canonical spelling of a value of the type, which is not a reference; of a list the spellings of its items with one
-/// space between each two. The type alone determines the form of the spelling: a value of another form is spelled empty. If the
-/// type is not that of a simple type, all values except truth values are spelled empty. Texts and words are shared.
+/// Returns the canonical spelling of a value of the type, which is not a reference. The spelling of a list has those of its items,
+/// with one space between each two. The type alone determines the form of the spelling: a value of another form is spelled empty.
+/// If the type is not that of a simple type, all values except truth values are spelled empty. Texts and words are shared.
 pub fn spelling(
     alloc: Global,
     node: &Tree<TypeLabel>,

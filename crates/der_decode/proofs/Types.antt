@@ -13,13 +13,19 @@ use Rattle.asn_types.specs.Parts.{is_leaf, parts_of}
 use Rattle.asn_types.specs.Refs.{target, body_at, resolve, IsOf}
 use Rattle.asn_types.specs.Roles.{role_of}
 use Rattle.asn_values.specs.Values.{below, place_at}
-use Rattle.asn_types.proofs.Chaining.{well-formed, has-four, no-reference}
+use Rattle.asn_types.proofs.Chaining.{resolved-of-module, well-formed, has-four, no-reference}
 use Rattle.asn_types.proofs.Following.{follow-stops}
 use Rattle.per_fields.specs.Levels.{tallest, levels_needed}
 use Rattle.per_fields.proofs.Levels.{kid-each, kids-need, levels-follow, NeedsFewer, IfPlace, EachKid}
 use Rattle.der_fields.proofs.Types.{of-tall}
 use Rattle.der_decode.specs.Private.Bodies.{HasKids, HasNoKids}
 use Rattle.der_decode.specs.Private.Leaves.{IsLeaf}
+use Rattle.der_decode.specs.declared.places.Place.{Place}
+use Rattle.der_decode.specs.Private.Places.{IsPlace}
+
+-- what the type of a place resolves to is of the module
+pub found_of : {deepest : ℕ} (place : Place) → IsPlace deepest place → IsOf place.module.now place.found.now
+found_of place is = subst (IsOf place.module.now) (sym is.resolved) (resolved-of-module place.module.now place.node.now is.of)
 
 -- a type with kids of its own is no reference
 kids-no_target : (f : Form) → HasKids f → target f ≡ None

@@ -1,4 +1,4 @@
--- What decoding answers of octets (X.690).
+-- What decoding returns for octets (X.690).
 use Rattle.std.specs.Prelude.{◌≡◌, ℕ, List, length, Result, Ok, Err}
 use Rattle.asn_types.specs.declared.modules.Assignment.{Assignment}
 use Rattle.der_fields.specs.FieldsReading.{stop_at}
@@ -12,8 +12,9 @@ use Rattle.der_decode.specs.declared.errors.DecodeError.TheVariants.{Bad, Memory
 abbrev pub Answer : Type 0
 Answer = Result Decoded DecodeError
 
--- The octets begin with those of the value, and these are so many; or this is where they stop first, and why. Just one of the two holds
--- of octets (law `stops_first` of der_fields), so each answer comes exactly where it says this, but for want of memory.
+-- The octets begin with those of the value, which are of this number. Or they stop first here, for this reason. Exactly one of the
+-- two holds of octets (law `stops_first` of der_fields). So each result is returned if and only if this holds, unless an allocation
+-- fails.
 abbrev pub Says : List Assignment → ℕ → List ℕ → Answer → Type 0
 Says M t octets (Ok found) = Begins M t octets found.value × (found.octets ≡ length (distinguished M t found.value))
 Says M t octets (Err (Bad at why)) = DerStop M t octets (stop_at at why)

@@ -4,3 +4,4 @@ pub mod Leaves
 pub mod Newest
 pub mod Showing
 pub mod Bodies
+pub mod Places

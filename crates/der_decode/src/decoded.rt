@@ -1,8 +1,8 @@
-//! What decoding gives.
+//! The result of decoding.
 
 use simple_types::Value;
 
-/// A value, and how many octets its encoding has: octets begin with just so many of it.
+/// A value, and the number of octets of its encoding. The octets begin with exactly this number of octets of the value.
 #[derive(Drop)]
 pub struct Decoded {
     pub value: Value,

@@ -1,4 +1,4 @@
-//! A value from octets.
+//! Decodes a value from octets.
 ghost use Rattle.std.specs.Prelude.{◌≡◌, ◌<◌, ℕ, IfOk, length, slice_index};
 ghost use Rattle.asn_types.specs.Modules.{IsModule};
 ghost use Rattle.asn_types.specs.Refs.{IsOf};
@@ -11,6 +11,7 @@ use crate::decoded::Decoded;
 use crate::errors::DecodeError;
 use crate::faults::DerEnd;
 use crate::nodes::node;
+use crate::places::{Input, Place};
 use asn_types::{Module, TypeLabel, resolve};
 use base_codecs::Spot;
 use base_flat_trees::{Builder, Flat, Whole};
@@ -19,12 +20,12 @@ use der_fields::{Stop, Why};
 use simple_types::ValueLabel;
 use std::alloc::Global;
 
-// Octets are below 256: their type says so, and here it becomes a fact.
+// Makes it known that octets are below 256, as their type implies.
 fn see_octets(octets: &[u8])
     ensures { (k : ℕ) → slice_index octets.now k < 256 }
 {}
 
-// The root of a value, and what stands behind it.
+// Reads the root of a value. Returns the spot after it, too.
 fn root(
     alloc: Global,
     module: &Module,
@@ -42,23 +43,20 @@ fn root(
         }));
     }
     let mut values = Builder::new(alloc);
-    let found = resolve(module, body);
-    let first = Spot { at: 0, nodes: 0 };
-    let behind = node(
+    let place = Place {
         alloc,
         module,
-        octets,
-        first,
-        1,
-        None,
-        body,
-        found,
-        &mut values,
-    )?;
+        depth: 1,
+        tag: None,
+        node: body,
+        found: resolve(module, body),
+    };
+    let spot = Spot { at: 0, nodes: 0 };
+    let behind = node(Input { octets, spot }, &place, &mut values)?;
     Ok((values.finish_one(), behind))
 }
 
-// What a fault is to the caller.
+// Returns the error that the caller gets for a fault.
 fn told(fault: DerEnd) -> DecodeError
     ensures { result ≡ error_of fault }
 {
@@ -71,14 +69,14 @@ fn told(fault: DerEnd) -> DecodeError
     }
 }
 
-/// The value of the type of the assignment with this number, with whose encoding (X.690, DER) the octets begin, and how many octets
-/// that encoding has.
+/// Decodes a value of the type of the assignment with this number. The octets must begin with its encoding (X.690, DER). Returns
+/// the value and the number of octets of that encoding.
 ///
-/// It takes time in the octets, but for parts and alternatives that are not there: each of them costs one comparison.
+/// The time is linear in the octets, except for parts and alternatives that are not there: each of them costs one comparison.
 ///
 /// # Errors
 ///
-/// `Bad` tells the first fault of the octets.
+/// `Bad` gives the first fault of the octets.
 pub fn decode_der(
     alloc: Global,
     module: &Module,
@@ -89,7 +87,7 @@ pub fn decode_der(
     ensures value { IfOk result (λ found. In module.now t found.value) }
     ensures answer { Says module.now t octets.now result }
 {
-    // What each module keeps is known once one of its readers was called.
+    // Calling one of the module's readers makes its invariant known.
     let _ = module.count();
     see_octets(octets);
     let body = module.assignment(t).body.root();

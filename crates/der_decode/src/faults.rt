@@ -6,7 +6,7 @@ use base_texts::Memory;
 use der_fields::Stop;
 use std::alloc::{AllocError, AllocFailed};
 
-/// Why no value is read: the first fault of the octets, or memory is missing.
+/// Why no value is read: the first fault of the octets, or a failed allocation.
 #[derive(Clone, Copy)]
 pub(crate) enum DerEnd {
     Stopped(Stop),

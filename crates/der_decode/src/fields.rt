@@ -1,4 +1,4 @@
-//! Lengths, and the contents behind them (X.690, clauses 8.1.3 and 10.1).
+//! Lengths, and the contents after them (X.690, clauses 8.1.3 and 10.1).
 ghost use Rattle.std.specs.Prelude.{◌≡◌, ◌+◌, ◌<◌, ◌≤◌, ◌^◌, IfOk, IfErr, MatchOption, length, slice_index};
 ghost use Rattle.der_fields.specs.Octets.{is_not_shortest};
 ghost use Rattle.der_fields.specs.FieldsReading.{number_of, stop_at};
@@ -7,14 +7,14 @@ ghost use Rattle.der_decode.specs.Private.Windows.{IsWindow, HasNoWindow};
 use base_codecs::Spot;
 use der_fields::{Stop, Why};
 
-/// Where contents begin, and where they end.
+/// The octets at which contents begin and end.
 #[derive(Clone, Copy)]
 pub(crate) struct Window {
     pub at: u64,
     pub end: u64,
 }
 
-// The number of octets, the highest first. None where it doesn't fit in 64 bits.
+// Returns the number of octets, the highest first. None if it doesn't fit in 64 bits.
 fn number_of(octets: &[u8]) -> Option<u64>
     ensures { MatchOption result (2 ^ 64 ≤ number_of octets.now) (λ n. n ≡ number_of octets.now) }
 {
@@ -28,7 +28,7 @@ fn number_of(octets: &[u8]) -> Option<u64>
     Some(number)
 }
 
-// Whether a length of the long form isn't in the least octets, or would be in one (clause 10.1).
+// Returns whether a length of the long form isn't in the least octets, or would fit in one (clause 10.1).
 fn is_not_shortest(octets: &[u8]) -> bool
     ensures { result ≡ is_not_shortest octets.now }
 {
@@ -39,7 +39,7 @@ fn is_not_shortest(octets: &[u8]) -> bool
     }
 }
 
-// The next `n` octets of so many, from an octet on, of a node whose length begins at another.
+// Returns the next `n` of `size` octets, from `at` on. They belong to a node whose length begins at `begin`.
 fn filled(size: u64, begin: u64, at: u64, n: u64) -> Result<Window, Stop>
     requires { at ≤ size }
     ensures ok { IfOk result (λ w. (w.at ≡ at) × (w.end ≡ at + n) × (at + n ≤ size)) }
@@ -54,7 +54,7 @@ fn filled(size: u64, begin: u64, at: u64, n: u64) -> Result<Window, Stop>
     Ok(Window { at, end: at + n })
 }
 
-// The contents behind a length of the long form, of which this octet tells how many more there are (clause 8.1.3.5).
+// Returns the contents after a length of the long form. Its first octet states how many more octets it has (clause 8.1.3.5).
 fn long(octets: &[u8], spot: Spot, count: u64) -> Result<Window, Stop>
     requires there { spot.at < length octets.now }
     requires first { slice_index octets.now spot.at ≡ 128 + count }
@@ -87,7 +87,7 @@ fn long(octets: &[u8], spot: Spot, count: u64) -> Result<Window, Stop>
     }
 }
 
-/// The contents behind the length at a spot.
+/// Returns the contents after the length at a spot.
 pub(crate) fn sized(octets: &[u8], spot: Spot) -> Result<Window, Stop>
     requires { spot.at ≤ length octets.now }
     ensures inside { IfOk result (λ w. (spot.at < w.at) × (w.at ≤ w.end) × (w.end ≤ length octets.now)) }

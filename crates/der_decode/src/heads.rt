@@ -1,4 +1,4 @@
-//! What stands before the contents of a node, and whether one more may stand.
+//! What precedes the contents of a node, and whether one node more is allowed.
 ghost use Rattle.std.specs.Prelude.{◌≡◌, ◌<◌, ◌≤◌, true, false, IfOk, IfErr, OnOk, length};
 ghost use Rattle.der_fields.specs.Encoding.{identifier};
 ghost use Rattle.der_fields.specs.Reading as reading;
@@ -12,13 +12,13 @@ use asn_types::Form;
 use base_codecs::Spot;
 use der_fields::{Stop, Why};
 
-/// How many elements may stand in one another.
+/// The greatest nesting depth of elements.
 const MOST_DEEP: u32 = 64;
 
-/// How many nodes a value may have.
+/// The greatest number of nodes of a value.
 const MOST_NODES: u32 = 1_048_576;
 
-/// What stands here is none of what is expected, or nothing does.
+/// Returns the stop if what is here is not one of the expected parts, or if there is nothing.
 pub(crate) fn unexpected(octets: &[u8], spot: Spot) -> Stop
     ensures { result ≡ reading.unexpected octets.now spot }
 {
@@ -30,7 +30,7 @@ pub(crate) fn unexpected(octets: &[u8], spot: Spot) -> Stop
     Stop { at: spot.at, why }
 }
 
-/// Whether one more node may stand here, where so many elements stand in one another down to it.
+/// Returns an error if one node more is not allowed here, at nesting depth `depth`.
 pub(crate) fn enter(depth: u32, spot: Spot) -> Result<(), Stop>
     ensures ok { OnOk result (reading.is_over depth spot ≡ false) }
     ensures few { OnOk result ((depth ≤ 64) × (spot.nodes < 1048576)) }
@@ -51,7 +51,7 @@ pub(crate) fn enter(depth: u32, spot: Spot) -> Result<(), Stop>
     Ok(())
 }
 
-/// The identifier and the length of a node with an identifier: where its contents stand.
+/// Reads the identifier and the length of a node with an identifier. Returns where its contents are.
 pub(crate) fn head(
     octets: &[u8],
     spot: Spot,

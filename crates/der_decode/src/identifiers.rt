@@ -7,10 +7,10 @@ use asn_types::Form;
 use der_fields::{is_constructed, universal_identifier};
 use std::marker::Model;
 
-// How many octets there are at most: a number of 32 bits is in five of 7 bits, behind the first octet (clause 8.1.2.4).
+// The greatest number of octets: a number of 32 bits is in five octets of 7 bits, after the first octet (clause 8.1.2.4).
 const MOST: usize = 6;
 
-// The octets of an identifier, at the end of so many.
+// The octets of an identifier, at the end of the array.
 #[derive(Drop)]
 struct Identifier {
     octets: [u8; MOST],
@@ -28,7 +28,7 @@ impl Model for Identifier {
 }
 
 impl Identifier {
-    // An identifier of one octet.
+    // Returns an identifier of one octet.
     fn one(octet: u8) -> Identifier
         ensures { result ≡ octet ∷ [] }
     {
@@ -38,8 +38,8 @@ impl Identifier {
         }
     }
 
-    // The context-specific tag with this number, from 31 on: octets of 7 bits, from the last to the first, and what stands before
-    // them (clause 8.1.2.4).
+    // Returns the context-specific tag with this number, from 31 on. It writes octets of 7 bits, from the last to the first, and
+    // then the octet that precedes them (clause 8.1.2.4).
     fn large(constructed: bool, number: u32) -> Identifier
         requires { 31 ≤ number }
         ensures { result ≡ context_identifier constructed number }
@@ -58,7 +58,7 @@ impl Identifier {
         Identifier { octets, begin }
     }
 
-    // The context-specific tag of a component or an alternative.
+    // Returns the context-specific tag of a component or an alternative.
     fn context(constructed: bool, number: u32) -> Identifier
         ensures { result ≡ context_identifier constructed number }
     {
@@ -68,7 +68,7 @@ impl Identifier {
         Identifier::large(constructed, number)
     }
 
-    // That of a node of a type of this form, with this tag or without one.
+    // Returns the identifier of a node of a type of this form, with this tag or without one.
     fn of(tag: Option<u32>, form: &Form) -> Identifier
         ensures { result ≡ identifier tag form.now }
     {
@@ -86,7 +86,7 @@ impl Identifier {
     }
 }
 
-// The bit that tells whether an encoding has others in it (clause 8.1.2.5).
+// Returns the bit that states whether an encoding contains others (clause 8.1.2.5).
 fn form_bit(constructed: bool) -> u8
     ensures same { result ≡ form_bit constructed }
     ensures few { result ≤ 32 }
@@ -94,7 +94,7 @@ fn form_bit(constructed: bool) -> u8
     if constructed { 32 } else { 0 }
 }
 
-/// Whether a node has no octets but those of an alternative: a CHOICE without a tag.
+/// Returns whether a node has only the octets of an alternative: a CHOICE without a tag.
 pub(crate) fn is_open(tag: Option<u32>, form: &Form) -> bool
     ensures { result ≡ is_open tag form.now }
 {
@@ -104,7 +104,7 @@ pub(crate) fn is_open(tag: Option<u32>, form: &Form) -> bool
     }
 }
 
-/// How many octets the identifier of a node has.
+/// Returns the number of octets of the identifier of a node.
 pub(crate) fn identifier_size(tag: Option<u32>, form: &Form) -> u64
     ensures size { result ≡ length (identifier tag form.now) }
     ensures few { result ≤ 6 }
@@ -113,7 +113,7 @@ pub(crate) fn identifier_size(tag: Option<u32>, form: &Form) -> u64
     identifier.items().len() as u64
 }
 
-/// Whether octets, from one on, begin with the identifier of a node.
+/// Returns whether octets, from one on, begin with the identifier of a node.
 pub(crate) fn begins_so(octets: &[u8], at: u64, tag: Option<u32>, form: &Form) -> bool
     requires { at ≤ length octets.now }
     ensures { result ≡ begins (identifier tag form.now) (drop at octets.now) }

@@ -1,4 +1,4 @@
-//! Contents that are octets, and fill what is left of them (X.690, clauses 8.2 to 8.4 and 8.23).
+//! Contents that are octets, and fill all that remain (X.690, clauses 8.2 to 8.4 and 8.23).
 ghost use Rattle.std.specs.Prelude.{◌≡◌, ◌<◌, ◌≤◌, ◌^◌, ◌⊎◌, false, true, drop, IfOk, IfErr, IsUtf8, length};
 ghost use Rattle.simple_types.specs.Labels.{MayHave};
 ghost use Rattle.simple_types.specs.declared.labels.ValueLabel.TheVariants as value;
@@ -16,7 +16,7 @@ use der_fields::{Stop, Why};
 use simple_types::{Integer, ValueLabel, is_within, place_of};
 use std::alloc::Global;
 
-// A BOOLEAN (clauses 8.2 and 11.1).
+// Reads a BOOLEAN (clauses 8.2 and 11.1).
 fn boolean(octets: &[u8], spot: Spot) -> Result<ValueLabel, Stop>
     requires { spot.at ≤ length octets.now }
     ensures kids { IfOk result (λ label. MayHave label 0) }
@@ -38,7 +38,7 @@ fn boolean(octets: &[u8], spot: Spot) -> Result<ValueLabel, Stop>
     }
 }
 
-// An INTEGER (clause 8.3).
+// Reads an INTEGER (clause 8.3).
 fn integer(
     lo: Option<i128>,
     hi: Option<i128>,
@@ -60,7 +60,7 @@ fn integer(
     })
 }
 
-// The item with a number among so many, which have the numbers from 0 on.
+// Returns the item with a number, if the items have the numbers from 0 on.
 fn item_below(items: usize, z: i128) -> Option<u32>
     requires { items < 2 ^ 32 }
     ensures { result ≡ item_below items z }
@@ -71,7 +71,7 @@ fn item_below(items: usize, z: i128) -> Option<u32>
     None
 }
 
-// The item with a number.
+// Returns the item with a number.
 fn item_with(form: &Form, z: i128) -> Option<u32>
     requires { IsLeaf form.now }
     ensures { result ≡ item_with form.now z }
@@ -84,7 +84,7 @@ fn item_with(form: &Form, z: i128) -> Option<u32>
     }
 }
 
-// An ENUMERATED (clause 8.4).
+// Reads an ENUMERATED (clause 8.4).
 fn enumerated(form: &Form, octets: &[u8], spot: Spot) -> Result<ValueLabel, Stop>
     requires leaf { IsLeaf form.now }
     requires inside { spot.at ≤ length octets.now }
@@ -102,7 +102,7 @@ fn enumerated(form: &Form, octets: &[u8], spot: Spot) -> Result<ValueLabel, Stop
     }
 }
 
-// What isn't a text.
+// Reads contents that are not a text.
 fn plain(form: &Form, octets: &[u8], spot: Spot) -> Result<ValueLabel, Stop>
     requires plain { IsPlain form.now }
     requires inside { spot.at ≤ length octets.now }
@@ -117,7 +117,7 @@ fn plain(form: &Form, octets: &[u8], spot: Spot) -> Result<ValueLabel, Stop>
     }
 }
 
-// A text of a node that begins at an octet (clause 8.23).
+// Reads a text of a node that begins at an octet (clause 8.23).
 fn text(alloc: Global, octets: &[u8], begin: u64, spot: Spot) -> Result<ValueLabel, DerEnd>
     requires { spot.at ≤ length octets.now }
     ensures ok { IfOk result (λ label. (label ≡ value.Utf8 (drop spot.at octets.now)) × IsUtf8 (drop spot.at octets.now)) }
@@ -133,8 +133,8 @@ fn text(alloc: Global, octets: &[u8], begin: u64, spot: Spot) -> Result<ValueLab
     }
 }
 
-/// The label of a node of a type of this form that begins at an octet, whose contents are all that is left. A text isn't UTF-8 only
-/// by the rule of its node, and so is told where the node begins.
+/// Returns the label of a node of a type of this form that begins at an octet. Its contents are all octets that remain. That a text
+/// is UTF-8 is a rule of its node, so that fault is reported where the node begins.
 pub(crate) fn leaf(
     alloc: Global,
     form: &Form,

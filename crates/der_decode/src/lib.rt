@@ -12,6 +12,7 @@ mod heads;
 mod identifiers;
 mod leaves;
 mod nodes;
+mod places;
 mod rules;
 mod wholes;
 

@@ -3,9 +3,7 @@ ghost use Rattle.std.specs.Prelude.{◌≡◌, [], ◌<◌, ◌≤◌, ◌+◌, 
 ghost use Rattle.base_trees.specs.Rose.{label_of, kids_of};
 ghost use Rattle.base_flat_trees.specs.Zips.{added};
 ghost use Rattle.asn_types.specs.declared.types.Form.TheVariants as form;
-ghost use Rattle.asn_types.specs.Modules.{IsModule};
 ghost use Rattle.asn_types.specs.Parts.{parts_of};
-ghost use Rattle.asn_types.specs.Refs.{IsOf, resolve};
 ghost use Rattle.per_fields.specs.Nodes.{is_no_text};
 ghost use Rattle.base_codecs.specs.Reading.{ended_at};
 ghost use Rattle.base_codecs.specs.Sequences.{items_at, parts_at};
@@ -13,111 +11,101 @@ ghost use Rattle.der_fields.specs.FieldsReading.{stop_at};
 ghost use Rattle.der_fields.specs.Reading.{starts, is_optional, unexpected, parts_from, never, sequence_at, choice_at, sequence_of_at, node_read};
 ghost use Rattle.der_decode.specs.Private.Bodies as bodies;
 ghost use Rattle.der_decode.specs.Private.Newest.{newest};
+ghost use Rattle.der_decode.specs.Private.Places.{IsPlace, IsAfter, IsFrom, Adds, Gives};
 ghost use Rattle.der_decode.specs.Private.Showing.{Shows, ShowsParts};
 
 use crate::faults::DerEnd;
 use crate::heads::{enter, head, unexpected};
 use crate::identifiers::{begins_so, is_open};
 use crate::leaves::leaf;
+use crate::places::{Input, Part, Place};
 use crate::rules::{has_no_rules, leaf_keeps, owned, unless_standard};
-use asn_types::{Component, Form, Module, TypeLabel, resolve};
+use asn_types::{Component, Form, resolve};
 use asn_values::below;
 use base_codecs::Spot;
 use base_flat_trees::Builder;
-use base_trees::Tree;
 use der_fields::{Stop, Why};
 use simple_types::{Flags, Standard, ValueLabel, is_at_most};
-use std::alloc::Global;
 
-/// A node of a type, where so many elements stand in one another down to it, and its type is found. It is put behind others.
+/// What a SEQUENCE OF states: its component, and the least and the greatest number of its items.
+#[derive(Clone, Copy)]
+struct ListForm<'m> {
+    part: &'m Component,
+    min: u32,
+    max: Option<u32>,
+}
+
+/// Reads a node, and appends it.
 #[cycle(nodes)]
 pub(crate) fn node(
-    alloc: Global,
-    module: &Module,
-    octets: &[u8],
-    spot: Spot,
-    depth: u32,
-    tag: Option<u32>,
-    node: &Tree<TypeLabel>,
-    found: &Tree<TypeLabel>,
+    input: Input<'_>,
+    place: &Place<'_>,
     values: &mut Builder<ValueLabel>,
 ) -> Result<Spot, DerEnd>
-    requires depth { depth ≤ 65 }
-    requires known { IsModule module.now }
-    requires of { IsOf module.now node.now }
-    requires found { found.now ≡ resolve module.now node.now }
-    requires inside { spot.at ≤ length octets.now }
-    ensures on { IfOk result (λ behind. (spot.at < behind.at) × (behind.at ≤ length octets.now)) }
+    requires place { IsPlace 65 place.now }
+    requires inside { input.spot.at ≤ length input.octets.now }
+    ensures on { IfOk result (IsAfter input.entry) }
     ensures pushed { OnOk result (values.new ≡ added (newest values.new.kids) values.old) }
-    ensures gives { Shows (λ behind. (newest values.new.kids, behind)) result (node_read module.now depth tag node.now octets.now spot) }
+    ensures gives { Gives input.entry result values.new (node_read place.now.module.now place.now.depth place.now.tag place.now.node.now) }
 {
-    if found.label().form.is_leaf() {
-        return leaf_node(alloc, module, octets, spot, depth, tag, node, found, values);
+    if place.found.label().form.is_leaf() {
+        return leaf_node(input, place, values);
     }
-    if has_no_rules(module, found) {
-        return headed(alloc, module, octets, spot, depth, tag, found, values);
+    if has_no_rules(place.module, place.found) {
+        return headed(input, place, values);
     }
-    ruled(alloc, module, octets, spot, depth, tag, node, found, values)
+    ruled(input, place, values)
 }
 
 // Reads a node with child nodes whose values may break its rule.
 #[cycle(nodes)]
 fn ruled(
-    alloc: Global,
-    module: &Module,
-    octets: &[u8],
-    spot: Spot,
-    depth: u32,
-    tag: Option<u32>,
-    node: &Tree<TypeLabel>,
-    found: &Tree<TypeLabel>,
+    input: Input<'_>,
+    place: &Place<'_>,
     values: &mut Builder<ValueLabel>,
 ) -> Result<Spot, DerEnd>
-    requires known { IsModule module.now }
-    requires of { IsOf module.now node.now }
-    requires found { found.now ≡ resolve module.now node.now }
-    requires form { bodies.HasKids (label_of found.now).form }
-    requires inside { spot.at ≤ length octets.now }
-    ensures on { IfOk result (λ behind. (spot.at < behind.at) × (behind.at ≤ length octets.now)) }
+    requires place { IsPlace 65 place.now }
+    requires form { bodies.HasKids (label_of place.now.found.now).form }
+    requires inside { input.spot.at ≤ length input.octets.now }
+    ensures on { IfOk result (IsAfter input.entry) }
     ensures pushed { OnOk result (values.new ≡ added (newest values.new.kids) values.old) }
-    ensures gives { Shows (λ behind. (newest values.new.kids, behind)) result (node_read module.now depth tag node.now octets.now spot) }
+    ensures gives { Gives input.entry result values.new (node_read place.now.module.now place.now.depth place.now.tag place.now.node.now) }
 {
-    let mut read = Builder::new(alloc);
-    let behind = headed(alloc, module, octets, spot, depth, tag, found, &mut read)?;
-    owned(alloc, module, node, read.finish_one(), spot.at, values)?;
+    let mut read = Builder::new(place.alloc);
+    let behind = headed(input, place, &mut read)?;
+    owned(place, read.finish_one(), input.spot.at, values)?;
     Ok(behind)
 }
 
 // Reads a node without child nodes.
 fn leaf_node(
-    alloc: Global,
-    module: &Module,
-    octets: &[u8],
-    spot: Spot,
-    depth: u32,
-    tag: Option<u32>,
-    node: &Tree<TypeLabel>,
-    found: &Tree<TypeLabel>,
+    input: Input<'_>,
+    place: &Place<'_>,
     values: &mut Builder<ValueLabel>,
 ) -> Result<Spot, DerEnd>
-    requires known { IsModule module.now }
-    requires of { IsOf module.now node.now }
-    requires found { found.now ≡ resolve module.now node.now }
-    requires form { bodies.HasNoKids (label_of found.now).form }
-    requires inside { spot.at ≤ length octets.now }
-    ensures on { IfOk result (λ behind. (spot.at < behind.at) × (behind.at ≤ length octets.now)) }
+    requires place { IsPlace 65 place.now }
+    requires form { bodies.HasNoKids (label_of place.now.found.now).form }
+    requires inside { input.spot.at ≤ length input.octets.now }
+    ensures on { IfOk result (IsAfter input.entry) }
     ensures pushed { OnOk result (values.new ≡ added (newest values.new.kids) values.old) }
-    ensures gives { Shows (λ behind. (newest values.new.kids, behind)) result (node_read module.now depth tag node.now octets.now spot) }
+    ensures gives { Gives input.entry result values.new (node_read place.now.module.now place.now.depth place.now.tag place.now.node.now) }
 {
-    let form = &found.label().form;
-    let window = head(octets, spot, depth, tag, form)?;
+    let Input { octets, spot } = input;
+    let form = &place.found.label().form;
+    let window = head(octets, spot, place.depth, place.tag, form)?;
     let nodes = spot.nodes + 1;
     let inner = Spot {
         at: window.at,
         nodes,
     };
-    let value = leaf(alloc, form, &octets[..window.end as usize], spot.at, inner)?;
-    if !leaf_keeps(module, found, &value) {
+    let value = leaf(
+        place.alloc,
+        form,
+        &octets[..window.end as usize],
+        spot.at,
+        inner,
+    )?;
+    if !leaf_keeps(place.module, place.found, &value) {
         return Err(DerEnd::Stopped(Stop {
             at: spot.at,
             why: Why::NotAValue,
@@ -130,181 +118,140 @@ fn leaf_node(
     })
 }
 
-// A node with kids but for its rule.
+// Reads a node with children, without its rule.
 #[cycle(nodes)]
 fn headed(
-    alloc: Global,
-    module: &Module,
-    octets: &[u8],
-    spot: Spot,
-    depth: u32,
-    tag: Option<u32>,
-    found: &Tree<TypeLabel>,
+    input: Input<'_>,
+    place: &Place<'_>,
     values: &mut Builder<ValueLabel>,
 ) -> Result<Spot, DerEnd>
-    requires known { IsModule module.now }
-    requires of { IsOf module.now found.now }
-    requires form { bodies.HasKids (label_of found.now).form }
-    requires inside { spot.at ≤ length octets.now }
-    ensures on { IfOk result (λ behind. (spot.at < behind.at) × (behind.at ≤ length octets.now)) }
-    ensures pushed { OnOk result (values.new ≡ added (newest values.new.kids) values.old) }
-    ensures text { OnOk result (is_no_text (label_of (newest values.new.kids)) ≡ false) }
-    ensures gives { Shows (λ behind. (newest values.new.kids, behind)) result (bodies.headed_read module.now depth tag found.now octets.now spot) }
+    requires place { IsPlace 65 place.now }
+    requires form { bodies.HasKids (label_of place.now.found.now).form }
+    requires inside { input.spot.at ≤ length input.octets.now }
+    ensures adds { Adds (IsAfter input.entry) result values.old values.new }
+    ensures gives { Gives input.entry result values.new (bodies.headed_read place.now.module.now place.now.depth place.now.tag place.now.found.now) }
 {
-    let form = &found.label().form;
-    if is_open(tag, form) {
-        return open_choice(alloc, module, octets, spot, depth, found, values);
+    let Input { octets, spot } = input;
+    let form = &place.found.label().form;
+    if is_open(place.tag, form) {
+        return open_choice(input, place, values);
     }
-    let window = head(octets, spot, depth, tag, form)?;
-    let inner = Spot {
-        at: window.at,
-        nodes: spot.nodes + 1,
+    let window = head(octets, spot, place.depth, place.tag, form)?;
+    let inner = Input {
+        octets: &octets[..window.end as usize],
+        spot: Spot {
+            at: window.at,
+            nodes: spot.nodes + 1,
+        },
     };
-    let front = &octets[..window.end as usize];
-    contents(alloc, module, front, inner, spot.at, depth, found, values)
+    contents(inner, spot.at, place, values)
 }
 
-// The contents of a node that begins at an octet.
+// Reads the contents of a node that begins at an octet.
 #[cycle(nodes)]
 fn contents(
-    alloc: Global,
-    module: &Module,
-    octets: &[u8],
-    spot: Spot,
+    input: Input<'_>,
     begin: u64,
-    depth: u32,
-    found: &Tree<TypeLabel>,
+    place: &Place<'_>,
     values: &mut Builder<ValueLabel>,
 ) -> Result<Spot, DerEnd>
-    requires depth { depth ≤ 64 }
-    requires known { IsModule module.now }
-    requires of { IsOf module.now found.now }
-    requires form { bodies.HasKids (label_of found.now).form }
-    requires inside { spot.at ≤ length octets.now }
-    ensures on { IfOk result (λ behind. (spot.at ≤ behind.at) × (behind.at ≤ length octets.now)) }
-    ensures pushed { OnOk result (values.new ≡ added (newest values.new.kids) values.old) }
-    ensures text { OnOk result (is_no_text (label_of (newest values.new.kids)) ≡ false) }
-    ensures gives { Shows (λ behind. (newest values.new.kids, behind)) result (bodies.contents_read module.now depth begin found.now octets.now spot) }
+    requires place { IsPlace 64 place.now }
+    requires form { bodies.HasKids (label_of place.now.found.now).form }
+    requires inside { input.spot.at ≤ length input.octets.now }
+    ensures adds { Adds (IsFrom input.entry) result values.old values.new }
+    ensures gives { Gives input.entry result values.new (bodies.contents_read place.now.module.now place.now.depth begin place.now.found.now) }
 {
-    match &found.label().form {
-        Form::Sequence { parts } => {
-            sequence(
-                alloc,
-                module,
-                octets,
-                spot,
-                depth,
-                found,
-                parts.items(),
-                values,
-            )
+    match &place.found.label().form {
+        Form::Sequence { parts } => sequence(input, place, parts.items(), values),
+        Form::Choice { parts } => choice(input, place, parts.items(), values),
+        Form::SequenceOf { part, min, max } => {
+            let list = ListForm {
+                part,
+                min: *min,
+                max: *max,
+            };
+            sequence_of(input, begin, place, list, values)
         }
-        Form::Choice { parts } => {
-            choice(
-                alloc,
-                module,
-                octets,
-                spot,
-                depth,
-                found,
-                parts.items(),
-                values,
-            )
-        }
-        Form::SequenceOf { part, min, max } => sequence_of(
-            alloc, module, octets, spot, begin, depth, found, part, *min, *max, values,
-        ),
         _ => unreachable!(),
     }
 }
 
-// The contents of a SEQUENCE of these components.
+// Reads the contents of a SEQUENCE of these components.
 #[cycle(nodes)]
 fn sequence(
-    alloc: Global,
-    module: &Module,
-    octets: &[u8],
-    spot: Spot,
-    depth: u32,
-    found: &Tree<TypeLabel>,
+    input: Input<'_>,
+    place: &Place<'_>,
     parts: &[Component],
     values: &mut Builder<ValueLabel>,
 ) -> Result<Spot, DerEnd>
-    requires depth { depth ≤ 64 }
-    requires known { IsModule module.now }
-    requires of { IsOf module.now found.now }
-    requires form { (label_of found.now).form ≡ form.Sequence parts.now }
-    requires inside { spot.at ≤ length octets.now }
-    ensures on { IfOk result (λ behind. (spot.at ≤ behind.at) × (behind.at ≤ length octets.now)) }
-    ensures pushed { OnOk result (values.new ≡ added (newest values.new.kids) values.old) }
-    ensures text { OnOk result (is_no_text (label_of (newest values.new.kids)) ≡ false) }
-    ensures gives { Shows (λ behind. (newest values.new.kids, behind)) result
-        (sequence_at module.now (bodies.kid_at module.now depth) (label_of found.now) (kids_of found.now) parts.now octets.now spot) }
+    requires place { IsPlace 64 place.now }
+    requires form { (label_of place.now.found.now).form ≡ form.Sequence parts.now }
+    requires inside { input.spot.at ≤ length input.octets.now }
+    ensures adds { Adds (IsFrom input.entry) result values.old values.new }
+    ensures gives { Gives input.entry result values.new (sequence_at place.now.module.now (bodies.kid_at place.now.module.now place.now.depth) (label_of place.now.found.now) (kids_of place.now.found.now) parts.now) }
 {
     let mut present = Flags::none();
-    // The flags stand in the label once the components, which tell them, are read.
+    // The components state their flags. They are set in the label once the components are read.
     values.open(ValueLabel::Sequence {
         present: Flags::none(),
     })?;
-    let behind = components(
-        alloc,
-        module,
-        octets,
-        spot,
-        depth,
-        found,
-        parts,
-        &mut present,
-        values,
-    )?;
+    let behind = components(input, place, parts, &mut present, values)?;
     let _none = values.relabel(ValueLabel::Sequence { present });
     values.close();
     Ok(behind)
 }
 
-// The components of a SEQUENCE, put into a node that has no kids yet, and which of them are present.
+// Reads the components of a SEQUENCE into a node without children, and states which of them are present.
 #[cycle(nodes)]
 fn components(
-    alloc: Global,
-    module: &Module,
-    octets: &[u8],
-    spot: Spot,
-    depth: u32,
-    found: &Tree<TypeLabel>,
+    input: Input<'_>,
+    place: &Place<'_>,
     parts: &[Component],
     present: &mut Flags,
     values: &mut Builder<ValueLabel>,
 ) -> Result<Spot, DerEnd>
-    requires depth { depth ≤ 64 }
-    requires known { IsModule module.now }
-    requires of { IsOf module.now found.now }
-    requires form { (label_of found.now).form ≡ form.Sequence parts.now }
+    requires place { IsPlace 64 place.now }
+    requires form { (label_of place.now.found.now).form ≡ form.Sequence parts.now }
     requires none { present.old ≡ [] }
     requires empty { values.old.kids ≡ [] }
-    requires inside { spot.at ≤ length octets.now }
-    ensures on { IfOk result (λ behind. (spot.at ≤ behind.at) × (behind.at ≤ length octets.now)) }
+    requires inside { input.spot.at ≤ length input.octets.now }
+    ensures on { IfOk result (IsFrom input.entry) }
     ensures above { OnOk result (values.new.above ≡ values.old.above) }
-    ensures gives { ShowsParts result present.new values.new.kids
-        (parts_at (starts module.now) is_optional unexpected (bodies.kid_at module.now depth) (parts_from (label_of found.now) 0 parts.now (kids_of found.now)) octets.now spot) }
+    ensures gives { ShowsParts result present.new values.new.kids (parts_at (starts place.now.module.now) is_optional unexpected (bodies.kid_at place.now.module.now place.now.depth) (parts_from (label_of place.now.found.now) 0 parts.now (kids_of place.now.found.now)) input.entry.octets.now input.entry.spot) }
 {
-    let mut reached = spot;
+    let octets = input.octets;
+    let mut reached = input.spot;
     'parts: for i in 0..parts.len() {
-        let kid = found.kid(i);
-        let to = resolve(module, kid);
+        let kid = place.found.kid(i);
+        let to = resolve(place.module, kid);
         let part = &parts[i];
         let tag = Some(i as u32);
         if !begins_so(octets, reached.at, tag, &to.label().form) {
             if !part.optional {
                 return Err(DerEnd::Stopped(unexpected(octets, reached)));
             }
-            present.push(alloc, false)?;
+            present.push(place.alloc, false)?;
             continue;
         }
-        let inner = below(found.label().role_of(i, part), depth);
-        reached = component(
-            alloc, module, octets, reached, inner, tag, part, kid, to, values,
-        )?;
-        present.push(alloc, true)?;
+        let inner = below(place.found.label().role_of(i, part), place.depth);
+        let there = Place {
+            alloc: place.alloc,
+            module: place.module,
+            depth: inner,
+            tag,
+            node: kid,
+            found: to,
+        };
+        let ahead = Input {
+            octets,
+            spot: reached,
+        };
+        let part = Part {
+            component: part,
+            place: there,
+        };
+        reached = component(ahead, &part, values)?;
+        present.push(place.alloc, true)?;
     }
     if reached.at < octets.len() as u64 {
         return Err(DerEnd::Stopped(unexpected(octets, reached)));
@@ -312,125 +259,80 @@ fn components(
     Ok(reached)
 }
 
-// A part, put behind others: a node, and then its default or fixed value.
+// Reads a component, and appends it: a node, and then its default or fixed value.
 #[cycle(nodes)]
 fn component(
-    alloc: Global,
-    module: &Module,
-    octets: &[u8],
-    spot: Spot,
-    depth: u32,
-    tag: Option<u32>,
-    part: &Component,
-    kid: &Tree<TypeLabel>,
-    found: &Tree<TypeLabel>,
+    input: Input<'_>,
+    part: &Part<'_>,
     values: &mut Builder<ValueLabel>,
 ) -> Result<Spot, DerEnd>
-    requires depth { depth ≤ 65 }
-    requires known { IsModule module.now }
-    requires of { IsOf module.now kid.now }
-    requires found { found.now ≡ resolve module.now kid.now }
-    requires inside { spot.at ≤ length octets.now }
-    ensures on { IfOk result (λ behind. (spot.at < behind.at) × (behind.at ≤ length octets.now)) }
+    requires place { IsPlace 65 part.now.place }
+    requires inside { input.spot.at ≤ length input.octets.now }
+    ensures on { IfOk result (IsAfter input.entry) }
     ensures pushed { OnOk result (values.new ≡ added (newest values.new.kids) values.old) }
-    ensures gives { Shows (λ behind. (newest values.new.kids, behind)) result (bodies.part_read module.now depth tag part.now kid.now octets.now spot) }
+    ensures gives { Gives input.entry result values.new (bodies.part_read part.now.place.module.now part.now.place.depth part.now.place.tag part.now.component.now part.now.place.node.now) }
 {
-    match &part.standard {
-        Standard::Free => { node(alloc, module, octets, spot, depth, tag, kid, found, values) }
-        Standard::Default(_) | Standard::Fixed(_) => standard(
-            alloc, module, octets, spot, depth, tag, part, kid, found, values,
-        ),
+    match &part.component.standard {
+        Standard::Free => node(input, &part.place, values),
+        Standard::Default(_) | Standard::Fixed(_) => standard(input, part, values),
     }
 }
 
-// Reads a part that has a default or fixed value, which is rare.
+// Reads a component that has a default or fixed value, which is rare.
 #[cycle(nodes)]
 fn standard(
-    alloc: Global,
-    module: &Module,
-    octets: &[u8],
-    spot: Spot,
-    depth: u32,
-    tag: Option<u32>,
-    part: &Component,
-    kid: &Tree<TypeLabel>,
-    found: &Tree<TypeLabel>,
+    input: Input<'_>,
+    part: &Part<'_>,
     values: &mut Builder<ValueLabel>,
 ) -> Result<Spot, DerEnd>
-    requires depth { depth ≤ 65 }
-    requires known { IsModule module.now }
-    requires of { IsOf module.now kid.now }
-    requires found { found.now ≡ resolve module.now kid.now }
-    requires inside { spot.at ≤ length octets.now }
-    ensures on { IfOk result (λ behind. (spot.at < behind.at) × (behind.at ≤ length octets.now)) }
+    requires place { IsPlace 65 part.now.place }
+    requires inside { input.spot.at ≤ length input.octets.now }
+    ensures on { IfOk result (IsAfter input.entry) }
     ensures pushed { OnOk result (values.new ≡ added (newest values.new.kids) values.old) }
-    ensures gives { Shows (λ behind. (newest values.new.kids, behind)) result (bodies.part_read module.now depth tag part.now kid.now octets.now spot) }
+    ensures gives { Gives input.entry result values.new (bodies.part_read part.now.place.module.now part.now.place.depth part.now.place.tag part.now.component.now part.now.place.node.now) }
 {
-    let mut read = Builder::new(alloc);
-    let behind = node(
-        alloc, module, octets, spot, depth, tag, kid, found, &mut read,
-    )?;
-    unless_standard(alloc, module, part, kid, read.finish_one(), spot.at, values)?;
+    let mut read = Builder::new(part.place.alloc);
+    let behind = node(input, &part.place, &mut read)?;
+    unless_standard(part, read.finish_one(), input.spot.at, values)?;
     Ok(behind)
 }
 
-// The number of the first part with whose identifier what stands here begins.
-fn first_start(
-    module: &Module,
-    octets: &[u8],
-    spot: Spot,
-    found: &Tree<TypeLabel>,
-    parts: &[Component],
-) -> Option<u32>
-    requires known { IsModule module.now }
-    requires of { IsOf module.now found.now }
-    requires form { (label_of found.now).form ≡ form.Choice parts.now }
-    requires inside { spot.at ≤ length octets.now }
-    ensures { result ≡ bodies.first_start module.now (label_of found.now) parts.now (kids_of found.now) (drop spot.at octets.now) }
+// Returns the number of the first component whose identifier is here.
+fn first_start(input: Input<'_>, place: &Place<'_>, parts: &[Component]) -> Option<u32>
+    requires place { IsPlace 65 place.now }
+    requires form { (label_of place.now.found.now).form ≡ form.Choice parts.now }
+    requires inside { input.spot.at ≤ length input.octets.now }
+    ensures { result ≡ bodies.first_start place.now.module.now (label_of place.now.found.now) parts.now (kids_of place.now.found.now) (drop input.entry.spot.at input.entry.octets.now) }
 {
     'parts: for i in 0..parts.len() {
-        let to = resolve(module, found.kid(i));
-        if begins_so(octets, spot.at, Some(i as u32), &to.label().form) {
+        let to = resolve(place.module, place.found.kid(i));
+        if begins_so(
+            input.octets,
+            input.spot.at,
+            Some(i as u32),
+            &to.label().form,
+        ) {
             return Some(i as u32);
         }
     }
     None
 }
 
-// A CHOICE without a tag.
+// Reads a CHOICE without a tag.
 #[cycle(nodes)]
 fn open_choice(
-    alloc: Global,
-    module: &Module,
-    octets: &[u8],
-    spot: Spot,
-    depth: u32,
-    found: &Tree<TypeLabel>,
+    input: Input<'_>,
+    place: &Place<'_>,
     values: &mut Builder<ValueLabel>,
 ) -> Result<Spot, DerEnd>
-    requires known { IsModule module.now }
-    requires of { IsOf module.now found.now }
-    requires form { bodies.IsChoice (label_of found.now).form }
-    requires inside { spot.at ≤ length octets.now }
-    ensures on { IfOk result (λ behind. (spot.at < behind.at) × (behind.at ≤ length octets.now)) }
-    ensures pushed { OnOk result (values.new ≡ added (newest values.new.kids) values.old) }
-    ensures text { OnOk result (is_no_text (label_of (newest values.new.kids)) ≡ false) }
-    ensures gives { Shows (λ behind. (newest values.new.kids, behind)) result
-        (choice_at module.now (bodies.entered_kid module.now depth) (label_of found.now) (kids_of found.now) (parts_of (label_of found.now).form) octets.now spot) }
+    requires place { IsPlace 65 place.now }
+    requires form { bodies.IsChoice (label_of place.now.found.now).form }
+    requires inside { input.spot.at ≤ length input.octets.now }
+    ensures adds { Adds (IsAfter input.entry) result values.old values.new }
+    ensures gives { Gives input.entry result values.new (choice_at place.now.module.now (bodies.entered_kid place.now.module.now place.now.depth) (label_of place.now.found.now) (kids_of place.now.found.now) (parts_of (label_of place.now.found.now).form)) }
 {
-    match &found.label().form {
-        Form::Choice { parts } => {
-            entered_choice(
-                alloc,
-                module,
-                octets,
-                spot,
-                depth,
-                found,
-                parts.items(),
-                values,
-            )
-        }
+    match &place.found.label().form {
+        Form::Choice { parts } => entered_choice(input, place, parts.items(), values),
         _ => unreachable!(),
     }
 }
@@ -438,65 +340,53 @@ fn open_choice(
 // Reads a node of a CHOICE of these alternatives. It is entered before its alternative.
 #[cycle(nodes)]
 fn entered_choice(
-    alloc: Global,
-    module: &Module,
-    octets: &[u8],
-    spot: Spot,
-    depth: u32,
-    found: &Tree<TypeLabel>,
+    input: Input<'_>,
+    place: &Place<'_>,
     parts: &[Component],
     values: &mut Builder<ValueLabel>,
 ) -> Result<Spot, DerEnd>
-    requires known { IsModule module.now }
-    requires of { IsOf module.now found.now }
-    requires form { (label_of found.now).form ≡ form.Choice parts.now }
-    requires inside { spot.at ≤ length octets.now }
-    ensures on { IfOk result (λ behind. (spot.at < behind.at) × (behind.at ≤ length octets.now)) }
-    ensures pushed { OnOk result (values.new ≡ added (newest values.new.kids) values.old) }
-    ensures text { OnOk result (is_no_text (label_of (newest values.new.kids)) ≡ false) }
-    ensures gives { Shows (λ behind. (newest values.new.kids, behind)) result
-        (choice_at module.now (bodies.entered_kid module.now depth) (label_of found.now) (kids_of found.now) parts.now octets.now spot) }
+    requires place { IsPlace 65 place.now }
+    requires form { (label_of place.now.found.now).form ≡ form.Choice parts.now }
+    requires inside { input.spot.at ≤ length input.octets.now }
+    ensures adds { Adds (IsAfter input.entry) result values.old values.new }
+    ensures gives { Gives input.entry result values.new (choice_at place.now.module.now (bodies.entered_kid place.now.module.now place.now.depth) (label_of place.now.found.now) (kids_of place.now.found.now) parts.now) }
 {
-    match first_start(module, octets, spot, found, parts) {
+    let Input { octets, spot } = input;
+    match first_start(input, place, parts) {
         None => Err(DerEnd::Stopped(unexpected(octets, spot))),
         Some(i) => {
-            enter(depth, spot)?;
-            let inner = Spot {
-                at: spot.at,
-                nodes: spot.nodes + 1,
+            enter(place.depth, spot)?;
+            let inner = Input {
+                octets,
+                spot: Spot {
+                    at: spot.at,
+                    nodes: spot.nodes + 1,
+                },
             };
-            alternative(alloc, module, octets, inner, depth, found, parts, i, values)
+            alternative(inner, place, parts, i, values)
         }
     }
 }
 
-// The contents of a CHOICE that has a tag.
+// Reads the contents of a CHOICE that has a tag.
 #[cycle(nodes)]
 fn choice(
-    alloc: Global,
-    module: &Module,
-    octets: &[u8],
-    spot: Spot,
-    depth: u32,
-    found: &Tree<TypeLabel>,
+    input: Input<'_>,
+    place: &Place<'_>,
     parts: &[Component],
     values: &mut Builder<ValueLabel>,
 ) -> Result<Spot, DerEnd>
-    requires depth { depth ≤ 64 }
-    requires known { IsModule module.now }
-    requires of { IsOf module.now found.now }
-    requires form { (label_of found.now).form ≡ form.Choice parts.now }
-    requires inside { spot.at ≤ length octets.now }
-    ensures on { IfOk result (λ behind. (spot.at ≤ behind.at) × (behind.at ≤ length octets.now)) }
-    ensures pushed { OnOk result (values.new ≡ added (newest values.new.kids) values.old) }
-    ensures text { OnOk result (is_no_text (label_of (newest values.new.kids)) ≡ false) }
-    ensures gives { Shows (λ behind. (newest values.new.kids, behind)) result
-        (ended_at (λ r. stop_at r.at Why.Tag) (choice_at module.now (bodies.kid_at module.now depth) (label_of found.now) (kids_of found.now) parts.now) octets.now spot) }
+    requires place { IsPlace 64 place.now }
+    requires form { (label_of place.now.found.now).form ≡ form.Choice parts.now }
+    requires inside { input.spot.at ≤ length input.octets.now }
+    ensures adds { Adds (IsFrom input.entry) result values.old values.new }
+    ensures gives { Gives input.entry result values.new (ended_at (λ r. stop_at r.at Why.Tag) (choice_at place.now.module.now (bodies.kid_at place.now.module.now place.now.depth) (label_of place.now.found.now) (kids_of place.now.found.now) parts.now)) }
 {
-    match first_start(module, octets, spot, found, parts) {
-        None => Err(DerEnd::Stopped(unexpected(octets, spot))),
+    let octets = input.octets;
+    match first_start(input, place, parts) {
+        None => Err(DerEnd::Stopped(unexpected(octets, input.spot))),
         Some(i) => {
-            let behind = alternative(alloc, module, octets, spot, depth, found, parts, i, values)?;
+            let behind = alternative(input, place, parts, i, values)?;
             if behind.at < octets.len() as u64 {
                 return Err(DerEnd::Stopped(Stop {
                     at: behind.at,
@@ -508,90 +398,84 @@ fn choice(
     }
 }
 
-// The alternative with this number.
+// Reads the alternative with this number.
 #[cycle(nodes)]
 fn alternative(
-    alloc: Global,
-    module: &Module,
-    octets: &[u8],
-    spot: Spot,
-    depth: u32,
-    found: &Tree<TypeLabel>,
+    input: Input<'_>,
+    place: &Place<'_>,
     parts: &[Component],
     index: u32,
     values: &mut Builder<ValueLabel>,
 ) -> Result<Spot, DerEnd>
-    requires depth { depth ≤ 64 }
-    requires known { IsModule module.now }
-    requires of { IsOf module.now found.now }
-    requires form { (label_of found.now).form ≡ form.Choice parts.now }
+    requires place { IsPlace 64 place.now }
+    requires form { (label_of place.now.found.now).form ≡ form.Choice parts.now }
     requires index { index < length parts.now }
-    requires inside { spot.at ≤ length octets.now }
-    ensures on { IfOk result (λ behind. (spot.at < behind.at) × (behind.at ≤ length octets.now)) }
-    ensures pushed { OnOk result (values.new ≡ added (newest values.new.kids) values.old) }
-    ensures text { OnOk result (is_no_text (label_of (newest values.new.kids)) ≡ false) }
-    ensures gives { Shows (λ behind. (newest values.new.kids, behind)) result
-        (bodies.alternative_read module.now depth index (bodies.alternative_place found.now parts.now index) octets.now spot) }
+    requires inside { input.spot.at ≤ length input.octets.now }
+    ensures adds { Adds (IsAfter input.entry) result values.old values.new }
+    ensures gives { Gives input.entry result values.new (bodies.alternative_read place.now.module.now place.now.depth index (bodies.alternative_place place.now.found.now parts.now index)) }
 {
     let i = index as usize;
-    let kid = found.kid(i);
-    let to = resolve(module, kid);
+    let kid = place.found.kid(i);
+    let to = resolve(place.module, kid);
     let part = &parts[i];
-    let inner = below(found.label().role_of(i, part), depth);
+    let inner = below(place.found.label().role_of(i, part), place.depth);
+    let there = Place {
+        alloc: place.alloc,
+        module: place.module,
+        depth: inner,
+        tag: Some(index),
+        node: kid,
+        found: to,
+    };
     values.open(ValueLabel::Choice(index))?;
-    let behind = component(
-        alloc,
-        module,
-        octets,
-        spot,
-        inner,
-        Some(index),
-        part,
-        kid,
-        to,
-        values,
-    )?;
+    let part = Part {
+        component: part,
+        place: there,
+    };
+    let behind = component(input, &part, values)?;
     values.close();
     Ok(behind)
 }
 
-// The contents of a SEQUENCE OF that begins at an octet.
+// Reads the contents of a SEQUENCE OF that begins at an octet.
 #[cycle(nodes)]
 fn sequence_of(
-    alloc: Global,
-    module: &Module,
-    octets: &[u8],
-    spot: Spot,
+    input: Input<'_>,
     begin: u64,
-    depth: u32,
-    found: &Tree<TypeLabel>,
-    part: &Component,
-    min: u32,
-    max: Option<u32>,
+    place: &Place<'_>,
+    list: ListForm<'_>,
     values: &mut Builder<ValueLabel>,
 ) -> Result<Spot, DerEnd>
-    requires depth { depth ≤ 64 }
-    requires known { IsModule module.now }
-    requires of { IsOf module.now found.now }
-    requires form { (label_of found.now).form ≡ form.SequenceOf part.now min max }
-    requires inside { spot.at ≤ length octets.now }
-    ensures on { IfOk result (λ behind. (spot.at ≤ behind.at) × (behind.at ≤ length octets.now)) }
-    ensures pushed { OnOk result (values.new ≡ added (newest values.new.kids) values.old) }
-    ensures text { OnOk result (is_no_text (label_of (newest values.new.kids)) ≡ false) }
-    ensures gives { Shows (λ behind. (newest values.new.kids, behind)) result
-        (sequence_of_at (bodies.kid_at module.now depth) begin min max (bodies.item_place found.now part.now) octets.now spot) }
+    requires place { IsPlace 64 place.now }
+    requires form { (label_of place.now.found.now).form ≡ form.SequenceOf list.part.now list.min list.max }
+    requires inside { input.spot.at ≤ length input.octets.now }
+    ensures adds { Adds (IsFrom input.entry) result values.old values.new }
+    ensures gives { Gives input.entry result values.new (sequence_of_at (bodies.kid_at place.now.module.now place.now.depth) begin list.entry.min list.entry.max (bodies.item_place place.now.found.now list.entry.part.now)) }
 {
-    let item = found.kid(0);
-    let inner = below(found.label().role_of(0, part), depth);
+    let item = place.found.kid(0);
+    let to = resolve(place.module, item);
+    let inner = below(place.found.label().role_of(0, list.part), place.depth);
+    let there = Place {
+        alloc: place.alloc,
+        module: place.module,
+        depth: inner,
+        tag: None,
+        node: item,
+        found: to,
+    };
     values.open(ValueLabel::SequenceOf)?;
-    let read = items(alloc, module, octets, spot, inner, part, item, values)?;
-    if read.1 < min as usize {
+    let part = Part {
+        component: list.part,
+        place: there,
+    };
+    let read = items(input, &part, values)?;
+    if read.1 < list.min as usize {
         return Err(DerEnd::Stopped(Stop {
             at: begin,
             why: Why::Range,
         }));
     }
-    if !is_at_most(read.1, max) {
+    if !is_at_most(read.1, list.max) {
         return Err(DerEnd::Stopped(Stop {
             at: begin,
             why: Why::Range,
@@ -601,35 +485,30 @@ fn sequence_of(
     Ok(read.0)
 }
 
-// The items of a SEQUENCE OF, put into a node that has no kids yet, and their count.
+// Reads the items of a SEQUENCE OF into a node without children, and counts them.
 #[cycle(nodes)]
 fn items(
-    alloc: Global,
-    module: &Module,
-    octets: &[u8],
-    spot: Spot,
-    depth: u32,
-    part: &Component,
-    item: &Tree<TypeLabel>,
+    input: Input<'_>,
+    part: &Part<'_>,
     values: &mut Builder<ValueLabel>,
 ) -> Result<(Spot, usize), DerEnd>
-    requires depth { depth ≤ 65 }
-    requires known { IsModule module.now }
-    requires of { IsOf module.now item.now }
+    requires place { IsPlace 65 part.now.place }
     requires empty { values.old.kids ≡ [] }
-    requires inside { spot.at ≤ length octets.now }
-    ensures on { IfOk result (λ read. (spot.at ≤ read.0.at) × (read.0.at ≤ length octets.now)) }
+    requires inside { input.spot.at ≤ length input.octets.now }
+    ensures on { IfOk result (λ read. IsFrom input.entry read.0) }
     ensures above { OnOk result (values.new.above ≡ values.old.above) }
     ensures count { IfOk result (λ read. read.1 ≡ length values.new.kids) }
-    ensures gives { Shows (λ read. (values.new.kids, read.0)) result (items_at never (bodies.part_read module.now depth None part.now item.now) octets.now spot) }
+    ensures gives { Shows (λ read. (values.new.kids, read.0)) result (items_at never (bodies.part_read part.now.place.module.now part.now.place.depth part.now.place.tag part.now.component.now part.now.place.node.now) input.entry.octets.now input.entry.spot) }
 {
-    let found = resolve(module, item);
-    let mut reached = spot;
+    let octets = input.octets;
+    let mut reached = input.spot;
     let mut count: usize = 0;
     'items: while reached.at < octets.len() as u64 {
-        reached = component(
-            alloc, module, octets, reached, depth, None, part, item, found, values,
-        )?;
+        let ahead = Input {
+            octets,
+            spot: reached,
+        };
+        reached = component(ahead, part, values)?;
         count += 1;
     }
     Ok((reached, count))

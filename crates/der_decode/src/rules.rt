@@ -3,16 +3,17 @@ ghost use Rattle.std.specs.Prelude.{◌≡◌, ◌↔◌, ◌⊎◌, IfOk, IfErr
 ghost use Rattle.base_trees.specs.Rose.{Rose, label_of};
 ghost use Rattle.base_flat_trees.specs.Zips.{added};
 ghost use Rattle.simple_types.specs.declared.labels.ValueLabel.{ValueLabel};
-ghost use Rattle.asn_types.specs.Modules.{AreWellFormed, IsModule};
-ghost use Rattle.asn_types.specs.Refs.{IsOf};
+ghost use Rattle.asn_types.specs.Modules.{AreWellFormed};
 ghost use Rattle.asn_values.specs.Values.{Kept, Own, OwnAt};
 ghost use Rattle.der_fields.specs.FieldsReading.{stop_at};
 ghost use Rattle.der_fields.specs.Reading as reading;
 ghost use Rattle.der_fields.specs.Reading.{leaf_of};
 ghost use Rattle.der_decode.specs.Private.Bodies.{HasNoKids};
+ghost use Rattle.der_decode.specs.Private.Places.{IsPlace};
 
 use crate::faults::DerEnd;
-use asn_types::{Component, Form, Module, TypeLabel};
+use crate::places::{Part, Place};
+use asn_types::{Form, Module, TypeLabel};
 use asn_values::{kept, own};
 use base_flat_trees::{Builder, Flat, Node};
 use base_texts::{Memory, is_treated};
@@ -20,10 +21,9 @@ use base_trees::Tree;
 use der_fields::{Stop, Why};
 use per_fields::is_standard;
 use simple_types::{ValueLabel, has_characters};
-use std::alloc::Global;
 
-/// Whether every value of a type, which is no reference, keeps the rules of its first node. LIST stands on a SEQUENCE OF
-/// alone, USE-UNION on a CHOICE, EMBED-VALUES and USE-ORDER on a SEQUENCE.
+/// Returns whether every value of a type, which is not a reference, follows the rules of its first node. Only a SEQUENCE OF has
+/// LIST, only a CHOICE USE-UNION, and only a SEQUENCE EMBED-VALUES and USE-ORDER.
 pub(crate) fn has_no_rules(module: &Module, found: &Tree<TypeLabel>) -> bool
     requires { AreWellFormed module.now found.now }
     ensures { IsTrue result → (v : Rose ValueLabel) → OwnAt module.now (label_of found.now) found.now v }
@@ -38,7 +38,7 @@ pub(crate) fn has_no_rules(module: &Module, found: &Tree<TypeLabel>) -> bool
     }
 }
 
-/// Whether a value without kids keeps the rules of a type, which is no reference: those of texts alone.
+/// Returns whether a value without children follows the rules of a type, which is not a reference. Only texts have rules.
 pub(crate) fn leaf_keeps(module: &Module, found: &Tree<TypeLabel>, value: &ValueLabel) -> bool
     requires well_formed { AreWellFormed module.now found.now }
     requires leaf { HasNoKids (label_of found.now).form }
@@ -57,22 +57,19 @@ pub(crate) fn leaf_keeps(module: &Module, found: &Tree<TypeLabel>, value: &Value
     }
 }
 
-/// Puts a value that was read from an octet on behind others, where it keeps the rules of its node.
+/// Appends a value that was read from an octet on, if it follows the rules of its node.
 pub(crate) fn owned(
-    alloc: Global,
-    module: &Module,
-    node: &Tree<TypeLabel>,
+    place: &Place<'_>,
     value: Flat<ValueLabel>,
     begin: u64,
     values: &mut Builder<ValueLabel>,
 ) -> Result<(), DerEnd>
-    requires known { IsModule module.now }
-    requires of { IsOf module.now node.now }
+    requires place { IsPlace 65 place.now }
     ensures pushed { OnOk result (values.new ≡ added value values.old) }
-    ensures ok { OnOk result (Own module.now node.now value) }
-    ensures err { IfErr result (λ fault. (fault ≡ DerEnd.Memory) ⊎ ((fault ≡ DerEnd.Stopped (stop_at begin Why.NotAValue)) × (Own module.now node.now value → ⊥))) }
+    ensures ok { OnOk result (Own place.now.module.now place.now.node.now value) }
+    ensures err { IfErr result (λ fault. (fault ≡ DerEnd.Memory) ⊎ ((fault ≡ DerEnd.Stopped (stop_at begin Why.NotAValue)) × (Own place.now.module.now place.now.node.now value → ⊥))) }
 {
-    if own(alloc, module, node, &value.root())? {
+    if own(place.alloc, place.module, place.node, &value.root())? {
         values.append(value.into_trees())?;
         Ok(())
     } else {
@@ -83,48 +80,43 @@ pub(crate) fn owned(
     }
 }
 
-// Why a part isn't kept.
-fn unkept_why(
-    alloc: Global,
-    module: &Module,
-    part: &Component,
-    kid: &Tree<TypeLabel>,
-    value: &Node<'_, ValueLabel>,
-) -> Result<Why, Memory>
-    requires known { IsModule module.now }
-    requires of { IsOf module.now kid.now }
-    ensures { IfOk result (λ why. why ≡ reading.unkept_why module.now part.now kid.now value.now) }
+// Returns why a component may not be present with this value.
+fn unkept_why(part: &Part<'_>, value: &Node<'_, ValueLabel>) -> Result<Why, Memory>
+    requires place { IsPlace 65 part.now.place }
+    ensures { IfOk result (λ why. why ≡ reading.unkept_why part.now.place.module.now part.now.component.now part.now.place.node.now value.now) }
 {
-    if part.optional {
-        if is_standard(alloc, module, part, kid, value)? {
+    if part.component.optional {
+        let place = &part.place;
+        if is_standard(place.alloc, place.module, part.component, place.node, value)? {
             return Ok(Why::DefaultWritten);
         }
     }
     Ok(Why::NotAValue)
 }
 
-/// Puts the value of a part, which was read from an octet on, behind others, where it keeps what the part's default or
-/// fixed value says (clause 11.5).
+/// Appends the value of a component, which was read from an octet on, if the component's default or fixed value allows it (clause 11.5).
 pub(crate) fn unless_standard(
-    alloc: Global,
-    module: &Module,
-    part: &Component,
-    kid: &Tree<TypeLabel>,
+    part: &Part<'_>,
     value: Flat<ValueLabel>,
     begin: u64,
     values: &mut Builder<ValueLabel>,
 ) -> Result<(), DerEnd>
-    requires known { IsModule module.now }
-    requires of { IsOf module.now kid.now }
+    requires place { IsPlace 65 part.now.place }
     ensures pushed { OnOk result (values.new ≡ added value values.old) }
-    ensures ok { OnOk result (Kept module.now part.now kid.now value) }
-    ensures err { IfErr result (λ fault. (fault ≡ DerEnd.Memory) ⊎ ((fault ≡ DerEnd.Stopped (stop_at begin (reading.unkept_why module.now part.now kid.now value))) × (Kept module.now part.now kid.now value → ⊥))) }
+    ensures ok { OnOk result (Kept part.now.place.module.now part.now.component.now part.now.place.node.now value) }
+    ensures err { IfErr result (λ fault. (fault ≡ DerEnd.Memory) ⊎ ((fault ≡ DerEnd.Stopped (stop_at begin (reading.unkept_why part.now.place.module.now part.now.component.now part.now.place.node.now value))) × (Kept part.now.place.module.now part.now.component.now part.now.place.node.now value → ⊥))) }
 {
-    if kept(alloc, module, part, kid, &value.root())? {
+    let Place {
+        alloc,
+        module,
+        node,
+        ..
+    } = part.place;
+    if kept(alloc, module, part.component, node, &value.root())? {
         values.append(value.into_trees())?;
         Ok(())
     } else {
-        let why = unkept_why(alloc, module, part, kid, &value.root())?;
+        let why = unkept_why(part, &value.root())?;
         Err(DerEnd::Stopped(Stop { at: begin, why }))
     }
 }

@@ -9,7 +9,7 @@ ghost use Rattle.der_decode.specs.Private.Signs.{turned, turned_octet};
 use base_codecs::Spot;
 use der_fields::{Stop, Why};
 
-// Whether the first nine bits are equal, so that fewer octets would do (clause 8.3.2).
+// Returns whether the first nine bits are equal, so that fewer octets are enough (clause 8.3.2).
 fn are_nine_equal(octets: &[u8]) -> bool
     ensures { result ≡ are_nine_equal octets.now }
 {
@@ -20,14 +20,14 @@ fn are_nine_equal(octets: &[u8]) -> bool
     }
 }
 
-// An octet, each bit turned over where it is of a negative number.
+// Returns an octet, with each bit inverted if it is of a negative number.
 fn turned(octet: u8, negative: bool) -> u8
     ensures { result ≡ turned_octet negative octet }
 {
     if negative { 255 - octet } else { octet }
 }
 
-// The number that goes on from its first octet with the others, each bit turned over where it is negative.
+// Returns the number that continues from its first octet with the others, with each bit inverted if it is negative.
 fn magnitude(first: u8, others: &[u8], negative: bool) -> u128
     requires small { first < 128 }
     requires few { length others.now ≤ 15 }
@@ -41,7 +41,7 @@ fn magnitude(first: u8, others: &[u8], negative: bool) -> u128
     number
 }
 
-// The number of up to 16 octets.
+// Returns the number of up to 16 octets.
 fn signed_of(first: u8, others: &[u8]) -> i128
     requires { length others.now ≤ 15 }
     ensures same { result ≡ signed_value (first ∷ others.now) }
@@ -54,7 +54,7 @@ fn signed_of(first: u8, others: &[u8]) -> i128
     }
 }
 
-/// The number that fills what is left.
+/// Returns the number that fills all octets that remain.
 pub(crate) fn whole(octets: &[u8], spot: Spot) -> Result<i128, Stop>
     requires { spot.at ≤ length octets.now }
     ensures ok { IfOk result (λ z. whole_at octets.now spot ≡ Ok (z, end_of octets.now spot)) }

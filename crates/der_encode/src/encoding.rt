@@ -9,9 +9,9 @@ use base_texts::Memory;
 use simple_types::Value;
 use std::alloc::Global;
 
-/// The octets of a value of the type of the assignment with this number.
+/// Returns the octets of a value of the type of the assignment with this number.
 ///
-/// It goes through the value once, and the time is linear in the value and its octets.
+/// It visits the value once. The time is linear in the value and its octets.
 pub fn encode_der(alloc: Global, module: &Module, t: u32, value: &Value) -> Result<Vec<u8>, Memory>
     requires { In module.now t value.now }
     ensures { IfOk result (λ octets. octets.items ≡ distinguished module.now t value.now) }

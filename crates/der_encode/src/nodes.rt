@@ -13,8 +13,8 @@ use der_fields::{is_constructed, universal_identifier};
 use simple_types::ValueLabel;
 use std::alloc::Global;
 
-// The kids of a value, side by side: a tree tells them from the first to the last alone, and here the last is wanted first. Each node is
-// in one such list, so all of them take a time that is linear in the nodes.
+// Returns the children of a value as a list. A tree gives them only from the first to the last, and the last is needed first. Each
+// node is in one such list, so the time of all lists is linear in the nodes.
 fn kids_of<'a>(
     alloc: Global,
     value: &Node<'a, ValueLabel>,
@@ -28,7 +28,7 @@ fn kids_of<'a>(
     Ok(kids)
 }
 
-// Whether a node has no identifier of its own: a CHOICE without a tag (clause 8.13).
+// Returns whether a node has no identifier of its own: a CHOICE without a tag (clause 8.13).
 fn is_open(tag: Option<usize>, form: &Form) -> bool
     ensures { result ≡ is_open tag form.now }
 {
@@ -38,7 +38,7 @@ fn is_open(tag: Option<usize>, form: &Form) -> bool
     }
 }
 
-// The identifier of a node.
+// Writes the identifier of a node.
 fn put_identifier(back: &mut Vec<u8>, tag: Option<usize>, form: &Form) -> Result<(), Memory>
     ensures { OnOk result (back.new.items ≡ back.old.items ++ reverse (identifier tag form.now)) }
 {
@@ -51,14 +51,14 @@ fn put_identifier(back: &mut Vec<u8>, tag: Option<usize>, form: &Form) -> Result
     }
 }
 
-// TRUE has all bits set (clauses 8.2.2 and 11.1).
+// Returns the octet of a BOOLEAN. TRUE has all bits set (clauses 8.2.2 and 11.1).
 fn bool_octet(b: bool) -> u8
     ensures { result ≡ bool_octet b }
 {
     if b { 0xFF } else { 0x00 }
 }
 
-// The number of an item of an ENUMERATED.
+// Returns the number of an item of an ENUMERATED.
 fn item_number(form: &Form, i: u32) -> i128
     requires { HasItem form.now i }
     ensures { result ≡ item_number form.now i }
@@ -69,7 +69,7 @@ fn item_number(form: &Form, i: u32) -> i128
     }
 }
 
-// The components of a SEQUENCE that are present, the last first.
+// Writes the components of a SEQUENCE that are present, the last first.
 #[cycle(encoding)]
 fn put_parts(
     alloc: Global,
@@ -95,7 +95,7 @@ fn put_parts(
     Ok(())
 }
 
-// Items, the last first.
+// Writes items, the last first.
 #[cycle(encoding)]
 fn put_items(
     alloc: Global,
@@ -113,7 +113,7 @@ fn put_items(
     Ok(())
 }
 
-// The contents of a value of a type that is no reference (clauses 8.2 to 8.4, 8.9, 8.10, 8.13 and 8.23).
+// Writes the contents of a value of a type that is not a reference (clauses 8.2 to 8.4, 8.9, 8.10, 8.13 and 8.23).
 #[cycle(encoding)]
 fn put_contents(
     alloc: Global,
@@ -150,7 +150,7 @@ fn put_contents(
     }
 }
 
-/// The octets of a value of the type, or of that to which it refers, with this tag or without one.
+/// Writes the octets of a value of the type, or of the type that its references reach, with this tag or without one.
 #[cycle(encoding)]
 pub(crate) fn put_node(
     alloc: Global,

@@ -5,14 +5,15 @@ ghost use Rattle.der_encode.specs.Private.Turned.{turned, turned_octet};
 
 use base_texts::Memory;
 
-// An octet with each bit turned over, or as it is.
+// Returns an octet with each bit inverted, or unchanged.
 fn turn(octet: u8, negative: bool) -> u8
     ensures { result ≡ turned_octet negative octet }
 {
     if negative { 255 - octet } else { octet }
 }
 
-// The least octets of a number, of which the first is below the top; each bit turned over where they stand for a negative one.
+// Writes the least octets of a number, the first of which is below the top. Each bit is inverted if they represent a negative
+// number.
 fn put_least(back: &mut Vec<u8>, top: u128, number: u128, negative: bool) -> Result<(), Memory>
     requires some { 0 < top }
     requires small { top ≤ 256 }
@@ -27,7 +28,7 @@ fn put_least(back: &mut Vec<u8>, top: u128, number: u128, negative: bool) -> Res
     Ok(())
 }
 
-/// A length (X.690, clauses 8.1.3 and 10.1).
+/// Writes a length (X.690, clauses 8.1.3 and 10.1).
 pub(crate) fn put_length(back: &mut Vec<u8>, length: usize) -> Result<(), Memory>
     ensures { OnOk result (back.new.items ≡ back.old.items ++ reverse (length_octets length)) }
 {
@@ -42,7 +43,7 @@ pub(crate) fn put_length(back: &mut Vec<u8>, length: usize) -> Result<(), Memory
     Ok(())
 }
 
-/// A whole number in two's complement (clause 8.3).
+/// Writes a whole number in two's complement (clause 8.3).
 pub(crate) fn put_signed(back: &mut Vec<u8>, number: i128) -> Result<(), Memory>
     ensures { OnOk result (back.new.items ≡ back.old.items ++ reverse (signed_octets number)) }
 {
@@ -53,7 +54,7 @@ pub(crate) fn put_signed(back: &mut Vec<u8>, number: i128) -> Result<(), Memory>
     }
 }
 
-/// The context-specific tag of a component or alternative (clause 8.1.2).
+/// Writes the context-specific tag of a component or alternative (clause 8.1.2).
 pub(crate) fn put_context(
     back: &mut Vec<u8>,
     constructed: bool,
@@ -76,7 +77,7 @@ pub(crate) fn put_context(
     Ok(())
 }
 
-/// The octets of a text.
+/// Writes the octets of a text.
 pub(crate) fn put_text(back: &mut Vec<u8>, text: &[u8]) -> Result<(), Memory>
     ensures { OnOk result (back.new.items ≡ back.old.items ++ reverse text.now) }
 {

@@ -1,4 +1,5 @@
--- The octets of a value (X.690, the distinguished encoding rules), a recursion on the value over any module, its references resolved.
+-- The octets of a value (X.690, the distinguished encoding rules). They are a recursion on the value over any module, with its
+-- references resolved.
 use Rattle.std.specs.Prelude.{ℕ, ℤ, pos, ◌+◌, Bool, true, false, Option, Some, None, List, [], ◌∷◌, ◌++◌, length, slice_get, replicate, if◌then◌else◌}
 use Rattle.base_trees.specs.Rose.{Rose, node, Roses, none, more, label_of, length_all}
 use Rattle.simple_types.specs.declared.labels.ValueLabel.{ValueLabel}
@@ -11,8 +12,8 @@ use Rattle.asn_types.specs.Refs.{resolve}
 use Rattle.asn_values.specs.Values.{ComponentPlace, places}
 use Rattle.der_fields.specs.Octets.{length_octets, signed_octets, context_identifier}
 
--- TAGS are automatic: a component of a SEQUENCE and an alternative of a CHOICE has its number, from 0 on, for a context-specific tag
--- (X.680, clauses 25 and 29). An item of a SEQUENCE OF has none of its own, nor has the root.
+-- TAGS are automatic. A component of a SEQUENCE and an alternative of a CHOICE have their numbers, from 0 on, as context-specific
+-- tags (X.680, clauses 25 and 29). An item of a SEQUENCE OF has no tag of its own, nor has the root.
 pub record TaggedPlace : Type 0 where
   pub tag : Option ℕ
   pub place : ComponentPlace
@@ -20,13 +21,13 @@ pub record TaggedPlace : Type 0 where
 abbrev pub tagged_place : Option ℕ → ComponentPlace → TaggedPlace
 tagged_place tag place = record { tag = tag; place = place }
 
--- the numbers of the flags that are set, from the one with number i on
+-- The numbers of the flags that are set, from the one with number i on.
 abbrev pub tags_from : ℕ → List Bool → List (Option ℕ)
 tags_from i [] = []
 tags_from i (true ∷ flags) = Some i ∷ tags_from (i + 1) flags
 tags_from i (false ∷ flags) = tags_from (i + 1) flags
 
--- the tags of the kids of a value with this label, of which there are so many
+-- The tags of the n children of a value with this label.
 abbrev pub tags_of : ValueLabel → ℕ → List (Option ℕ)
 tags_of (value.Sequence present) n = tags_from 0 present
 tags_of (value.Choice i) n = Some i ∷ []
@@ -36,8 +37,8 @@ abbrev pub tagged : List (Option ℕ) → List ComponentPlace → List TaggedPla
 tagged (tag ∷ tags) (p ∷ ps) = tagged_place tag p ∷ tagged tags ps
 tagged _ _ = []
 
--- IDENTIFIERS (clause 8.1.2). That of a type: BOOLEAN, INTEGER, ENUMERATED and UTF8String are primitive, SEQUENCE and SEQUENCE OF
--- constructed. A CHOICE has none but that of its alternative (clause 8.13).
+-- IDENTIFIERS (clause 8.1.2). The identifier of a type: BOOLEAN, INTEGER, ENUMERATED and UTF8String are primitive, SEQUENCE and
+-- SEQUENCE OF constructed. A CHOICE has only that of its alternative (clause 8.13).
 abbrev pub universal_identifier : Form → List ℕ
 universal_identifier form.Bool = 0x01 ∷ []
 universal_identifier (form.Int least greatest) = 0x02 ∷ []
@@ -53,13 +54,13 @@ is_constructed (form.Choice parts) = true
 is_constructed (form.SequenceOf part least most) = true
 is_constructed _ = false
 
--- A tag takes the place of the type's own identifier; but that of a CHOICE is explicit, and stands before the whole of it (X.680,
--- clause 31.2.7; clauses 8.14.2 and 8.14.3). So it is constructed wherever its type or the CHOICE is.
+-- A tag replaces the type's own identifier. But the tag of a CHOICE is explicit, and precedes its complete encoding (X.680, clause
+-- 31.2.7; clauses 8.14.2 and 8.14.3). So a tag is constructed if its type is, and so is that of a CHOICE.
 abbrev pub identifier : Option ℕ → Form → List ℕ
 identifier None f = universal_identifier f
 identifier (Some i) f = context_identifier (is_constructed f) i
 
--- a CHOICE without a tag has no octets but those of its alternative
+-- A CHOICE without a tag has only the octets of its alternative.
 abbrev pub is_open : Option ℕ → Form → Bool
 is_open None (form.Choice parts) = true
 is_open _ _ = false
@@ -69,7 +70,7 @@ abbrev pub bool_octet : Bool → ℕ
 bool_octet true = 0xFF
 bool_octet false = 0x00
 
--- the number of the item with this place: items of words, and those of an order, are numbered from 0 on (X.680, clause 20)
+-- The number of the item with this place. Items of words, and those of an order, are numbered from 0 on (X.680, clause 20).
 abbrev pub number_in : Option ℤ → ℤ
 number_in None = pos 0
 number_in (Some z) = z
@@ -78,7 +79,7 @@ abbrev pub item_number : Form → ℕ → ℤ
 item_number (form.Numbers numbers) i = number_in (slice_get numbers i)
 item_number _ i = pos i
 
--- of a node of this form, with the octets of its kids (clauses 8.2 to 8.4, 8.9, 8.10, 8.13 and 8.23)
+-- The contents of a node of this form, with the octets of its children (clauses 8.2 to 8.4, 8.9, 8.10, 8.13 and 8.23).
 abbrev pub contents : Form → ValueLabel → List ℕ → List ℕ
 contents f (value.Bool b) kids = bool_octet b ∷ []
 contents f (value.Int z) kids = signed_octets z
@@ -86,14 +87,15 @@ contents f (value.Enum i) kids = signed_octets (item_number f i)
 contents f (value.Utf8 text) kids = text
 contents f _ kids = kids
 
--- identifier, length and contents (clause 8.1.1)
+-- Identifier, length and contents (clause 8.1.1).
 abbrev pub headed : List ℕ → List ℕ → List ℕ
 headed head octets = head ++ (length_octets (length octets) ++ octets)
 
 abbrev pub wrapped : Option ℕ → Form → List ℕ → List ℕ
 wrapped tag f octets = if is_open tag f then octets else headed (identifier tag f) octets
 
--- Absent components have no octets, nor have those that have their default value, since no value has them (clauses 8.9.3 and 11.5).
+-- Absent components have no octets. Nor have components with their default value, because no value has them (clauses 8.9.3 and
+-- 11.5).
 module _ (M : List Assignment) where
   unfoldable mutual
     pub der : Option ℕ → Rose TypeLabel → Rose ValueLabel → List ℕ
@@ -105,6 +107,6 @@ module _ (M : List Assignment) where
     each_der ps none = []
     each_der ps (more v vs) = elim ps [ [] ↦ [] | p ∷ others ↦ der p.tag p.place.type v ++ each_der others vs ]
 
--- of a value of the type of assignment t
+-- The octets of a value of the type of assignment t.
 abbrev pub distinguished : List Assignment → ℕ → Rose ValueLabel → List ℕ
 distinguished M t v = elim (slice_get M t) [ None ↦ [] | Some a ↦ der M None a.body v ]

@@ -1,4 +1,5 @@
--- Reading identifiers, lengths and contents (X.690), up to the first fault. An identifier isn't read, but compared with those expected.
+-- Reading identifiers, lengths and contents (X.690), up to the first fault. An identifier isn't read, but compared with the
+-- expected ones.
 use Rattle.std.specs.Prelude.{ℕ, ◌-◌, ◌<◌, not, List, [], ◌∷◌, length, drop, Ok, nat_lt, if◌then◌else◌}
 use Rattle.base_codecs.specs.Reading.{◌>>=◌, Reader, moved, stop_if, with_spot, window_at, left_at}
 use Rattle.base_codecs.specs.Sequences.{AllFit}
@@ -16,16 +17,16 @@ AreOctets xs = AllFit (λ x. x < 256) xs
 abbrev pub Octets : Type 0 → Type 0
 Octets A = Reader ℕ Stop A
 
--- the next n octets, of a field that begins at an octet
+-- The next n octets, of a field that begins at an octet.
 unfoldable pub raw_at : ℕ → ℕ → Octets (List ℕ)
 raw_at begin n X s = window_at (stop_at begin Short) n left_at X s
 
--- the one number that octets stand for
+-- The number that octets represent.
 abbrev pub number_of : List ℕ → ℕ
 number_of [] = 0
 number_of (x ∷ xs) = value_from x xs
 
--- A LENGTH, behind its first octet: that is the length, or tells how many octets have it (clauses 8.1.3.4 and 8.1.3.5)
+-- A LENGTH, after its first octet. That octet is the length, or states how many octets have it (clauses 8.1.3.4 and 8.1.3.5).
 unfoldable pub length_from : ℕ → ℕ → Octets ℕ
 length_from begin x X s =
     if nat_lt x 128 then Ok (x, s)
@@ -34,14 +35,14 @@ length_from begin x X s =
 unfoldable pub length_at : Octets ℕ
 length_at X s = raw_at s.at 1 X s >>= λ x. length_from s.at (number_of x.0) X x.1
 
--- a length, and contents that fill it (clause 8.1.1)
+-- A length, and contents that fill it (clause 8.1.1).
 unfoldable pub sized_at : {A : Type 0} → Octets A → Octets A
 sized_at contents X s = length_at X s >>= λ n. window_at (stop_at s.at Short) n.0 contents X n.1
 
--- what stands behind these octets
+-- What follows these octets.
 unfoldable pub tagged_at : {A : Type 0} → List ℕ → Octets A → Octets A
 tagged_at head read X s = stop_if (not (begins head (drop s.at X))) (stop_at s.at Tag) (read X (moved s (length head) 0))
 
--- what begins with these octets
+-- What begins with these octets.
 unfoldable pub expected_at : {A : Type 0} → List ℕ → Octets A → Octets A
 expected_at head read X s = stop_if (not (begins head (drop s.at X))) (stop_at s.at Tag) (read X s)

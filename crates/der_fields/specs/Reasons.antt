@@ -3,7 +3,7 @@ use Rattle.std.specs.Prelude.{ℕ, List, codes}
 use Rattle.der_fields.specs.declared.stops.Why.{Why}
 use Rattle.der_fields.specs.declared.stops.Why.TheVariants as der
 
--- the name of a reason against octets
+-- The name of a reason for rejecting octets.
 abbrev pub der_reason : Why → List ℕ
 der_reason der.Short = codes "Short"
 der_reason der.Missing = codes "Missing"

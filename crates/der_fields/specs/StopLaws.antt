@@ -1,4 +1,5 @@
--- The first stop is what reading gives, so that of all octets exactly one holds: they begin with those of a value, or have one.
+-- The first stop is the one that reading gives. So exactly one holds of all octets: they begin with those of a value, or have a
+-- first stop.
 use Rattle.std.specs.Prelude.{◌≡◌, ℕ, ◌⊎◌, List}
 use Rattle.base_trees.specs.Rose.{Rose}
 use Rattle.simple_types.specs.declared.labels.ValueLabel.{ValueLabel}
@@ -7,11 +8,11 @@ use Rattle.der_fields.specs.declared.stops.Stop.{Stop}
 use Rattle.der_fields.specs.Laws.{Begins, Stops, ForAll}
 use Rattle.der_fields.specs.Stopping.{DerStop}
 
--- reading stops where octets stop first, and there alone
+-- Reading stops exactly where octets stop first.
 abbrev pub StopsAsRead : Type 0
 StopsAsRead = ForAll (λ M t X. (stop : Stop) → (Stops M t X stop → DerStop M t X stop) × (DerStop M t X stop → Stops M t X stop))
 
--- they begin with those of a value, or stop; of one value and one prefix, at one place for one reason; and never both
+-- Octets begin with those of one value, which are one prefix, or they stop at one place for one reason. They never do both.
 pub record IsOneOfTwo (M : List Assignment) (t : ℕ) (X : List ℕ) : Type 0 where
   pub either : ((v : Rose ValueLabel) × Begins M t X v) ⊎ ((stop : Stop) × DerStop M t X stop)
   pub not_both : (v : Rose ValueLabel) (stop : Stop) → Begins M t X v → DerStop M t X stop → ⊥

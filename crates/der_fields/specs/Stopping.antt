@@ -1,6 +1,6 @@
--- Where octets stop first, and why (X.690): nodes are taken in the order of their first octets, and at each node its identifier, whether
--- one more may stand, its length, its contents, and its rule. What stands before the fault is said by the octets of values. The list
--- ends where the contents do that stand round a node.
+-- Where octets stop first, and why (X.690). Nodes are read in the order of their first octets. The order at each node is its
+-- identifier, whether one node more is allowed, its length, its contents, and its rule. What precedes the fault is stated by the
+-- octets of values. The list ends where the contents around a node end.
 use Rattle.std.specs.Prelude.{◌≡◌, ℕ, zero, suc, ◌+◌, ◌<◌, ◌≤◌, ◌⊎◌, true, false, Option, Some, None, List, [], length, take, drop, slice_get, IsUtf8}
 use Rattle.base_trees.specs.Rose.{Rose, node, label_of, kids_of, node_count, length_all}
 use Rattle.simple_types.specs.declared.labels.ValueLabel.{ValueLabel}
@@ -30,29 +30,29 @@ use Rattle.der_fields.specs.Encoding.{TaggedPlace, tagged_place, identifier, is_
 use Rattle.der_fields.specs.Reading.{unexpected, is_optional, starts, parts_from, is_size, start}
 use Rattle.der_fields.specs.Faults.{LengthFault, BooleanFault, IntegerFault, EnumeratedFault}
 
--- a text whose octets are not UTF-8
+-- The octets of the text are not UTF-8.
 abbrev pub IsNoText : ValueLabel → Type 0
 IsNoText (value.Utf8 text) = IsUtf8 text → ⊥
 IsNoText _ = ⊥
 
--- A node would be the 65th of the elements that stand in one another, or one too many. So many elements stand in one another down to
--- the node, itself among them.
+-- The node would be the 65th nested element, or one node too many. `depth` elements are nested down to the node, including itself.
 abbrev pub EntryStops : ℕ → Spot → Stop → Type 0
 EntryStops depth s stop = ((most_deep < depth) × (stop ≡ stop_at s.at TooDeep)) ⊎ ((depth ≤ most_deep) × (most_nodes ≤ s.nodes) × (stop ≡ stop_at s.at TooMany))
 
--- neither
+-- The node is neither too deep nor one too many.
 abbrev pub Enters : ℕ → Spot → Type 0
 Enters depth s = (depth ≤ most_deep) × (s.nodes < most_nodes)
 
--- the spelling of a default or fixed value
+-- The spelling of a default or fixed value.
 abbrev pub part_text : Component → Option (List ℕ)
 part_text part = elim part.standard [ Free ↦ None | Default text ↦ Some text | Fixed text ↦ Some text ]
 
--- the octets that are left have a fault, which is told where they begin
+-- The octets that remain have a fault, which is reported where they begin.
 abbrev pub LeftStops : List ℕ → (List ℕ → Why → Type 0) → Spot → Stop → Type 0
 LeftStops X Fault s stop = (why : Why) × Fault (drop s.at X) why × (stop ≡ stop_at s.at why)
 
--- A length stops; or the contents behind it aren't all there, which is told at the length; or they stop, and end with the length.
+-- A length stops. Or the contents after it aren't all there, which is reported at the length. Or they stop, and end with the
+-- length.
 abbrev pub SizedStops : (List ℕ → Spot → Stop → Type 0) → List ℕ → Spot → Stop → Type 0
 SizedStops Contents X s stop =
     LeftStops X LengthFault s stop
@@ -60,11 +60,11 @@ SizedStops Contents X s stop =
     × (((length X < r.at + n) × (stop ≡ stop_at s.at Short)) ⊎ ((r.at + n ≤ length X) × Contents (take (r.at + n) X) r stop)))
 
 module _ (M : List Assignment) where
-  -- the octets of a value of the type stand from one spot to another, and its nodes are not too many
+  -- The octets of a value of the type are between two spots, and its nodes are not too many.
   abbrev pub ValueStands : ℕ → Option ℕ → Rose TypeLabel → List ℕ → Spot → Rose ValueLabel → Spot → Type 0
   ValueStands depth tag t X s v r = FitsAt M depth t v × Came X s r (der M tag t v) (node_count v)
 
-  -- those of a value of a part, which keeps what its default or fixed value says
+  -- The value fits the part, whose default or fixed value allows it.
   abbrev pub FitsPart : ℕ → TaggedPlace → Rose ValueLabel → Type 0
   FitsPart depth p v = FitsAt M (below p.place.role depth) p.place.type v × Kept M p.place.part p.place.type v
 
@@ -75,31 +75,32 @@ module _ (M : List Assignment) where
   abbrev pub IsDefault : ComponentPlace → Rose ValueLabel → Type 0
   IsDefault p v = (part_text p.part ≡ Some (spelling M p.type v)) × (p.part.optional ≡ true)
 
-  -- The value of a part stands there, but isn't kept: it is told at the part's first octet (clause 11.5).
+  -- The octets of a value of a part are here, but its default or fixed value excludes that value. The fault is reported at the
+  -- part's first octet (clause 11.5).
   abbrev pub StandardStops : ℕ → TaggedPlace → List ℕ → Spot → Stop → Type 0
   StandardStops depth p X s stop =
       (v : Rose ValueLabel) × (r : Spot) × ValueStands (below p.place.role depth) p.tag p.place.type X s v r × (Kept M p.place.part p.place.type v → ⊥)
       × ((IsDefault p.place v × (stop ≡ stop_at s.at DefaultWritten)) ⊎ ((IsDefault p.place v → ⊥) × (stop ≡ stop_at s.at NotAValue)))
 
   module _ (depth : ℕ) (KidStops : TaggedPlace → List ℕ → Spot → Stop → Type 0) where
-    -- a part stops, or isn't kept
+    -- A part stops, or has an excluded value.
     abbrev pub PartStops : List ℕ → TaggedPlace → Spot → Stop → Type 0
     PartStops X p s stop = KidStops p X s stop ⊎ StandardStops depth p X s stop
 
     abbrev pub SequenceStops : TypeLabel → List (Rose TypeLabel) → List Component → List ℕ → Spot → Stop → Type 0
     SequenceStops l ts parts X s stop = PartsStop (starts M) is_optional unexpected (FitsPart depth) node_count part_octets X (PartStops X) (parts_from l 0 parts ts) s stop
 
-    -- an alternative stops, by how it does where it may stand here
+    -- The alternative of a CHOICE stops. `Alternative` states how one stops that is here.
     abbrev pub ChoiceStops : (TaggedPlace → Spot → Stop → Type 0) → TypeLabel → List (Rose TypeLabel) → List Component → List ℕ → Spot → Stop → Type 0
     ChoiceStops Alternative l ts parts X s stop = AlternativeStops (starts M) is_optional unexpected (FitsPart depth) node_count part_octets X Alternative (parts_from l 0 parts ts) s stop
 
-    -- behind the CHOICE of an explicit tag, of which this alternative with this value stands, something stands
+    -- After the CHOICE of an explicit tag, which has this alternative and this value, there are more octets.
     abbrev pub MoreStands : TypeLabel → List (Rose TypeLabel) → List Component → List ℕ → Spot → Stop → Type 0
     MoreStands l ts parts X s stop =
         (i : ℕ) × (v : Rose ValueLabel) × (r : Spot) × AlternativeFits (FitsPart depth) (parts_from l 0 parts ts) i v
         × Came X s r (alternative_write part_octets (parts_from l 0 parts ts) i v s.at) (node_count v) × (r.at < length X) × (stop ≡ stop_at r.at Tag)
 
-    -- an item stops, those before it standing before it; or their count is outside its bounds, which is told at the node
+    -- An item stops, after the items before. Or their number is outside its bounds, which is reported at the node.
     abbrev pub ManyStop : ℕ → ℕ → Option ℕ → Option ComponentPlace → List ℕ → Spot → Stop → Type 0
     ManyStop begin least most None X s stop = ⊥
     ManyStop begin least most (Some p) X s stop =
@@ -108,7 +109,7 @@ module _ (M : List Assignment) where
         × Came X s r (all_write (part_octets (tagged_place None p)) vs s.at) (all_weight node_count vs) × (drop r.at X ≡ [])
         × (is_size least most (length vs) ≡ false) × (stop ≡ stop_at begin Range))
 
-    -- the contents of a node of a type with this label, kids and form stop, which fill the list from here on
+    -- The contents of a node stop, which fill the list from here on. Its type has this label, these children and this form.
     abbrev pub ContentStops : ℕ → TypeLabel → List (Rose TypeLabel) → Form → List ℕ → Spot → Stop → Type 0
     ContentStops begin l ts form.Bool X s stop = LeftStops X BooleanFault s stop
     ContentStops begin l ts (form.Int least greatest) X s stop = LeftStops X (IntegerFault least greatest) s stop
@@ -121,7 +122,8 @@ module _ (M : List Assignment) where
     ContentStops begin l ts (form.SequenceOf part least most) X s stop = ManyStop begin least most (place_at l 0 (Some part) (slice_get ts 0)) X s stop
     ContentStops begin l ts (form.Ref to) X s stop = ⊥
 
-    -- Before its rule a node stops. A CHOICE without a tag has the identifier of an alternative, and is entered before it.
+    -- A node stops before its rule. A CHOICE without a tag has the identifier of an alternative, and is entered before the
+    -- alternative.
     abbrev pub HeadedStops : Option ℕ → TypeLabel → List (Rose TypeLabel) → List ℕ → Spot → Stop → Type 0
     HeadedStops tag l ts X s stop =
         elim (is_open tag l.form) [
@@ -132,27 +134,27 @@ module _ (M : List Assignment) where
               × (EntryStops depth s stop ⊎ (Enters depth s × SizedStops (ContentStops s.at l ts l.form) X (moved s (length (identifier tag l.form)) 1) stop)))
         ]
 
-  -- all parts of a node fit, and its number, index or size is within bounds
+  -- All parts of a node fit, and its number, index or size is within bounds.
   abbrev pub ContentFits : ℕ → Rose TypeLabel → Rose ValueLabel → Type 0
   ContentFits depth t (node l vs) = elim (places (resolve M t) l (length_all vs)) [ None ↦ ⊥ | Some ps ↦ FitEach M depth ps vs ]
 
-  -- All contents of a node were read, but its first node breaks a rule: it is told from its first octet.
+  -- All contents of a node were read, but its first node breaks a rule. The fault is reported at its first octet.
   abbrev pub RuleStops : ℕ → Option ℕ → Rose TypeLabel → List ℕ → Spot → Stop → Type 0
   RuleStops depth tag t X s stop =
       (v : Rose ValueLabel) × (r : Spot) × (depth ≤ most_deep) × ContentFits depth t v × Came X s r (der M tag t v) (node_count v)
       × ((IsNoText (label_of v) × (stop ≡ stop_at s.at NotUtf8)) ⊎ ((IsNoText (label_of v) → ⊥) × (Own M t v → ⊥) × (stop ≡ stop_at s.at NotAValue)))
 
-  -- A node stops. No more than so many nodes stand in one another from it down to the node that stops.
+  -- A node stops. At most `levels` nodes are nested from it down to the node that stops.
   unfoldable pub NodeStops : ℕ → ℕ → Option ℕ → Rose TypeLabel → List ℕ → Spot → Stop → Type 0
   NodeStops zero depth tag t X s stop = ⊥
   NodeStops (suc levels) depth tag t X s stop =
       HeadedStops depth (λ p. NodeStops levels (below p.place.role depth) p.tag p.place.type) tag (label_of (resolve M t)) (kids_of (resolve M t)) X s stop
       ⊎ RuleStops depth tag t X s stop
 
-  -- the root stops, or isn't there
+  -- The root stops, or is missing.
   abbrev pub RootStops : Rose TypeLabel → List ℕ → Stop → Type 0
   RootStops t X stop = ((X ≡ []) × (stop ≡ stop_at 0 Short)) ⊎ ((0 < length X) × ((levels : ℕ) × NodeStops levels 1 None t X start stop))
 
--- octets stop first, read as those of a value of the type of assignment t
+-- Octets stop first, read as those of a value of the type of assignment t.
 abbrev pub DerStop : List Assignment → ℕ → List ℕ → Stop → Type 0
 DerStop M t X stop = elim (slice_get M t) [ None ↦ ⊥ | Some a ↦ RootStops M a.body X stop ]

@@ -1,10 +1,10 @@
-//! What the identifier of a type says of its form.
+//! What the identifier of a type states of its form.
 ghost use Rattle.std.specs.Prelude.{◌≡◌, ◌∷◌, []};
 ghost use Rattle.der_fields.specs.Encoding as encoding;
 
 use asn_types::Form;
 
-/// Whether encodings of a type of this form have others in them (X.690, clause 8.1.2.5).
+/// Returns whether encodings of a type of this form contain others (X.690, clause 8.1.2.5).
 pub fn is_constructed(form: &Form) -> bool
     ensures { result ≡ encoding.is_constructed form.now }
 {
@@ -14,7 +14,7 @@ pub fn is_constructed(form: &Form) -> bool
     )
 }
 
-/// The identifier of a type of this form (clause 8.1.2.2), which is one octet.
+/// Returns the identifier of a type of this form (clause 8.1.2.2), which is one octet.
 pub fn universal_identifier(form: &Form) -> u8
     ensures { encoding.universal_identifier form.now ≡ result ∷ [] }
 {

@@ -13,7 +13,7 @@ pub enum Why {
     Missing,
     /// No node that may follow has this identifier.
     Tag,
-    /// An element would be the 65th of those that stand in one another.
+    /// An element would be the 65th nested one.
     TooDeep,
     /// A node would be the 1,048,577th.
     TooMany,
@@ -29,7 +29,7 @@ pub enum Why {
     NotUtf8,
     /// A part that may be absent was read and has its default or fixed value, which is not written (clause 11.5).
     DefaultWritten,
-    /// A node was read, but no value of its type has it: a text, a list, a union, the texts between child elements or their order
+    /// A node was read, but no value of its type has it. A text, a list, a union, the texts between child elements or their order
     /// break a rule, or a part doesn't have its fixed value.
     NotAValue,
 }

@@ -12,9 +12,8 @@ ghost use Rattle.link_schemas.specs.Sets.{AreNumbered};
 ghost use Rattle.map_laws.specs.Widths.{HasWidths};
 ghost use Rattle.link_exists.specs.Reading.{AreRead};
 
-/// States that, if no pass finds a fault, each simple type of the documents is made. If in addition the files are numbered from
-/// 1, in their order, then for these spaces there is a set of the documents that is linked and within the widths of the code's
-/// types.
+/// States that, if no pass finds a fault, each simple type of the documents is made. Let the files in addition be numbered from 1,
+/// in their order. Then for these spaces there is a set of the documents that is linked and within the widths of the code's types.
 pub fn sets_of_documents()
     ensures made { (docs : List Document) → AreRead docs → ArePassed docs passes → (spaces : List Space) × IsMaking (simple_types docs) (map Some spaces) }
     ensures linked { (docs : List Document) → AreRead docs → ArePassed docs passes → AreNumbered docs → (spaces : List Space) → IsMaking (simple_types docs) (map Some spaces)

@@ -24,8 +24,8 @@ assignment_marks (subject.Nillable n) name reference = []
 
 -- Assignments have these numbers.
 module _ (place : Subject → ℕ) where
-  -- The name from which a reference is made, after these references of the assignments before: a component's local name, or for
-  -- the type of nillable elements the reference of their complex type.
+  -- The name from which a reference is made. It is a component's local name. For the type of nillable elements it is the reference
+  -- of their complex type, one of these references of the assignments before, with `-nillable` after it.
   abbrev pub wanted_reference : List (List ℕ) → Subject → Name → List ℕ
   wanted_reference before (subject.Nillable n) name = unwrap_or (slice_get before (place (subject.Complex n))) [] ++ codes "-nillable"
   wanted_reference before _ name = reference_of name.local

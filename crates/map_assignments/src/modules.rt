@@ -30,8 +30,8 @@ pub fn map_set(alloc: Global, set: &SchemaSet) -> Result<Module, Memory>
 
 /// Returns the number of the assignment of a global element in the map of the set, from 0.
 ///
-/// It allocates nothing. The time is that of a pass over the set, and of one more over its elements for each complex type with a
-/// name in a namespace that precedes the element's.
+/// It allocates nothing. It makes one pass over the set. It makes one more pass over the elements for each complex type with a name
+/// in a namespace that precedes the element's.
 pub fn root_type(set: &SchemaSet, element: u32) -> u32
     requires { element < set.now.globals }
     ensures number { (entries : List NamedSubject) → AreEntries set.now entries → result ≡ place_in entries (Element element) }

@@ -1,4 +1,4 @@
-//! The order of child elements that may stand in any order (X.693, USE-ORDER).
+//! The order of child elements that may appear in any order (X.693, USE-ORDER).
 ghost use Rattle.std.specs.Prelude.{◌≡◌, ◌∷◌, ◌++◌, [], ℕ, IfOk, OnOk, List, false, map, if◌then◌else◌};
 ghost use Rattle.base_trees.specs.Rose.{roses_of};
 ghost use Rattle.content_models.specs.Seen.{all_seen};
@@ -21,7 +21,7 @@ use schema_components::AttributeUse;
 use simple_types::TextList;
 use std::alloc::Global;
 
-// Takes an identifier made from this name.
+// Adds an identifier made from this name to the scope.
 fn take(scope: &mut Scope, name: &Text) -> Result<(), Memory>
     ensures { OnOk result ((rest names : List (List ℕ)) → LeadsToScope scope.old (name.now ∷ rest) names → LeadsToScope scope.new rest names) }
 {
@@ -36,7 +36,7 @@ fn take_word(alloc: Global, scope: &mut Scope, word: &str) -> Result<(), Memory>
     take(scope, &name)
 }
 
-// Takes the identifier of the texts, if there are any.
+// Adds the identifier of the texts, if there are any.
 fn take_texts(alloc: Global, scope: &mut Scope, mixed: bool) -> Result<(), Memory>
     ensures { OnOk result ((rest names : List (List ℕ))
         → LeadsToScope scope.old (map wanted (if mixed then plan.texts ∷ [] else []) ++ rest) names → LeadsToScope scope.new rest names) }
@@ -48,7 +48,7 @@ fn take_texts(alloc: Global, scope: &mut Scope, mixed: bool) -> Result<(), Memor
     }
 }
 
-// Takes the identifiers of attributes.
+// Adds the identifiers of attributes.
 fn take_attributes(alloc: Global, scope: &mut Scope, uses: &[AttributeUse]) -> Result<(), Memory>
     ensures { OnOk result ((names : List (List ℕ))
         → LeadsToScope scope.old (map wanted (map (λ u. attribute u.name u.standard) uses.now)) names → LeadsToScope scope.new [] names) }
@@ -60,7 +60,7 @@ fn take_attributes(alloc: Global, scope: &mut Scope, uses: &[AttributeUse]) -> R
     Ok(())
 }
 
-// Takes the identifiers of the parts before those of the elements.
+// Adds the identifiers of the parts before those of the elements.
 fn take_before(
     alloc: Global,
     scope: &mut Scope,
@@ -75,7 +75,8 @@ fn take_before(
     take_attributes(alloc, scope, uses)
 }
 
-// The identifiers of the parts before those of the elements: none in a content of its own.
+// Returns a scope with the identifiers of the parts before those of the elements. It is empty if the elements are alone in the
+// content of a nillable element.
 fn scope_before(
     alloc: Global,
     nillable: bool,
@@ -92,7 +93,7 @@ fn scope_before(
     Ok(scope)
 }
 
-// Takes the identifiers of the parts for particles of a group, behind those that are made.
+// Adds the identifiers of the parts for particles of a group, after those already made.
 fn take_elements(
     alloc: Global,
     scope: &mut Scope,
@@ -111,7 +112,7 @@ fn take_elements(
     Ok(())
 }
 
-// The identifiers of the parts for particles of a group.
+// Returns the identifiers of the parts for particles of a group.
 fn element_names(
     alloc: Global,
     scope: Scope,
@@ -125,7 +126,7 @@ fn element_names(
     Ok(made)
 }
 
-// The type of the order of elements whose parts have these identifiers.
+// Returns the type of the order of elements whose parts have these identifiers.
 fn order_tree(alloc: Global, identifiers: Vec<Text>) -> Result<Tree<TypeLabel>, Memory>
     ensures { IfOk result (λ made. made ≡ order_tree identifiers.items) }
 {
@@ -134,7 +135,7 @@ fn order_tree(alloc: Global, identifiers: Vec<Text>) -> Result<Tree<TypeLabel>, 
     items_type(alloc, item, 0, None, Marks::of(Vec::new(alloc)))
 }
 
-/// The type of the order of child elements, whose parts are those of these particles.
+/// Returns the type of the order of child elements, whose parts are those of these particles.
 pub(crate) fn order_type(
     alloc: Global,
     nillable: bool,

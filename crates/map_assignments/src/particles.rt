@@ -24,7 +24,7 @@ use content_models::{ParticleKind, ParticleLabel};
 use simple_types::{Class, Standard};
 use std::alloc::Global;
 
-// Whether a particle stands once.
+// Returns whether a particle occurs exactly once.
 fn is_once(min: u32, max: Option<u32>) -> bool
     ensures { result ≡ is_once min max }
 {
@@ -34,7 +34,7 @@ fn is_once(min: u32, max: Option<u32>) -> bool
     }
 }
 
-/// Whether the particles of a group stand for themselves where it is the top one: a sequence that stands once, or an all.
+/// Returns whether the particles of a top group are parts of the type itself: those of a sequence that occurs once, or of an all.
 pub(crate) fn stands_as_parts(label: &ParticleLabel) -> bool
     ensures { result ≡ stands_as_parts label.now.kind label.now.min label.now.max }
 {
@@ -45,7 +45,7 @@ pub(crate) fn stands_as_parts(label: &ParticleLabel) -> bool
     }
 }
 
-// Whether it stands at most once.
+// Returns whether a particle is optional: its bounds are 0 and 1.
 fn is_optional(min: u32, max: Option<u32>) -> bool
     ensures { result ≡ is_optional min max }
 {
@@ -55,14 +55,14 @@ fn is_optional(min: u32, max: Option<u32>) -> bool
     }
 }
 
-// Whether its part is OPTIONAL.
+// Returns whether the part of a particle is OPTIONAL.
 fn is_optional_part(in_choice: bool, min: u32, max: Option<u32>) -> bool
     ensures { result ≡ (is_optional min max && not in_choice) }
 {
     is_optional(min, max) && !in_choice
 }
 
-// What the identifier of one occurrence is made from.
+// Returns the word from which the identifier of one occurrence is made.
 fn name_of(alloc: Global, kind: &ParticleKind) -> Result<Text, Memory>
     ensures { IfOk result (λ made. (ps : Particles) → made ≡ wanted (label_of (term_seen kind.now ps))) }
 {
@@ -73,7 +73,7 @@ fn name_of(alloc: Global, kind: &ParticleKind) -> Result<Text, Memory>
     }
 }
 
-// And that of several.
+// Returns the word from which the identifier of several occurrences is made.
 fn list_name_of(alloc: Global, kind: &ParticleKind) -> Result<Text, Memory>
     ensures { IfOk result (λ made. (ps : Particles) → made ≡ wanted (list_label_of (term_seen kind.now ps))) }
 {
@@ -83,7 +83,7 @@ fn list_name_of(alloc: Global, kind: &ParticleKind) -> Result<Text, Memory>
     Text::from_string(made)
 }
 
-/// What the identifier of the part for a particle of a sequence is made from.
+/// Returns the word from which the identifier of the part for a particle of a sequence is made.
 pub(crate) fn part_name(alloc: Global, label: &ParticleLabel) -> Result<Text, Memory>
     ensures { IfOk result (λ made. (ps : Particles) (type : TypePlan) (rest : Parts)
         → map wanted (labels (particle_part false (term_seen label.now.kind ps) type label.now.min label.now.max rest)) ≡ made ∷ map wanted (labels rest)) }
@@ -97,7 +97,7 @@ pub(crate) fn part_name(alloc: Global, label: &ParticleLabel) -> Result<Text, Me
     }
 }
 
-// The part of a SEQUENCE OF such occurrences.
+// Returns the part of a SEQUENCE OF of such occurrences.
 fn repeated_part(alloc: Global, kind: &ParticleKind) -> Result<Component, Memory>
     ensures { IfOk result (λ made. (ps : Particles) → made ≡ repeated_part (label_of (term_seen kind.now ps))) }
 {
@@ -115,7 +115,7 @@ fn repeated_part(alloc: Global, kind: &ParticleKind) -> Result<Component, Memory
     })
 }
 
-// SEQUENCE OF so many occurrences of this type.
+// Returns a SEQUENCE OF of this type, with the bounds of the particle.
 fn repeated(
     alloc: Global,
     label: &ParticleLabel,
@@ -134,7 +134,7 @@ fn repeated(
     Ok(Tree::join(TypeLabel { form, marks }, kids))
 }
 
-/// A part that has no tags of its own, with an identifier made from this word.
+/// Adds a part that has no tags of its own, with an identifier made from this word.
 pub(crate) fn push_untagged(
     alloc: Global,
     parts: &mut PartList,
@@ -148,7 +148,7 @@ pub(crate) fn push_untagged(
     parts.push_marked(word, optional, marks, kid)
 }
 
-// A part for one occurrence.
+// Adds a part for one occurrence.
 fn push_one(
     alloc: Global,
     parts: &mut PartList,
@@ -167,7 +167,7 @@ fn push_one(
     }
 }
 
-// A part for several.
+// Adds a part for several occurrences.
 fn push_several(
     alloc: Global,
     parts: &mut PartList,
@@ -183,7 +183,7 @@ fn push_several(
     push_untagged(alloc, parts, name.as_str(), false, made)
 }
 
-/// The part for a particle whose term has this type, behind the parts so far.
+/// Adds the part for a particle whose term has this type.
 pub(crate) fn push_particle(
     alloc: Global,
     parts: &mut PartList,
@@ -204,7 +204,7 @@ pub(crate) fn push_particle(
     }
 }
 
-// The texts between child elements.
+// Returns the type of the texts between child elements.
 fn texts_type(alloc: Global) -> Result<Tree<TypeLabel>, Memory>
     ensures { IfOk result (λ made. (place : Subject → ℕ) → IsNamed place texts_type made) }
 {
@@ -217,7 +217,7 @@ fn texts_type(alloc: Global) -> Result<Tree<TypeLabel>, Memory>
     items_type(alloc, text, 0, None, Marks::of(Vec::new(alloc)))
 }
 
-/// The part for the texts between child elements.
+/// Adds the part for the texts between child elements.
 pub(crate) fn push_texts(alloc: Global, parts: &mut PartList) -> Result<(), Memory>
     ensures { OnOk result ((place : Subject → ℕ) (rest whole : Parts)
         → LeadsToNamed place parts.old (plan.part plan.texts false texts_type rest) whole → LeadsToNamed place parts.new rest whole) }
@@ -227,7 +227,7 @@ pub(crate) fn push_texts(alloc: Global, parts: &mut PartList) -> Result<(), Memo
     parts.push_marked("embed-values", false, marks, kid)
 }
 
-/// The part for what a nillable element has where it isn't nil.
+/// Adds the part for the content that a nillable element has if it isn't nil.
 pub(crate) fn push_nillable(
     alloc: Global,
     parts: &mut PartList,

@@ -1,4 +1,4 @@
--- The widths of the code's numbers and sizes: whole numbers have 128 bits, and sizes 32.
+-- The widths of the code's numbers and sizes: integers have 128 bits, and sizes 32.
 use Rattle.std.specs.Prelude.{◌<◌, ◌^◌, All, Option, Some, None}
 use Rattle.base_trees.specs.Rose.{Rose, node, Roses}
 use Rattle.base_trees.specs.Rose as rose

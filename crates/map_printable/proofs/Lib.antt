@@ -8,4 +8,6 @@ mod Printing
 mod Plans
 mod Heights
 mod References
+mod Notation
 mod Whole
+mod FixedOctets

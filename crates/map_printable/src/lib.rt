@@ -3,6 +3,8 @@
 //! Read first: `specs/Maps`.
 #![tactic(auto)]
 
+mod fixed_octets;
 mod laws;
 
-pub use laws::maps_are_printable;
+pub use fixed_octets::see_fixed_octets;
+pub use laws::{maps_are_notation, maps_are_printable};

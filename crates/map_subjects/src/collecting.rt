@@ -242,9 +242,9 @@ fn sort(entries: &mut Vec<NamedSubject>) -> Result<(), AllocError>
     entries.sort_by(|a, b| compare(a, b))
 }
 
-/// Returns the components that have assignments in the module, in the order of the assignments: by namespace; in one namespace
-/// elements first, then attributes, types, and types of nillable elements; among these by local name. Namespaces and local names
-/// are compared byte by byte. The time is that of a sort.
+/// Returns the components that have assignments in the module, in the order of the assignments. The order is by namespace. In one
+/// namespace elements are first, then attributes, types, and types of nillable elements, and each of these kinds is ordered by
+/// local name. Namespaces and local names are compared byte by byte. The time is that of a sort.
 pub fn entries(alloc: Global, set: &SchemaSet) -> Result<Vec<NamedSubject>, Memory>
     requires { IsLinked set.now }
     ensures entries { IfOk result (λ made. AreEntries set.now made.items) }

@@ -151,8 +151,8 @@ fn types_before(set: &SchemaSet, element: &Name) -> u32
 /// Returns the number of assignments that precede that of the global element with this number: the number of its assignment in
 /// the module, from 0.
 ///
-/// It allocates nothing. The time is that of a pass over the set, and of one more over its elements for each complex type with a
-/// name in a namespace that precedes the element's.
+/// It allocates nothing. It makes one pass over the set. It makes one more pass over the elements for each complex type with a name
+/// in a namespace that precedes the element's.
 pub fn number_of_element(set: &SchemaSet, element: u32) -> u32
     requires { element < set.now.globals }
     ensures { (entries : List NamedSubject) → AreEntries set.now entries → result ≡ place_in entries (Subject.Element element) }

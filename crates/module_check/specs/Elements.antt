@@ -12,7 +12,7 @@ use Rattle.module_text.specs.Resolving.{role_of, order_place}
 use Rattle.module_text.specs.Orders.{is_sequence, is_order, is_order_of, may_be_absent, has_no_group, stands_alone, element_identifiers}
 use Rattle.module_check.specs.declared.orders.Content.{Content}
 
--- that of the part with number i, where it is an element, before those of the parts behind it
+-- The identifier of the part with number i, if it is an element, before those of the parts after it.
 abbrev pub with_element : PlainLabel → ℕ → PlainPart → List (List ℕ) → List (List ℕ)
 with_element l i part identifiers = if is_element (role_of l i part) then part.identifier ∷ identifiers else identifiers
 
@@ -22,7 +22,7 @@ names_of names = map (λ (i : PlainName). i.name) names
 abbrev pub texts_in : List (Bor (List ℕ)) → List (List ℕ)
 texts_in texts = map (λ (t : Bor (List ℕ)). t.now) texts
 
--- the part that has the order of elements with these identifiers
+-- The type has the part with the order of elements with these identifiers.
 abbrev pub part_of_order : PlainLabel → Roses PlainLabel → List (List ℕ) → Bool
 part_of_order l ts identifiers = elim (slice_get (parts_of l.form) (order_place l.marks)) [
   | None ↦ false
@@ -32,15 +32,15 @@ part_of_order l ts identifiers = elim (slice_get (parts_of l.form) (order_place 
   ]
 ]
 
--- the elements of a type that may be the content of one with USE-NIL and USE-ORDER
+-- The elements of a type that may be the content of a type with USE-NIL and USE-ORDER.
 abbrev pub content_of : PlainLabel → Option (List (List ℕ))
 content_of l = if is_sequence l.form && has_no_group l && stands_alone l then Some (element_identifiers l) else None
 
--- the order of those of the content
+-- The type has the part with the order of the elements of its content.
 abbrev pub content_order : PlainLabel → Roses PlainLabel → Option (List (List ℕ)) → Bool
 content_order l ts None = false
 content_order l ts (Some identifiers) = part_of_order l ts identifiers
 
--- as the code keeps them
+-- The elements as the code keeps them.
 abbrev pub elements_told : Content → Option (List (List ℕ))
 elements_told c = option_map (λ elements. texts_in elements.items) c.elements

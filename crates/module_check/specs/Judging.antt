@@ -1,4 +1,4 @@
--- What a part is judged by.
+-- What the faults of a part depend on.
 use Rattle.std.specs.Prelude.{ℕ, Bool, false, Option, None, List, [], ◌++◌, is_some, if◌then◌else◌}
 use Rattle.base_trees.specs.Rose.{Rose, Roses, node, label_of}
 use Rattle.simple_types.specs.Space.{Space}
@@ -17,28 +17,28 @@ use Rattle.module_text.specs.Faults.{reference_faults, is_bare, is_named_so, par
 use Rattle.module_check.specs.Known.{Knows, AreSimples, AreContents}
 use Rattle.module_check.specs.declared.context.Context.{Context}
 
--- the tables are those of the assignments
+-- The tables are those of the assignments.
 pub record IsKnown (c : Context) : Type 0 where
   pub references : Knows c.references.now c.assignments.now
   pub simples : AreSimples c.simples.now c.assignments.now
   pub contents : AreContents c.contents.now c.assignments.now
 
--- a type with this label and these parts stands for a simple type
+-- A type with this label and these parts represents a simple type.
 abbrev pub is_simple_of : Spot → PlainLabel → Roses PlainLabel → Bool
 is_simple_of spot l ts = is_simple spot (node l ts)
 
--- the faults of a part but for Duplicate, before those of its type, which has this label
+-- The faults of a part that precede those of its type, which has this label, except Duplicate.
 abbrev pub front_faults : List PlainAssignment → Bool → PlainForm → PlainPart → Bool → PlainLabel → List TextFault
 front_faults P nameless form part simple l =
     (if is_bare part l then reference_faults P l.form else [])
     ++ unless (is_named_so nameless form part) part.at why.Spelling
     ++ part_mark_faults simple part.identifier None part.marks
 
--- those behind it
+-- The faults of a part after those of its type.
 abbrev pub value_faults : List PlainAssignment → Option Space → PlainPart → Rose PlainLabel → List TextFault
 value_faults P space part t = fixed_faults space part.fixed ++ absence_faults space part.fixed (resolve P t) part.absence
 
--- all of them, where the type of the part stands here
+-- All faults of a part whose type is at this spot, except Duplicate.
 abbrev pub faults_there : List PlainAssignment → Spot → Bool → PlainForm → Bool → PlainPart → Rose PlainLabel → List TextFault
 faults_there P spot nameless form front part t =
     front_faults P nameless form part (is_some (space_at P spot part.marks t)) (label_of t)
@@ -47,6 +47,6 @@ faults_there P spot nameless form front part t =
 abbrev pub own_faults : List PlainAssignment → Spot → Bool → PlainLabel → ℕ → Bool → PlainPart → Rose PlainLabel → List TextFault
 own_faults P spot nameless l i front part t = faults_there P (part_spot spot l i part) nameless l.form front part t
 
--- the faults of an assignment but for those of its reference
+-- The faults of an assignment except those of its reference.
 abbrev pub body_faults : List PlainAssignment → PlainAssignment → List TextFault
 body_faults P a = part_mark_faults (is_some (space_at P Elsewhere a.marks a.body)) a.reference None a.marks ++ type_faults P Elsewhere false a.body

@@ -1,4 +1,4 @@
--- What a type says of the roles of its parts, read once for all of them.
+-- What a type states of the roles of its parts, read once for all of them.
 use Rattle.std.specs.Prelude.{◌≡◌, length}
 use Rattle.module_text.specs.declared.types.PlainLabel.{PlainLabel}
 use Rattle.module_text.specs.Texts.{parts_of}

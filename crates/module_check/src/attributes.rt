@@ -1,4 +1,4 @@
-//! The simple types for which the types of attributes stand.
+//! The simple types that the types of attributes represent.
 ghost use Rattle.std.specs.Prelude.{◌≡◌, None, IfOk, MatchOption, if◌then◌else◌};
 ghost use Rattle.module_text.specs.declared.spots.Spot.TheVariants.{Elsewhere};
 ghost use Rattle.module_text.specs.Resolving.{resolve};
@@ -15,7 +15,8 @@ use module_text::{PlainForm, PlainLabel, Spot};
 use simple_types::Simple;
 use std::alloc::Global;
 
-/// The simple type for which the type of an attribute stands, but for references. None of a type that is none of an attribute.
+/// Returns the simple type that the type of an attribute represents, without following references. None if it is not the type of an
+/// attribute.
 pub fn own_simple(
     alloc: Global,
     spot: Spot,
@@ -31,7 +32,7 @@ pub fn own_simple(
     }
 }
 
-// The simple type for which the type stands that is meant by a reference, where it is that of an assignment.
+// Returns the simple type of the assignment that the references of a type reach, if they reach one.
 fn meant_simple<'a>(context: &Context<'a>, node: &Tree<PlainLabel>) -> Option<&'a Option<Simple>>
     requires { IsKnown context.now }
     ensures { MatchOption result
@@ -45,7 +46,7 @@ fn meant_simple<'a>(context: &Context<'a>, node: &Tree<PlainLabel>) -> Option<&'
     }
 }
 
-/// Returns the simple type of an attribute whose type is a reference, as it is known of the assignment that is meant.
+/// Returns the simple type of an attribute whose type is a reference, as it is known of the assignment that is reached.
 pub fn shared_simple<'a>(
     context: &Context<'a>,
     spot: Spot,

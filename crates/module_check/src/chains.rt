@@ -13,16 +13,16 @@ use base_trees::Tree;
 use module_text::{PlainAssignment, PlainForm, PlainLabel, PlainPart};
 use std::alloc::Global;
 
-/// What is known of the assignments to which references lead.
+/// What is known of the assignments that references reach.
 #[derive(Clone, Copy)]
 pub struct Followed<'a, 'w> {
     pub assignments: &'a [PlainAssignment],
     pub references: &'a References,
-    /// Of each assignment, whether its type leads on within a number of references. None where no reference may follow.
+    /// For each assignment, whether its type leads on within a number of references. None if no reference may follow.
     pub within: Option<&'w [bool]>,
 }
 
-// Whether a reference leads on within the number: one without an assignment leads no further.
+// Returns whether a reference leads on within the number. A reference without an assignment leads no further.
 fn leads(followed: &Followed, reference: &Text) -> bool
     requires { Knows followed.now.references.now followed.now.assignments.now }
     ensures { result ≡ leads_in (option_map (λ w. w.now) followed.now.within) followed.now.assignments.now reference.now }
@@ -42,7 +42,7 @@ fn leads(followed: &Followed, reference: &Text) -> bool
     }
 }
 
-// Returns whether a type is no reference, or its reference leads on within the number.
+// Returns whether a type is not a reference, or its reference leads on within the number.
 fn leads_itself(followed: &Followed, form: &PlainForm) -> bool
     requires { Knows followed.now.references.now followed.now.assignments.now }
     ensures { result ≡ rule.if_reference (leads_in (option_map (λ w. w.now) followed.now.within) followed.now.assignments.now) form.now }
@@ -53,7 +53,8 @@ fn leads_itself(followed: &Followed, form: &PlainForm) -> bool
     }
 }
 
-// Whether each reference that is reached from the part without passing one with the role of an element leads on within the number.
+// Returns whether references lead on within the number: those that the part reaches without passing one with the role of an
+// element.
 #[cycle(near)]
 fn is_near(
     followed: &Followed,
@@ -93,7 +94,7 @@ fn near(followed: &Followed, node: &Tree<PlainLabel>) -> bool
     true
 }
 
-// Of each assignment, whether its type leads on within one reference more.
+// Returns for each assignment whether its type leads on within one reference more.
 fn one_more(alloc: Global, followed: &Followed) -> Result<Vec<bool>, Memory>
     requires { Knows followed.now.references.now followed.now.assignments.now }
     ensures { IfOk result (λ within. within.items ≡
@@ -108,8 +109,8 @@ fn one_more(alloc: Global, followed: &Followed) -> Result<Vec<bool>, Memory>
     Ok(within)
 }
 
-/// Of each assignment, whether at most so many references follow one another from its type. The time is linear in the types, for
-/// each of the numbers up to this one.
+/// Returns for each assignment whether at most n references follow one another from its type. The time is linear in the types, for
+/// each number up to n.
 pub fn within<'a>(
     alloc: Global,
     assignments: &'a [PlainAssignment],
@@ -136,7 +137,7 @@ pub fn within<'a>(
     one_more(alloc, &behind)
 }
 
-// Whether each reference that stands in the type leads on within the number.
+// Returns whether each reference in the type leads on within the number.
 fn all_lead(followed: &Followed, node: &Tree<PlainLabel>) -> bool
     requires { Knows followed.now.references.now followed.now.assignments.now }
     ensures { result ≡ rule.all_references (leads_in (option_map (λ w. w.now) followed.now.within) followed.now.assignments.now) node.now }
@@ -153,7 +154,7 @@ fn all_lead(followed: &Followed, node: &Tree<PlainLabel>) -> bool
     true
 }
 
-/// Whether each reference in the type leads on within three others, where this is told of each assignment.
+/// Returns whether each reference in the type leads on within three others. `within` states this of each assignment.
 pub fn chains_end<'a>(
     node: &Tree<PlainLabel>,
     assignments: &'a [PlainAssignment],

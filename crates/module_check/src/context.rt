@@ -1,19 +1,19 @@
-//! What types are judged with.
+//! What the faults of types depend on.
 use crate::orders::Content;
 use crate::references::References;
 use module_text::PlainAssignment;
 use simple_types::Simple;
 use std::alloc::Global;
 
-/// What types are judged with.
+/// What the faults of types depend on.
 #[derive(Clone, Copy)]
 pub struct Context<'a> {
     pub alloc: Global,
     /// All assignments.
     pub assignments: &'a [PlainAssignment],
     pub references: &'a References,
-    /// Of each assignment, the simple type for which its type stands.
+    /// For each assignment, the simple type that its type represents.
     pub simples: &'a [Option<Simple>],
-    /// Of each assignment, the elements of its type, where this may be the content of one with their order.
+    /// For each assignment, the elements of its type, if this may be the content of a type with their order.
     pub contents: &'a [Content<'a>],
 }

@@ -21,7 +21,7 @@ use module_text::{ModuleWhy, PlainAssignment, Spot, TextFault};
 use simple_types::Simple;
 use std::alloc::Global;
 
-// Of each assignment, the simple type for which its type stands.
+// Returns for each assignment the simple type that its type represents.
 fn simples_of(alloc: Global, assignments: &[PlainAssignment]) -> Result<Vec<Option<Simple>>, Memory>
     ensures { IfOk result (λ simples. AreSimples simples.items assignments.now) }
 {
@@ -32,7 +32,7 @@ fn simples_of(alloc: Global, assignments: &[PlainAssignment]) -> Result<Vec<Opti
     Ok(simples)
 }
 
-// Whether the type of an assignment stands for a simple type, through references, where the assignment has ATTRIBUTE.
+// Returns whether an assignment has ATTRIBUTE, and its type represents a simple type, through references.
 fn is_simple_attribute(context: &Context, assignment: &PlainAssignment) -> Result<bool, Memory>
     requires { IsKnown context.now }
     ensures { IfOk result (λ is. is ≡ is_some (rule.space_at context.now.assignments.now Elsewhere assignment.now.marks assignment.now.body)) }
@@ -48,7 +48,7 @@ fn is_simple_attribute(context: &Context, assignment: &PlainAssignment) -> Resul
     }
 }
 
-// The first fault of the instructions of an assignment and of its type.
+// Returns the first fault of the instructions of an assignment and of its type.
 #[tactic(auto, using(crate::proofs::Firsts::firsts))]
 fn body_fault(context: &Context, assignment: &PlainAssignment) -> Result<Option<TextFault>, Memory>
     requires { IsKnown context.now }
@@ -62,15 +62,15 @@ fn body_fault(context: &Context, assignment: &PlainAssignment) -> Result<Option<
     type_fault(context, Spot::Elsewhere, false, &assignment.body)
 }
 
-// Whether the reference is none of these, and no reserved word.
+// Returns whether the reference is not among these, and is not a reserved word.
 fn is_free(seen: &Seen, reference: &Text) -> bool
     ensures { result ≡ (not (rule.has_text seen.now reference.now) && not (rule.has_text reserved_words reference.now)) }
 {
     !seen.has(reference) && !is_reserved(reference.bytes())
 }
 
-// The first fault of an assignment behind those with these references. It is told of each assignment whether at most three
-// references follow one another from its type.
+// Returns the first fault of an assignment after those with these references. `within` states of each assignment whether at most
+// three references follow one another from its type.
 #[tactic(auto, using(crate::proofs::Firsts::firsts))]
 fn assignment_fault(
     context: &Context,
@@ -98,7 +98,7 @@ fn assignment_fault(
     body_fault(context, assignment)
 }
 
-// The first fault of the assignments.
+// Returns the first fault of the assignments.
 fn fault_of(context: &Context, within: &[bool]) -> Result<Option<TextFault>, Memory>
     requires known { IsKnown context.now }
     requires within { within.now ≡ all_within 3 context.now.assignments.now }
@@ -115,10 +115,10 @@ fn fault_of(context: &Context, within: &[bool]) -> Result<Option<TextFault>, Mem
     Ok(None)
 }
 
-/// The first fault of these assignments, where there is one: of what a plain text tells, the one that stands first in it.
+/// Returns the first fault of these assignments, if there is one. Of the assignments of a text it is the first in the text.
 ///
 /// # Errors
-/// `Memory` for want of memory alone.
+/// The only error is `Memory`, if an allocation fails.
 pub fn first_fault(
     alloc: Global,
     assignments: &[PlainAssignment],

@@ -1,4 +1,4 @@
-//! What stands behind the instructions of a type, but for its parts.
+//! The form of a type, after its instructions and without its parts.
 ghost use Rattle.std.specs.Prelude.{◌≡◌, None, IfOk, []};
 ghost use Rattle.module_text.specs.Listed.{first};
 ghost use Rattle.module_text.specs.Told as told;
@@ -13,7 +13,7 @@ use module_simple::is_order_item;
 use module_text::{ModuleWhy, PlainForm, PlainName, Spot, TextFault, TypeMark};
 use std::alloc::Global;
 
-/// The fault of a reference without an assignment.
+/// Returns the fault of a reference without an assignment.
 #[tactic(auto, unfolding(module_text::specs::Listed::first))]
 pub fn reference_fault(context: &Context, form: &PlainForm) -> Option<TextFault>
     requires { IsKnown context.now }
@@ -30,7 +30,7 @@ pub fn reference_fault(context: &Context, form: &PlainForm) -> Option<TextFault>
     }
 }
 
-// The first fault of the items of an ENUMERATED that stand for words.
+// Returns the first fault of the items of an ENUMERATED that represent words.
 fn items_fault(
     alloc: Global,
     spot: Spot,
@@ -44,7 +44,7 @@ fn items_fault(
     word_fault(alloc, is_order_item(spot), items, &words)
 }
 
-/// The first fault of what stands behind the instructions of a type that stands here, but for its parts.
+/// Returns the first fault of the form of a type at this spot, without its parts.
 #[tactic(auto, unfolding(module_text::specs::Listed::first))]
 pub fn form_fault(
     context: &Context,

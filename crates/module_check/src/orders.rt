@@ -1,4 +1,4 @@
-//! What USE-ORDER asks of a type.
+//! What USE-ORDER requires of a type.
 ghost use Rattle.std.specs.Prelude.{◌≡◌, IfOk};
 ghost use Rattle.base_trees.specs.Rose.{label_of, kids_of, roses_of};
 ghost use Rattle.module_text.specs.Resolving.{order_place, resolve};
@@ -20,11 +20,11 @@ use std::alloc::Global;
 /// The identifiers of the elements of a SEQUENCE that may be the content of a type with USE-NIL and their order.
 #[derive(Drop)]
 pub struct Content<'a> {
-    /// None of a type that may not.
+    /// None if the type may not be such a content.
     elements: Option<Vec<&'a Text>>,
 }
 
-// Whether no part has UNTAGGED.
+// Returns whether no part has UNTAGGED.
 fn has_no_group(label: &PlainLabel) -> bool
     ensures { result ≡ rule.has_no_group label.now }
 {
@@ -38,7 +38,7 @@ fn has_no_group(label: &PlainLabel) -> bool
     true
 }
 
-// The identifiers of the parts that are elements, in their order.
+// Returns the identifiers of the parts that are elements, in their order.
 fn elements_of(alloc: Global, label: &PlainLabel) -> Result<Vec<&Text>, Memory>
     ensures { IfOk result (λ elements. texts_in elements.items ≡ rule.element_identifiers label.now) }
 {
@@ -54,7 +54,7 @@ fn elements_of(alloc: Global, label: &PlainLabel) -> Result<Vec<&Text>, Memory>
     Ok(elements)
 }
 
-// Whether the names are these.
+// Returns whether the names are these.
 fn are_named(elements: &[&Text], names: &[PlainName]) -> bool
     ensures { result ≡ rule.are_equal (texts_in elements.now) (names_of names.now) }
 {
@@ -78,7 +78,7 @@ fn are_identifiers(elements: &[&Text], form: &PlainForm) -> bool
     }
 }
 
-// Whether the type is a SEQUENCE OF the ENUMERATED of these identifiers, without a size.
+// Returns whether the type is a SEQUENCE OF the ENUMERATED of these identifiers, without a size.
 fn is_order_of(elements: &[&Text], node: &Tree<PlainLabel>) -> bool
     ensures { result ≡ rule.is_order_of (texts_in elements.now) node.now }
 {
@@ -90,14 +90,14 @@ fn is_order_of(elements: &[&Text], node: &Tree<PlainLabel>) -> bool
     }
 }
 
-// Where the part with the order stands.
+// Returns the place of the part with the order.
 fn order_place(marks: &[TypeMark]) -> usize
     ensures { result ≡ order_place marks.now }
 {
     if has_embed_values(marks) { 1 } else { 0 }
 }
 
-// Whether the type has the part with the order of these elements.
+// Returns whether the type has the part with the order of these elements.
 fn is_order_part(label: &PlainLabel, kids: &[Tree<PlainLabel>], elements: &[&Text]) -> bool
     ensures { result ≡ part_of_order label.now (roses_of kids.now) (texts_in elements.now) }
 {
@@ -121,7 +121,7 @@ fn stands_alone(label: &PlainLabel) -> bool
 }
 
 impl<'a> Content<'a> {
-    /// The elements of the type with this label.
+    /// Returns the elements of the type with this label.
     fn of(alloc: Global, label: &'a PlainLabel) -> Result<Content<'a>, Memory>
         ensures { IfOk result (λ content. elements_told content ≡ content_of label.now) }
     {
@@ -149,7 +149,7 @@ pub fn contents_of<'a>(
     Ok(contents)
 }
 
-// Whether the type has the part with the order of the elements of its content.
+// Returns whether the type has the part with the order of the elements of its content.
 fn has_order_of(label: &PlainLabel, kids: &[Tree<PlainLabel>], content: &Content) -> bool
     ensures { result ≡ content_order label.now (roses_of kids.now) (elements_told content.now) }
 {
@@ -179,8 +179,8 @@ fn has_content_order(
     }
 }
 
-/// Whether the type is a SEQUENCE with the part that has the order of its elements, or of those of its content. The time is linear
-/// in the type: what its content is by a reference is known.
+/// Returns whether the type is a SEQUENCE with the part that has the order of its elements, or of those of its content. The time is
+/// linear in the type, because the content that a reference reaches is known.
 pub fn has_order_part(context: &Context, node: &Tree<PlainLabel>) -> Result<bool, Memory>
     requires { IsKnown context.now }
     ensures { IfOk result (λ is. is ≡ rule.has_order_part context.now.assignments.now (label_of node.now) (roses_of (kids_of node.now))) }

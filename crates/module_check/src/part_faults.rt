@@ -1,4 +1,4 @@
-//! The faults of a part beside those of its type.
+//! The faults of a part in addition to those of its type.
 ghost use Rattle.std.specs.Prelude.{◌≡◌, ◌<◌, ◌++◌, ◌∷◌, ◌||◌, IfOk, OnOk, [], length, false, nat_lt, if◌then◌else◌};
 ghost use Rattle.base_texts.specs.Limits.{is_empty};
 ghost use Rattle.module_text.specs.Texts as texts;
@@ -21,7 +21,7 @@ use module_text::{ModuleWhy, PlainForm, PlainLabel, PlainPart, Spot, TextFault};
 use simple_types::Simple;
 use std::alloc::Global;
 
-/// Where the type of a part stands.
+/// Returns the spot of the type of a part.
 pub fn part_spot(spot: Spot, label: &PlainLabel, i: usize, part: &PlainPart) -> Spot
     requires { i < length (texts.parts_of label.now.form) }
     ensures { result ≡ rule.part_spot spot label.now i part.now }
@@ -36,7 +36,7 @@ pub fn part_spot(spot: Spot, label: &PlainLabel, i: usize, part: &PlainPart) -> 
     }
 }
 
-// Whether a part is a reference and nothing else, so that it begins where this does.
+// Returns whether a part is only a reference, so that it begins where the reference begins.
 fn is_bare(part: &PlainPart, label: &PlainLabel) -> bool
     ensures { result ≡ rule.is_bare part.now label.now }
 {
@@ -45,7 +45,7 @@ fn is_bare(part: &PlainPart, label: &PlainLabel) -> bool
         && label.marks.items().is_empty()
 }
 
-// The fault of a part that is a reference and nothing else.
+// Returns the fault of a part that is only a reference.
 #[tactic(auto, unfolding(module_text::specs::Listed::first))]
 fn bare_fault(context: &Context, part: &PlainPart, label: &PlainLabel) -> Option<TextFault>
     requires { IsKnown context.now }
@@ -58,14 +58,14 @@ fn bare_fault(context: &Context, part: &PlainPart, label: &PlainLabel) -> Option
     }
 }
 
-// Whether the part of a SEQUENCE OF has no identifier exactly where this is asked.
+// Returns whether the part of a SEQUENCE OF has an identifier if and only if `nameless` is false.
 fn is_named_so(nameless: bool, form: &PlainForm, part: &PlainPart) -> bool
     ensures { result ≡ rule.is_named_so nameless form.now part.now }
 {
     !is_sequence_of(form) || part.identifier.bytes().is_empty() == nameless
 }
 
-/// The first fault of a part but for Duplicate, before its type.
+/// Returns the first fault of a part before its type, except Duplicate.
 #[tactic(auto, using(crate::proofs::Firsts::firsts), unfolding(module_text::specs::Listed::first))]
 pub fn part_front_fault(
     context: &Context,
@@ -88,7 +88,7 @@ pub fn part_front_fault(
     part_mark_fault(simple, part.identifier.bytes(), part.marks.items())
 }
 
-/// The first fault of a fixed value of a part, and of what is said of it where it is absent.
+/// Returns the first fault of a fixed value of a part, and of what follows a part that may be absent.
 #[tactic(auto, using(crate::proofs::Firsts::firsts))]
 pub fn value_fault(
     context: &Context,
@@ -116,7 +116,7 @@ pub fn value_fault(
     )
 }
 
-// How many parts at the front are the texts of EMBED-VALUES and the order of USE-ORDER.
+// Returns the number of the first parts that are the texts of EMBED-VALUES and the order of USE-ORDER.
 fn nameless_parts(label: &PlainLabel) -> usize
     ensures { result ≡ rule.nameless_parts label.now.marks }
 {
@@ -129,28 +129,28 @@ fn nameless_parts(label: &PlainLabel) -> usize
     }
 }
 
-/// Whether the part with this number is one of them.
+/// Returns whether the part with this number is one of those first parts.
 pub fn is_front(label: &PlainLabel, i: usize) -> bool
     ensures { result ≡ nat_lt i (rule.nameless_parts label.now.marks) }
 {
     i < nameless_parts(label)
 }
 
-/// Whether the part of a type has no identifier, if the type is a SEQUENCE OF.
+/// Returns whether the part of a type has no identifier, if the type is a SEQUENCE OF.
 pub fn is_nameless(label: &PlainLabel, nameless: bool) -> bool
     ensures { result ≡ (told.has_list label.now.marks || nameless) }
 {
     has_list(label.marks.items()) || nameless
 }
 
-/// Whether the identifier stands among these. None stands nowhere.
+/// Returns whether the identifier is among these. An empty one never is.
 pub fn is_listed(seen: &Seen, identifier: &Text) -> bool
     ensures { result ≡ rule.is_listed seen.now identifier.now }
 {
     !identifier.bytes().is_empty() && seen.has(identifier)
 }
 
-/// The identifiers with one more, where there is one.
+/// Adds an identifier, if it is not empty.
 pub fn note(alloc: Global, seen: &mut Seen, identifier: &Text) -> Result<(), Memory>
     requires { rule.is_listed seen.old identifier.now ≡ false }
     ensures { OnOk result (seen.new ≡ (if is_empty identifier.now then seen.old else seen.old ++ identifier.now ∷ [])) }

@@ -14,10 +14,10 @@ use module_pieces::{
 use module_text::{PlainForm, PlainLabel, PlainPart};
 use std::slice;
 
-/// What a type says of the roles of its parts. It is read once for all of them, since a type may have many instructions.
+/// What a type states of the roles of its parts. It is read once for all of them, because a type may have many instructions.
 #[derive(Clone, Copy)]
 pub struct Roles {
-    /// How many parts there are.
+    /// The number of parts.
     pub count: usize,
     pub use_nil: bool,
     pub embed_values: bool,
@@ -25,7 +25,7 @@ pub struct Roles {
     pub use_union: bool,
 }
 
-/// What the type says of the roles of its parts.
+/// Returns what the type states of the roles of its parts.
 pub fn roles_of(label: &PlainLabel) -> Roles
     ensures { AreRoles result label.now }
 {
@@ -39,7 +39,7 @@ pub fn roles_of(label: &PlainLabel) -> Roles
     }
 }
 
-// Whether the part is the item of a SEQUENCE OF that has no identifier.
+// Returns whether the part is the item of a SEQUENCE OF that has no identifier.
 fn is_item(form: &PlainForm, part: &PlainPart) -> bool
     ensures { result ≡ roles.is_item form.now part.now }
 {
@@ -49,7 +49,7 @@ fn is_item(form: &PlainForm, part: &PlainPart) -> bool
     }
 }
 
-// The role of the part with this number.
+// Returns the role of the part with this number.
 fn role_of(own: Roles, label: &PlainLabel, i: usize, part: &PlainPart) -> Role
     requires own { AreRoles own label.now }
     requires within { i < length (texts.parts_of label.now.form) }
@@ -75,7 +75,7 @@ fn role_of(own: Roles, label: &PlainLabel, i: usize, part: &PlainPart) -> Role
     }
 }
 
-/// The components of a SEQUENCE, the alternatives of a CHOICE, the item of a SEQUENCE OF.
+/// Returns the components of a SEQUENCE, the alternatives of a CHOICE, or the item of a SEQUENCE OF.
 pub fn parts_of(form: &PlainForm) -> &[PlainPart]
     ensures { result.now ≡ texts.parts_of form.now }
 {
@@ -87,7 +87,7 @@ pub fn parts_of(form: &PlainForm) -> &[PlainPart]
     }
 }
 
-/// Whether the part with this number has the role of an element.
+/// Returns whether the part with this number has the role of an element.
 pub fn is_element(own: Roles, label: &PlainLabel, i: usize, part: &PlainPart) -> bool
     requires own { AreRoles own label.now }
     requires within { i < length (texts.parts_of label.now.form) }
@@ -96,7 +96,7 @@ pub fn is_element(own: Roles, label: &PlainLabel, i: usize, part: &PlainPart) ->
     matches!(role_of(own, label, i, part), Role::Element)
 }
 
-/// Whether it has UNTAGGED.
+/// Returns whether the part with this number has UNTAGGED.
 pub fn is_group(own: Roles, label: &PlainLabel, i: usize, part: &PlainPart) -> bool
     requires own { AreRoles own label.now }
     requires within { i < length (texts.parts_of label.now.form) }
@@ -105,7 +105,7 @@ pub fn is_group(own: Roles, label: &PlainLabel, i: usize, part: &PlainPart) -> b
     matches!(role_of(own, label, i, part), Role::Group)
 }
 
-/// Whether it has the order of others.
+/// Returns whether the part with this number has the order of others.
 pub fn is_order(own: Roles, label: &PlainLabel, i: usize, part: &PlainPart) -> bool
     requires own { AreRoles own label.now }
     requires within { i < length (texts.parts_of label.now.form) }

@@ -1,4 +1,4 @@
-//! References and the assignments that they stand for.
+//! References and the assignments that they reach.
 ghost use Rattle.std.specs.Prelude.{◌≡◌, ◌<◌, length, Some, None, IfOk, OnOk, IfSome, MatchOption, bytes_eq};
 ghost use Rattle.indexmap.specs.IndexMap.{get};
 ghost use Rattle.module_text.specs.Resolving as rule;
@@ -12,15 +12,15 @@ use module_pieces::{Index, indexes_of};
 use module_text::{PlainAssignment, PlainForm, PlainLabel};
 use std::alloc::Global;
 
-/// The references of assignments, each with the number of the first that has it, and of each assignment the index of its type.
+/// The number of the first assignment with each reference, and the index of the type of each assignment.
 #[derive(Drop)]
 pub struct References {
     numbers: IndexMap<Text, usize>,
-    /// None where values at the type name no items and no alternatives.
+    /// None if values at the type name no items and no alternatives.
     indexes: Vec<Option<Tree<Index>>>,
 }
 
-// The references with one more, where it is none of them.
+// Adds the number of one more reference, unless it is already there.
 fn note(
     alloc: Global,
     numbers: &mut IndexMap<Text, usize>,
@@ -37,7 +37,7 @@ fn note(
 }
 
 impl References {
-    /// The references of these assignments.
+    /// Returns the references of these assignments.
     pub fn of(alloc: Global, assignments: &[PlainAssignment]) -> Result<References, Memory>
         ensures { IfOk result (λ table. Knows table assignments.now) }
     {
@@ -49,7 +49,7 @@ impl References {
         Ok(References { numbers, indexes })
     }
 
-    /// The number of the first assignment with this reference.
+    /// Returns the number of the first assignment with this reference.
     pub fn number_of(&self, reference: &Text, assignments: &[PlainAssignment]) -> Option<usize>
         requires { Knows self.now assignments.now }
         ensures number { result ≡ rule.number_of assignments.now reference.now }
@@ -58,7 +58,7 @@ impl References {
         self.numbers.get(reference).copied()
     }
 
-    // The number of the assignment to whose type one reference leads.
+    // Returns the number of the assignment that one reference reaches.
     fn next(&self, assignments: &[PlainAssignment], node: &Tree<PlainLabel>) -> Option<usize>
         requires { Knows self.now assignments.now }
         ensures { MatchOption result
@@ -71,8 +71,8 @@ impl References {
         }
     }
 
-    /// The number of the assignment whose type is meant: that to which the reference leads where the type is one, and so on,
-    /// through four at most. None where it is the type itself.
+    /// Returns the number of the assignment that the references of a type reach, through four references at most. None if they
+    /// reach none.
     pub fn number_meant(
         &self,
         assignments: &[PlainAssignment],
@@ -95,7 +95,7 @@ impl References {
         found
     }
 
-    /// The type that is meant.
+    /// Returns the type that the references of a type reach, or the type itself.
     pub fn resolve<'a>(
         &self,
         assignments: &'a [PlainAssignment],
@@ -110,7 +110,8 @@ impl References {
         }
     }
 
-    /// The index of the type that is meant, where this is that of an assignment and values at it name items or alternatives.
+    /// Returns the index of the type that the references reach. None if that is not the type of an assignment, or if values at it
+    /// name no items and no alternatives.
     pub fn index_meant(
         &self,
         assignments: &[PlainAssignment],

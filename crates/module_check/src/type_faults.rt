@@ -1,4 +1,4 @@
-//! The first fault of a type, and of the parts inside it.
+//! The first fault of a type, and of the parts nested in it.
 ghost use Rattle.std.specs.Prelude.{◌≡◌, ◌<◌, ◌++◌, None, IfOk, [], length};
 ghost use Rattle.base_trees.specs.Rose.{label_of, kids_of, roses_of};
 ghost use Rattle.module_text.specs.Texts as texts;
@@ -21,8 +21,8 @@ use module_pieces::{Seen, has_attribute};
 use module_text::{ModuleWhy, PlainForm, PlainLabel, PlainPart, Spot, TextFault};
 use simple_types::Simple;
 
-// The first fault of the type of a part, which stands here, and of what stands behind it. The type stands for this simple type,
-// where the part has ATTRIBUTE.
+// Returns the first fault of the type of a part, which is at this spot, and of what follows it. The type represents this simple
+// type, if the part has ATTRIBUTE.
 #[cycle(types)]
 fn behind_fault(
     context: &Context,
@@ -66,7 +66,7 @@ fn judged_fault(
     behind_fault(context, simple, spot, front, part, kid)
 }
 
-// The first fault of a part but for Duplicate.
+// Returns the first fault of a part, except Duplicate.
 #[cycle(types)]
 fn part_fault(
     context: &Context,
@@ -94,7 +94,7 @@ fn part_fault(
     }
 }
 
-// The first fault of the parts of a type.
+// Returns the first fault of the parts of a type.
 #[cycle(types)]
 fn parts_fault(
     context: &Context,
@@ -128,7 +128,7 @@ fn parts_fault(
     Ok(None)
 }
 
-// The first fault of a type that stands here, but for its parts.
+// Returns the first fault of a type at this spot, except those of its parts.
 fn own_fault(
     context: &Context,
     spot: Spot,
@@ -146,7 +146,8 @@ fn own_fault(
     form_fault(context, spot, label.marks.items(), &label.form)
 }
 
-/// The first fault of a type that stands here. `nameless` says that it is that of the texts of EMBED-VALUES or of an order.
+/// Returns the first fault of a type at this spot. `nameless` states whether it is that of the texts of EMBED-VALUES or of an
+/// order.
 #[cycle(types)]
 pub fn type_fault(
     context: &Context,

@@ -19,7 +19,7 @@ use module_pieces::{
 use module_simple::{is_order_item, simple_told};
 use module_text::{ModuleWhy, PlainForm, PlainLabel, PlainName, Spot, TextFault, TypeMarkKind};
 
-// The number of the first of these items with the identifier.
+// Returns the number of the first of these items with the identifier.
 fn position_of(items: &[PlainName], identifier: &Text) -> Option<usize>
     ensures number { result ≡ position (λ (i : PlainName). bytes_eq i.name identifier.now) items.now }
     ensures within { IfSome result (λ i. i < length items.now) }
@@ -41,7 +41,7 @@ fn position_from(items: &[PlainName], least: usize, identifier: &Text) -> Option
     }
 }
 
-// Returns that number where the items are words, and None where they are the parts of an order.
+// Returns that number if the items are words, and None if they are the parts of an order.
 fn word_number(spot: Spot, items: &[PlainName], least: usize, identifier: &Text) -> Option<usize>
     ensures number { result ≡ (if simple.is_order_item spot then None
         else option_map (λ i. least + i) (position (λ (i : PlainName). bytes_eq i.name identifier.now) (drop least items.now))) }
@@ -53,7 +53,7 @@ fn word_number(spot: Spot, items: &[PlainName], least: usize, identifier: &Text)
     position_from(items, least, identifier)
 }
 
-// The number of the first item with this identifier from a least number on, where the items stand for words.
+// Returns the number of the first item with this identifier from a least number on, if the items represent words.
 fn item_number(spot: Spot, form: &PlainForm, least: usize, identifier: &Text) -> Option<usize>
     ensures number { result ≡ may.item_number spot form.now least identifier.now }
     ensures small { IfSome result (λ i. i + 1 < 2 ^ 64) }
@@ -66,7 +66,7 @@ fn item_number(spot: Spot, form: &PlainForm, least: usize, identifier: &Text) ->
     }
 }
 
-// Whether a type that stands here stands for a simple type.
+// Returns whether a type at this spot represents a simple type.
 fn is_simple(context: &Context, spot: Spot, node: &Tree<PlainLabel>) -> Result<bool, Memory>
     ensures { IfOk result (λ is. is ≡ simple.is_simple spot node.now) }
 {
@@ -81,7 +81,8 @@ fn stands_for_simple(context: &Context, spot: Spot, node: &Tree<PlainLabel>) -> 
     is_simple(context, spot, node)
 }
 
-// Whether an instruction of a type that stands here may stand there; `least` is the least number that the item of a TEXT may have.
+// Returns whether an instruction of a type at this spot may appear there. `least` is the least number that the item of a TEXT may
+// have.
 fn may_stand(
     context: &Context,
     spot: Spot,
@@ -116,7 +117,7 @@ fn may_stand(
     }
 }
 
-// The least number that the item of a TEXT behind this instruction may have.
+// Returns the least number that the item of a TEXT after this instruction may have.
 fn next_item(spot: Spot, form: &PlainForm, least: usize, kind: &TypeMarkKind) -> usize
     ensures { result ≡ may.next_item spot form.now least kind.now }
 {
@@ -129,7 +130,7 @@ fn next_item(spot: Spot, form: &PlainForm, least: usize, kind: &TypeMarkKind) ->
     }
 }
 
-// Whether an instruction may stand behind one of this rank.
+// Returns whether an instruction may follow one of this rank.
 fn mark_stands(
     context: &Context,
     spot: Spot,
@@ -146,7 +147,7 @@ fn mark_stands(
     Ok(stands_once(before, rank(kind)) && may)
 }
 
-/// The first fault of the instructions of a type that stands here.
+/// Returns the first fault of the instructions of a type at this spot.
 pub fn type_mark_fault(
     context: &Context,
     spot: Spot,

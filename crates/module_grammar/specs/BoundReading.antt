@@ -1,4 +1,4 @@
--- Bounds and constraints, read from the front of bytes.
+-- Reading bounds and constraints at the beginning of bytes.
 use mathlib.Core.Logic.{inl, inr}
 use Rattle.std.specs.Prelude.{ℕ, ◌⊎◌, Option, Some, None, List, codes}
 use Rattle.simple_types.specs.declared.simples.Class.{Class}
@@ -12,7 +12,7 @@ use Rattle.module_text.specs.declared.bounds.PlainRange.TheVariants as range
 use Rattle.module_text.specs.declared.values.PlainOctets.{PlainOctets}
 use Rattle.module_grammar.specs.NameReading.{number_at, octets_at}
 
--- ---- what may stand or not
+-- ---- what is optional
 
 abbrev pub some_of : {A : Type 0} → ℕ → A ⊎ Unit {0} → Option A
 some_of place (inl a) = Some a

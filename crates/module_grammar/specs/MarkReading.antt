@@ -1,4 +1,4 @@
--- Encoding instructions, read from the front of bytes: those of one rank as many as there are, and then those of the next.
+-- Reading encoding instructions at the beginning of bytes: any number of one rank, and then those of the next.
 use mathlib.Core.Logic.{inl, inr}
 use Rattle.std.specs.Prelude.{ℕ, ◌⊎◌, List, [], ◌++◌, codes}
 use Rattle.module_grammar.specs.Reading.{Reader, word_at, nothing_at, then_at, or_at, many_at, as_at, behind_at, before_at}
@@ -76,7 +76,7 @@ one_type_mark_at read = as_at type_mark_here (before_at read (codes " "))
 abbrev pub joined : {M : Type 0} → ℕ → List M × List M → List M
 joined place x = x.0 ++ x.1
 
--- as many as there are of one rank, and then those of higher ranks
+-- Any number of one rank, and then those of higher ranks.
 abbrev pub ranked_at : {M : Type 0} → Reader M → Reader (List M) → Reader (List M)
 ranked_at read others = as_at joined (then_at (many_at read) (λ ms. others))
 
@@ -134,7 +134,7 @@ type_marks_at = ranked_at (one_type_mark_at use_nil_at) embed_values_marks_at
 abbrev pub or_kind_at : Reader TypeMarkKind → Reader TypeMarkKind → Reader TypeMarkKind
 or_kind_at first second = as_at either_kind (or_at first second)
 
--- the first mark of a type, of any rank
+-- The first instruction of a type, of any rank.
 abbrev pub own_mark_at : Reader TypeMarkKind
 own_mark_at =
     or_kind_at use_nil_at

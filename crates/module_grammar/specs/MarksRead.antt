@@ -1,4 +1,4 @@
--- That just the encoding instructions are read, those of parts and those of types.
+-- Exactly the encoding instructions are read, those of parts and those of types.
 use Rattle.std.specs.Prelude.{◌≡◌, codes}
 use Rattle.module_grammar.specs.Reading.{word_at}
 use Rattle.module_grammar.specs.Shapes.{never, IsUnread}

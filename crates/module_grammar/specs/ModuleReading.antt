@@ -1,4 +1,4 @@
--- A module, read from the front of bytes.
+-- Reading a module at the beginning of bytes.
 use Rattle.std.specs.Prelude.{ℕ, List, codes}
 use Rattle.module_print.specs.Printed.{opening, closing}
 use Rattle.module_grammar.specs.Reading.{Reader, then_at, many_at, as_at, behind_at, before_at}
@@ -11,7 +11,7 @@ use Rattle.module_grammar.specs.TypeReading.{Typed, type_at}
 abbrev pub assignment_of : ℕ → List ℕ × (List PartMark × Typed) → PlainAssignment
 assignment_of place x = record { at = place; reference = x.0; marks = x.1.0; body = x.1.1 }
 
--- with so many types, and so many values, in one another at most
+-- The instructions and the type of an assignment. At most `most` types, and at most `most` values, are nested.
 abbrev pub body_at : ℕ → Reader (List PartMark × Typed)
 body_at most = before_at (then_at part_marks_at (λ marks. type_at most most 0)) (codes "\n")
 

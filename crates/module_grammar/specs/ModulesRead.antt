@@ -1,5 +1,5 @@
--- That just the texts of modules are read, and of other bytes the place is told up to which they begin one, or where a type or a
--- value begins that lies too deep.
+-- Exactly the texts of modules are read. For other bytes a place is given: up to which they begin one, or at which a type or a
+-- value is nested too deep.
 use Rattle.std.specs.Prelude.{◌≡◌, ℕ, ◌+◌, List, length}
 use Rattle.module_print.specs.Printed.{opening}
 use Rattle.module_grammar.specs.Verdicts.{Verdict, judged, Exact}
@@ -10,13 +10,13 @@ use Rattle.module_text.specs.Places.{placed_from}
 use Rattle.module_grammar.specs.ModuleReading.{module_at}
 use Rattle.module_grammar.specs.TypeDepth.{module_deep}
 
--- assignments in a text that begins at this place
+-- The assignments of a text that begins at this place.
 abbrev pub IsModuleHere : ℕ → List PlainAssignment → Type 0
 IsModuleHere place assignments = IsPlain assignments × (placed_from (place + length opening) assignments ≡ assignments)
 
 abbrev pub module_verdict : ℕ → List ℕ → Verdict (List PlainAssignment)
 module_verdict most bytes = judged (length bytes) (module_at most 0 bytes)
 
--- whatever number of types, and of values, may lie in one another
+-- The law, for each greatest nesting depth of types and of values.
 abbrev pub ModulesExact : Type 0
 ModulesExact = (most : ℕ) → Exact IsModuleHere (module_deep most) text_of (module_verdict most)

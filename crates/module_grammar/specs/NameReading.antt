@@ -1,4 +1,4 @@
--- Names, numbers, quoted texts and octets, read from the front of bytes.
+-- Reading names, numbers, quoted texts and octets at the beginning of bytes.
 use mathlib.Core.Logic.{inl, inr}
 use Rattle.std.specs.Prelude.{ℕ, ◌==◌, ◌⊎◌, Bool, not, List, [], ◌∷◌, ◌++◌, map, codes}
 use Rattle.base_texts.specs.Digits.{is_digit}
@@ -8,7 +8,7 @@ use Rattle.module_text.specs.Names.{is_capital, is_small, is_letter_or_digit, is
 use Rattle.module_text.specs.declared.bounds.PlainNumber.{PlainNumber}
 use Rattle.module_text.specs.declared.types.PlainName.{PlainName}
 
--- ---- names: a first letter, and then letters and digits, each behind a hyphen or not
+-- ---- names: a first letter, and then letters and digits, with or without a hyphen before each
 
 abbrev pub piece_at : Reader (ℕ ⊎ ℕ)
 piece_at = or_at (byte_at is_letter_or_digit) (behind_at (codes "-") (byte_at is_letter_or_digit))
@@ -37,7 +37,7 @@ name_here place name = record { at = place; name = name }
 abbrev pub plain_identifier_at : Reader PlainName
 plain_identifier_at = as_at name_here identifier_at
 
--- ---- numbers: digits, with `-` before them or without
+-- ---- numbers: digits, with or without a `-` at the beginning
 
 abbrev pub digits_of : ℕ → ℕ × List ℕ → List ℕ
 digits_of place x = x.0 ∷ x.1
@@ -58,7 +58,7 @@ number_here place written = record { at = place; written = written }
 abbrev pub number_at : Reader PlainNumber
 number_at = as_at number_here signed_at
 
--- ---- texts in quotation marks, of which those inside are doubled
+-- ---- texts in quotation marks; quotation marks inside are doubled
 
 abbrev pub is_plain_byte : ℕ → Bool
 is_plain_byte b = not (b == 34)
@@ -76,7 +76,7 @@ bytes_of place xs = map byte_of xs
 abbrev pub quoted_at : Reader (List ℕ)
 quoted_at = as_at bytes_of (behind_at (codes "\"") (before_at (many_at quoted_byte_at) (codes "\"")))
 
--- ---- octets, of two hexadecimal digits each
+-- ---- octets, each written as two hexadecimal digits
 
 abbrev pub octet_at : Reader (ℕ × ℕ)
 octet_at = then_at (byte_at is_hexadecimal_digit) (λ high. byte_at is_hexadecimal_digit)

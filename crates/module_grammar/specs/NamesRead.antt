@@ -1,4 +1,5 @@
--- That just the names, numbers, quoted texts, octets, bounds and constraints are read, and how far bytes begin one.
+-- Exactly the names, numbers, quoted texts, octets, bounds and constraints are read, and the number of bytes that begin one is
+-- given.
 use Rattle.std.specs.Prelude.{◌≡◌, true, codes}
 use Rattle.module_print.specs.Notation.{quoted, class_range}
 use Rattle.module_grammar.specs.Reading.{byte_at, word_at}

@@ -1,4 +1,4 @@
--- A small language, of which each reader is made: lines of an x in so many parentheses, each with the place at which it stands.
+-- A small language that uses each reader: lines of an x in parentheses, each with its place.
 use mathlib.Core.Logic.{inl, inr}
 use Rattle.std.specs.Prelude.{◌≡◌, ℕ, zero, suc, ◌⊎◌, ◌==◌, ◌||◌, Bool, Option, Some, None, List, ◌++◌, length, codes}
 use Rattle.std.specs.Option.{option_map}
@@ -8,12 +8,12 @@ use Rattle.module_grammar.specs.Verdicts.{Verdict, Exact, judged}
 
 -- ---- the language
 
--- in so many parentheses
+-- An x in this number of parentheses.
 abbrev pub nested : ℕ → List ℕ
 nested zero = codes "x"
 nested (suc levels) = codes "(" ++ (nested levels ++ codes ")")
 
--- the first node that has so many others around it
+-- The first node with this number of others around it.
 abbrev pub nested_deep : ℕ → ℕ → Option Sunk
 nested_deep zero levels = Some (record { at = 0; told = 1 })
 nested_deep (suc depth) zero = None
@@ -57,6 +57,6 @@ lines_at depth = many_at (line_at depth)
 abbrev pub verdict : ℕ → List ℕ → Verdict (List Line)
 verdict depth bs = judged (length bs) (lines_at depth 0 bs)
 
--- the readers' laws, of this language
+-- The law of readers, for this language.
 abbrev pub NestedExact : Type 0
 NestedExact = (depth : ℕ) → Exact (EachFine IsLine line_text) (each_deep line_text (line_deep depth)) (each_written line_text) (verdict depth)

@@ -1,17 +1,17 @@
--- Reading a text from the front of bytes: its value, and how many of the bytes begin such a text. Readers are put together of
--- readers of words and of single bytes, one after the other, one or the other, or any number of one.
+-- Reading a text at the beginning of bytes: its value, and how many of the bytes begin such a text. Readers are composed of readers
+-- of words and of single bytes: one after the other, one or the other, or any number of one.
 use mathlib.Core.Logic.{inl, inr}
 use Rattle.std.specs.Prelude.{ℕ, zero, suc, ◌+◌, ◌-◌, ◌==◌, Bool, List, [], ◌∷◌, length, drop, ◌⊎◌, if◌then◌else◌}
 
 pub data Answer (A : Type 0) : Type 0 where
-  -- a text stands at the front: its value, of how many bytes it is, and how many bytes at the front begin a text
+  -- A text is at the beginning: its value, its number of bytes, and how many of the first bytes begin a text.
   Found : A → ℕ → ℕ → Answer A
-  -- none does: how many bytes at the front begin one
+  -- No text is at the beginning: how many of the first bytes begin one.
   Fails : ℕ → Answer A
-  -- a node that lies too deep begins at this byte; and how many bytes told that
+  -- A node that is nested too deep begins at this byte, and how many of the first bytes show it.
   Deep : ℕ → ℕ → Answer A
 
--- of bytes that stand at this place of a whole
+-- The answer at a place, for the bytes from there on.
 abbrev pub Reader : Type 0 → Type 0
 Reader A = ℕ → List ℕ → Answer A
 
@@ -20,7 +20,7 @@ far (Found a taken n) = n
 far (Fails n) = n
 far (Deep at n) = n
 
--- the further of two places
+-- The later of two places.
 abbrev pub later : ℕ → ℕ → ℕ
 later m n = m + (n - m)
 
@@ -31,24 +31,24 @@ one_byte_more (Found x taken n) = Found x (suc taken) (suc n)
 one_byte_more (Fails n) = Fails (suc n)
 one_byte_more (Deep at n) = Deep (suc at) (suc n)
 
--- one word
+-- One word.
 abbrev pub word_at : List ℕ → Reader (Unit {0})
 word_at [] place bs = Found tt 0 0
 word_at (a ∷ word) place [] = Fails 0
 word_at (a ∷ word) place (b ∷ bs) = if b == a then one_byte_more (word_at word place bs) else Fails 0
 
--- one byte of a class
+-- One byte of a class.
 abbrev pub byte_at : (ℕ → Bool) → Reader ℕ
 byte_at is_one place [] = Fails 0
 byte_at is_one place (b ∷ bs) = if is_one b then Found b 1 1 else Fails 0
 
--- no byte
+-- No byte.
 abbrev pub nothing_at : Reader (Unit {0})
 nothing_at place bs = Found tt 0 0
 
 -- ---- one after the other
 
--- behind a first part of so many bytes, which bytes so far told
+-- The answer for two parts, the first of which has `taken` bytes. So far n of the first bytes begin a text.
 abbrev pub behind : {A B : Type 0} → A → ℕ → ℕ → Answer B → Answer (A × B)
 behind a taken n (Found b more m) = Found (a, b) (taken + more) (later n (taken + m))
 behind a taken n (Fails m) = Fails (later n (taken + m))
@@ -59,7 +59,7 @@ go_on next place bs (Found a taken n) = behind a taken n (next a (place + taken)
 go_on next place bs (Fails n) = Fails n
 go_on next place bs (Deep at n) = Deep at n
 
--- the second may depend on the value of the first
+-- One reader after the other. The second may depend on the value of the first.
 abbrev pub then_at : {A B : Type 0} → Reader A → (A → Reader B) → Reader (A × B)
 then_at first next place bs = go_on next place bs (first place bs)
 
@@ -75,7 +75,7 @@ or_else other (Found a taken n) = Found (inl a) taken n
 or_else other (Fails n) = failed_before n other
 or_else other (Deep at n) = Deep at n
 
--- the first, or the second where the first fails
+-- The first reader, or the second if the first fails.
 abbrev pub or_at : {A B : Type 0} → Reader A → Reader B → Reader (A ⊎ B)
 or_at first second place bs = or_else (second place bs) (first place bs)
 
@@ -91,7 +91,7 @@ one_more others place bs (Found a taken n) = cons_at a taken n (others (place + 
 one_more others place bs (Fails n) = Found [] 0 n
 one_more others place bs (Deep at n) = Deep at n
 
--- as many as there are, at most so many
+-- All that there are, up to the given number.
 abbrev pub up_to : {A : Type 0} → Reader A → ℕ → Reader (List A)
 up_to read zero place bs = Found [] 0 0
 up_to read (suc k) place bs = one_more (up_to read k) place bs (read place bs)
@@ -106,7 +106,7 @@ answer_map f (Found a taken n) = Found (f a) taken n
 answer_map f (Fails n) = Fails n
 answer_map f (Deep at n) = Deep at n
 
--- which may have the place of the text in it
+-- The value in another form, which may contain the place of the text.
 abbrev pub as_at : {A B : Type 0} → (ℕ → A → B) → Reader A → Reader B
 as_at f read place bs = answer_map (f place) (read place bs)
 
@@ -125,6 +125,6 @@ sunk (Found a taken n) = Deep 0 n
 sunk (Fails n) = Fails n
 sunk (Deep at n) = Deep at n
 
--- where a node would begin that lies too deep: what tells one is read, and no more of it
+-- Reading at a place where a node would be nested too deep: only what shows the node is read.
 abbrev pub sunk_at : {A B : Type 0} → Reader A → Reader B
 sunk_at opening place bs = sunk (opening place bs)

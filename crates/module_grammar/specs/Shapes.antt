@@ -1,27 +1,27 @@
--- What holds of texts put together of others, how they are written, and where in them a node lies too deep.
+-- Texts that are composed of others: what holds of their values, how they are written, and where a node in them is nested too deep.
 use mathlib.Core.Logic.{inl, inr}
 use Rattle.std.specs.Prelude.{ℕ, ◌+◌, ◌⊎◌, ⊤, Option, Some, None, List, [], ◌∷◌, ◌++◌, length}
 use Rattle.std.specs.Option.{option_map}
 use Rattle.module_grammar.specs.Reading.{Answer, Found, Fails, Deep, Reader}
 
--- a node that lies too deep: the byte of the text at which it begins, and how many bytes of the text tell that it does
+-- A node that is nested too deep: the byte of the text at which it begins, and how many bytes of the text show it.
 pub record Sunk : Type 0 where
   pub at : ℕ
   pub told : ℕ
 
--- behind so many bytes
+-- The node, after `size` bytes more.
 abbrev pub moved : ℕ → Sunk → Sunk
 moved size s = record { at = size + s.at; told = size + s.told }
 
--- any value, at any place
+-- Any value is allowed, at any place.
 abbrev pub Anything : {A : Type 0} → ℕ → A → Type 0
 Anything place a = ⊤
 
--- any bytes
+-- Any bytes may follow.
 abbrev pub AnyRest : List ℕ → Type 0
 AnyRest rest = ⊤
 
--- no node is too deep
+-- No node is nested too deep.
 abbrev pub never : {A : Type 0} → A → Option Sunk
 never a = None
 
@@ -33,12 +33,12 @@ IsFailed (Found a size n) = ⊥
 IsFailed (Fails n) = ⊤
 IsFailed (Deep at n) = ⊥
 
--- in the first, or else in what stands behind these bytes
+-- The node in the first text, or else the node in the text after these bytes.
 abbrev pub deeper : ℕ → Option Sunk → Option Sunk → Option Sunk
 deeper size None other = option_map (moved size) other
 deeper size (Some s) other = Some s
 
--- the second stands behind the text of the first
+-- The second text follows the text of the first value.
 abbrev pub BothFine : {A B : Type 0} → (ℕ → A → Type 0) → (A → List ℕ) → (A → ℕ → B → Type 0) → ℕ → A × B → Type 0
 BothFine FineA writeA FineB place x = FineA place x.0 × FineB x.0 (place + length (writeA x.0)) x.1
 
@@ -72,7 +72,7 @@ abbrev pub each_deep : {A : Type 0} → (A → List ℕ) → (A → Option Sunk)
 each_deep write deep [] = None
 each_deep write deep (a ∷ xs) = deeper (length (write a)) (deep a) (each_deep write deep xs)
 
--- behind a word
+-- The text follows a word.
 abbrev pub BehindFine : {A : Type 0} → List ℕ → (ℕ → A → Type 0) → ℕ → A → Type 0
 BehindFine word Fine place a = Fine (place + length word) a
 
@@ -85,11 +85,11 @@ behind_word word write a = word ++ write a
 abbrev pub before_word : {A : Type 0} → (A → List ℕ) → List ℕ → A → List ℕ
 before_word write word a = write a ++ word
 
--- what no text of a reader begins
+-- The reader reads no text at the beginning of these bytes.
 abbrev pub IsUnread : {A : Type 0} → Reader A → List ℕ → Type 0
 IsUnread read rest = (place : ℕ) → IsFailed (read place rest)
 
--- an item may be followed by another, and the last by what no item begins
+-- These bytes may follow the last item: they may follow an item, and no item begins them.
 pub record Stops {A : Type 0} (FollowItem : List ℕ → Type 0) (read : Reader A) (rest : List ℕ) : Type 0 where
   pub item : FollowItem rest
   pub fails : IsUnread read rest

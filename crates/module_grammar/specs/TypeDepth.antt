@@ -1,5 +1,6 @@
--- Where in the text of a type the first begins that has so many others around it, or a value that lies too deep, and what tells
--- that: of a type its first encoding instruction up to the bracket, or else the first letter of its word.
+-- Where in the text of a type the first node begins that is nested too deep, and what shows it. The node is a type or a value with
+-- this number of others around it. A type is shown by its first encoding instruction up to the bracket, or else by the first letter
+-- of its word.
 use Rattle.std.specs.Prelude.{ℕ, zero, suc, ◌-◌, Option, Some, None, List, [], ◌∷◌, ◌++◌, length, codes}
 use Rattle.std.specs.Option.{option_map}
 use Rattle.base_trees.specs.Rose.{node, Roses, none, more, list_of}
@@ -19,7 +20,7 @@ abbrev pub start_told : List TypeMark → ℕ
 start_told [] = 1
 start_told (m ∷ ms) = length (type_mark_text m.kind) - 1
 
--- parts with their types
+-- Parts with their types.
 abbrev pub paired : List PlainPart → List Typed → List TypedPart
 paired [] types = []
 paired (part ∷ parts) [] = []
@@ -28,15 +29,15 @@ paired (part ∷ parts) (t ∷ types) = (part, t) ∷ paired parts types
 abbrev pub typed_part_text : ℕ → TypedPart → List ℕ
 typed_part_text levels x = part_text x.0 (part_marks_text x.0.marks ++ type_text levels x.1)
 
--- with the depth of types in parts
+-- The node in parts, where `deep` gives the node in a type.
 module _ (most levels : ℕ) (deep : Typed → Option Sunk) where
-  -- of a part whose type stands on lines of this level
+  -- The node in a part whose type is on lines of this level.
   abbrev pub part_deep : TypedPart → Option Sunk
   part_deep x = option_map (moved (length (labelled x.0.identifier)))
       (option_map (moved (length (part_marks_text x.0.marks)))
       (deeper (length (type_text levels x.1)) (deep x.1) (option_map (moved (length (fixed_text x.0.fixed))) (absence_deep most x.0.absence))))
 
--- of a block, behind the word
+-- The node in a block, after the word.
 abbrev pub block_deep : ℕ → ℕ → (Typed → Option Sunk) → List PlainPart → Roses PlainLabel → Option Sunk
 block_deep most levels deep parts types = shifted (opening levels) (listed_deep (between levels) (typed_part_text (suc levels)) (part_deep most (suc levels) deep)) (paired parts (list_of types))
 
@@ -44,7 +45,7 @@ abbrev pub item_deep : ℕ → ℕ → (Typed → Option Sunk) → PlainPart →
 item_deep most levels deep part none = None
 item_deep most levels deep part (more t types) = part_deep most levels deep (part, t)
 
--- of a form, behind its word
+-- The node in a form, after its word.
 abbrev pub tail_deep : ℕ → ℕ → (Typed → Option Sunk) → (Typed → Option Sunk) → PlainForm → Roses PlainLabel → Option Sunk
 tail_deep most levels here inside (form.Sequence parts) types = block_deep most levels inside parts types
 tail_deep most levels here inside (form.Choice parts) types = block_deep most levels inside parts types

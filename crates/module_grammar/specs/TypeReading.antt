@@ -1,4 +1,4 @@
--- Types, read from the front of bytes: on lines that are indented by so many levels, with so many in one another at most.
+-- Reading types at the beginning of bytes, on lines of one level of indentation, with a greatest nesting depth.
 use mathlib.Core.Logic.{inl, inr}
 use Rattle.std.specs.Prelude.{ℕ, zero, suc, ◌⊎◌, Option, None, List, [], ◌++◌, map, codes, bytes_eq, if◌then◌else◌}
 use Rattle.base_trees.specs.Rose.{Rose, node, Roses, none, more, roses_of}
@@ -40,7 +40,7 @@ label_at = before_at identifier_at (codes " ")
 abbrev pub component_of : ℕ → List ℕ × (List PartMark × (Typed × (Option PlainOctets × Absence))) → TypedPart
 component_of place x = (record { at = place; identifier = x.0; marks = x.1.0; fixed = x.1.1.1.0; absence = x.1.1.1.1 }, x.1.1.0)
 
--- with so many values in one another at most
+-- What follows the type of a component. At most `most` values are nested.
 abbrev pub ending_at : ℕ → Reader (Option PlainOctets × Absence)
 ending_at most = then_at fixed_at (absence_at most)
 
@@ -88,7 +88,7 @@ numbered_at = as_at numbered_of (then_at (before_at plain_identifier_at (codes "
 abbrev pub enumerated_at : {A : Type 0} → Reader A → Reader (List A)
 enumerated_at item = behind_at (codes " { ") (before_at (listed_at (codes ", ") item) (codes " }"))
 
--- ---- what stands behind a word, with the word
+-- ---- what follows a word, with the word
 
 abbrev pub Form : Type 0
 Form = PlainForm × Roses PlainLabel
@@ -148,7 +148,7 @@ sequence_of word place (inr (inl parts)) = (form.Sequence (parts_of parts), kids
 sequence_of word place (inr (inr (inl x))) = (form.SequenceOf x.0 x.1.0, more x.1.1 none)
 sequence_of word place (inr (inr (inr x))) = (form.Ref word, none)
 
--- with readers of types on lines of this level, and of the next
+-- The form that follows a word, with readers of types on lines of this level, and of the next.
 abbrev pub tail_at : ℕ → ℕ → Reader Typed → Reader Typed → PlainName → Word → Reader Form
 tail_at most levels here inside word Boolean = as_at bool_of nothing_at
 tail_at most levels here inside word Integer = as_at int_of number_range_at
@@ -175,7 +175,7 @@ typed_of place x = node (record { at = place; marks = x.0; form = x.1.0 }) x.1.1
 abbrev pub typed_at : ℕ → ℕ → Reader Typed → Reader Typed → Reader Typed
 typed_at most levels here inside = as_at typed_of (then_at type_marks_at (λ marks. form_at most levels here inside))
 
--- a type is told by its first mark, or else by the first letter of its word
+-- A type is shown by its first instruction, or else by the first letter of its word.
 abbrev pub start_at : Reader (TypeMarkKind ⊎ ℕ)
 start_at = or_at own_mark_at (byte_at is_capital)
 

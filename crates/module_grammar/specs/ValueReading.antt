@@ -1,4 +1,4 @@
--- Values behind DEFAULT, read from the front of bytes, with so many in one another at most.
+-- Reading values after DEFAULT at the beginning of bytes, with a greatest nesting depth.
 use mathlib.Core.Logic.{inl, inr}
 use Rattle.std.specs.Prelude.{ℕ, zero, suc, ◌⊎◌, ◌==◌, Bool, ◌||◌, Option, Some, None, List, ◌∷◌, codes}
 use Rattle.base_trees.specs.Rose.{Rose, node, none, more, roses_of}
@@ -13,7 +13,7 @@ use Rattle.module_text.specs.declared.values.Absence.{Absence}
 use Rattle.module_text.specs.declared.values.Absence.TheVariants as absence
 use Rattle.module_grammar.specs.NameReading.{identifier_at, signed_at, quoted_at}
 
--- ---- items of a list, with a comma and a space between two
+-- ---- items of a list, with a comma and a space between each two
 
 abbrev pub listed_of : {A : Type 0} → ℕ → A × List A → List A
 listed_of place x = x.0 ∷ x.1
@@ -42,7 +42,7 @@ value_of place (inr (inr (inr (inr (inr (inl vs)))))) = node (label place value.
 value_of place (inr (inr (inr (inr (inr (inr (inl x))))))) = node (label place (value.Chosen x.0)) (more x.1 none)
 value_of place (inr (inr (inr (inr (inr (inr (inr identifier))))))) = node (label place (value.Item identifier)) none
 
--- with a reader of the values inside
+-- Values in braces, with a reader of the nested values.
 abbrev pub braced_at : Reader (Rose PlainValueLabel) → Reader Values
 braced_at inside = behind_at (codes "{ ") (before_at (listed_at (codes ", ") inside) (codes " }"))
 
@@ -58,7 +58,7 @@ one_value_at inside =
     (or_at (word_at (codes "{}"))
     (or_at (braced_at inside) (or_at (chosen_at inside) identifier_at))))))
 
--- the first bytes of values
+-- A value may begin with this byte.
 abbrev pub is_value_first : ℕ → Bool
 is_value_first b = b == 84 || (b == 70 || (b == 45 || (is_digit b || (b == 34 || (b == 123 || is_small b)))))
 
@@ -66,9 +66,9 @@ abbrev pub value_at : ℕ → Reader (Rose PlainValueLabel)
 value_at zero = sunk_at (byte_at is_value_first)
 value_at (suc depth) = as_at value_of (one_value_at (value_at depth))
 
--- ---- what is said of a part where it is absent
+-- ---- what follows a part that may be absent
 
--- with so many values in one another at most
+-- DEFAULT and a value. At most `most` values are nested.
 abbrev pub default_at : ℕ → Reader (Rose PlainValueLabel)
 default_at most = behind_at (codes " DEFAULT ") (value_at most)
 
@@ -80,7 +80,7 @@ abbrev pub free_absence : ℕ → Unit {0} ⊎ (Rose PlainValueLabel ⊎ Unit {0
 free_absence place (inl x) = absence.Optional
 free_absence place (inr x) = fixed_absence place x
 
--- OPTIONAL stands where there is no fixed value
+-- OPTIONAL appears only without a fixed value.
 abbrev pub absence_at : ℕ → Option PlainOctets → Reader Absence
 absence_at most (Some octets) = as_at fixed_absence (or_at (default_at most) nothing_at)
 absence_at most None = as_at free_absence (or_at (word_at (codes " OPTIONAL")) (or_at (default_at most) nothing_at))

@@ -1,4 +1,4 @@
--- That just the values are read, and that the first that lies too deep is told.
+-- Exactly the values are read, and the first that is nested too deep is given.
 use Rattle.std.specs.Prelude.{◌≡◌, ℕ}
 use Rattle.module_grammar.specs.Laws.{Early}
 use Rattle.module_text.specs.Plain.{IsValue}

@@ -1,4 +1,4 @@
--- What whole bytes are: a text, or not, and then from which place on; or too deep.
+-- What all bytes are: a text, or no text from some place on, or nested too deep.
 use Rattle.std.specs.Prelude.{◌≡◌, ◌==◌, ℕ, Option, None, List, if◌then◌else◌}
 use Rattle.module_grammar.specs.Reading.{Answer, Found, Fails, Deep}
 use Rattle.module_grammar.specs.Shapes.{Sunk}
@@ -14,8 +14,8 @@ judged len (Found a size n) = if size == len then Read a else Syntax n
 judged len (Fails n) = Syntax n
 judged len (Deep at n) = TooDeep at
 
--- exactly the texts without a node that lies too deep are read; of other bytes the place is told where such a node begins, if
--- they begin a text up to what tells it, or else how many of them begin a text
+-- Exactly the texts without a node that is nested too deep are read. If the bytes begin a text up to what shows such a node, its
+-- place is given. Of all others the number of bytes is given that begin a text.
 pub record Exact {A : Type 0} (Fine : ℕ → A → Type 0) (deep : A → Option Sunk) (write : A → List ℕ) (verdict : List ℕ → Verdict A) : Type 0 where
   pub reads : (bs : List ℕ) (a : A) → Fine 0 a → deep a ≡ None → write a ≡ bs → verdict bs ≡ Read a
   pub read : (bs : List ℕ) (a : A) → verdict bs ≡ Read a → Fine 0 a × (deep a ≡ None) × (write a ≡ bs)

@@ -5,34 +5,34 @@ ghost use Rattle.module_grammar.specs.ModulesRead.{ModulesExact};
 ghost use Rattle.module_grammar.specs.MarksRead.{MarksRead};
 ghost use Rattle.module_grammar.specs.ValuesRead.{ValuesSink};
 
-/// Just the names, numbers, quoted texts and octets are read, each as far as it goes.
+/// States that exactly the names, numbers, quoted texts and octets are read, each in full.
 pub fn names_are_read()
     ensures { NamesRead }
 {}
 
-/// Just the bounds and constraints are read.
+/// States that exactly the bounds and constraints are read.
 pub fn bounds_are_read()
     ensures { BoundsRead }
 {}
 
-/// Just the values are read, and the first that lies too deep is told.
+/// States that exactly the values are read, and that the first that is nested too deep is given.
 pub fn values_are_read()
     ensures { ValuesSink }
 {}
 
-/// Just the encoding instructions are read, in the order of their ranks.
+/// States that exactly the encoding instructions are read, in the order of their ranks.
 pub fn marks_are_read()
     ensures { MarksRead }
 {}
 
-/// Of all bytes exactly the texts of modules are read, and of other bytes the place is told up to which they begin one, or at
-/// which a type or a value begins that lies too deep.
+/// States that exactly the texts of modules are read. For other bytes a place is given: up to which they begin one, or at which a
+/// type or a value is nested too deep.
 pub fn modules_are_read()
     ensures { ModulesExact }
 {}
 
-/// What the reader tells of bytes is what the grammar says of them: they are the text of assignments; or they stop being one
-/// behind their longest front that begins one; or something in them lies too deep.
+/// States that the reader gives of bytes what the grammar states of them. They are the text of assignments, or only a longest
+/// prefix of them begins one, or something in them is nested too deep.
 pub fn texts_are_read()
     ensures { AllTextsRead }
 {}

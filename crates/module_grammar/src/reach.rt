@@ -6,35 +6,36 @@ ghost use Rattle.module_grammar.specs.declared.reach.Stop.TheVariants as stop;
 
 use std::alloc::{AllocError, AllocFailed};
 
-/// How many bytes are read, and how many were looked at that begin a text.
+/// How many bytes are read, and how many of those tried begin a text.
 #[derive(Clone, Copy, Debug)]
 pub struct Reach {
     /// The place of the next byte.
     pub at: usize,
-    /// The longest front so far that begins a text, of those that were tried.
+    /// The longest prefix so far that begins a text, of those that were tried.
     pub far: usize,
 }
 
 /// Why nothing is read.
 #[derive(Debug, Drop)]
 pub enum Stop {
-    /// No text stands here.
+    /// No text is at this place.
     Fails {
-        /// The longest front that begins one.
+        /// The longest prefix that begins one.
         far: usize,
     },
-    /// A node begins that lies too deep.
+    /// A node that is nested too deep begins.
     Deep {
-        /// Its first byte.
+        /// The offset of its first byte.
         at: usize,
         far: usize,
     },
-    /// For want of memory.
+    /// An allocation failed.
     Memory,
 }
 
 impl Stop {
-    /// The longest front that begins a text, where none stands here; else the stop itself.
+    /// Returns the longest prefix that begins a text, if no text is at this place. Otherwise it returns the stop itself as the
+    /// error.
     pub fn failed(self) -> Result<usize, Stop>
         ensures { MatchResult result (λ far. self ≡ stop.Fails far) (λ other. (other ≡ self) × IsFinal other) }
     {
@@ -62,7 +63,7 @@ impl<T: Drop> From<AllocFailed<T>> for Stop {
     }
 }
 
-/// The further of two places.
+/// Returns the later of two places.
 pub fn later(a: usize, b: usize) -> usize
     ensures { result ≡ reading.later a b }
 {

@@ -1,8 +1,8 @@
-//! The law of readers at a small language that has each of them.
+//! The law of readers, for a small language that uses each of them.
 ghost use Rattle.module_grammar.specs.Nested.{NestedExact};
 
-/// Of all bytes exactly the texts are read, and of other bytes the place is told up to which they begin one, or at which a node
-/// begins that lies too deep.
+/// States that exactly the texts are read. For other bytes a place is given: up to which they begin one, or at which a node is
+/// nested too deep.
 pub fn nested_exact()
     ensures { NestedExact }
 {}

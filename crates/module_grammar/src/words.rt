@@ -5,7 +5,7 @@ ghost use Rattle.module_grammar.specs.Reached.{reading, Passes, PassesWithin};
 
 use crate::reach::{Reach, Stop, later};
 
-/// This word, from a place of these bytes on.
+/// Reads this word, from a place of these bytes on.
 pub fn word(text: &[u8], bytes: &[u8], from: Reach) -> Result<Reach, Stop>
     requires { from.at ≤ length bytes.now }
     ensures value { Passes result (reading (word_at text.now) bytes.now from) }

@@ -14,8 +14,8 @@ LeastIsFirst =
     (bytes : List ℕ) (assignments : List PlainAssignment) → IsTextOf bytes assignments
     → (f : TextFault) → (first (faults assignments) ≡ Some f) ↔ IsLeast (faults assignments) f
 
--- A text without a fault is the print of the module that it tells, which is printable: of as many bytes as a number of 32 bits
--- counts, since no module has more assignments, and no type more parts.
+-- A text without a fault is the print of its module, which is printable. This is stated for fewer than 2^32 bytes, because no
+-- module has more assignments, and no type more parts.
 abbrev pub NoFaultIsPrintable : Type 0
 NoFaultIsPrintable =
     (bytes : List ℕ) (assignments : List PlainAssignment) → length bytes < 2 ^ 32 → IsTextOf bytes assignments

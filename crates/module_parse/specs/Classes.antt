@@ -1,4 +1,4 @@
--- Bytes that are told apart.
+-- Classes of bytes.
 use Rattle.std.specs.Prelude.{ℕ, Bool}
 use Rattle.module_text.specs.Names.{is_small, is_capital, is_letter_or_digit, is_hexadecimal_digit}
 use Rattle.module_grammar.specs.NameReading.{is_plain_byte}

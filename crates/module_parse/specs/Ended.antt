@@ -1,4 +1,4 @@
--- Parts with what is said of them behind their types.
+-- Parts with the fixed value and the absence that follow their types.
 use Rattle.std.specs.Prelude.{◌≡◌, ℕ, List, Result, Ok, Err}
 use Rattle.module_grammar.specs.declared.reach.Reach.{Reach}
 use Rattle.module_grammar.specs.declared.reach.Stop.{Stop}

@@ -1,4 +1,4 @@
--- The readers of what the code reads at once.
+-- The readers of what the code reads in one step.
 use mathlib.Core.Logic.{inl, inr}
 use Rattle.std.specs.Prelude.{◌≡◌, ℕ, ◌⊎◌, Option, None, List, [], ◌∷◌, ◌++◌, map, codes, Vec, Result, Ok, Err}
 use Rattle.std.specs.Global.{Global}
@@ -81,7 +81,7 @@ type_kind_at type_rank.Text = mark.text_mark_at
 abbrev pub type_mark_at : TypeRank → Reader TypeMark
 type_mark_at rank = mark.one_type_mark_at (type_kind_at rank)
 
--- as many as there are of each rank
+-- Any number of each of these ranks, in their order.
 abbrev pub ranks_at : {K M : Type 0} → (K → Reader M) → List K → Reader (List M)
 ranks_at one [] = mark.no_marks_at
 ranks_at one (rank ∷ ranks) = mark.ranked_at (one rank) (ranks_at one ranks)
@@ -89,14 +89,14 @@ ranks_at one (rank ∷ ranks) = mark.ranked_at (one rank) (ranks_at one ranks)
 abbrev pub part_ranks : List PartRank
 part_ranks = part_rank.Attribute ∷ part_rank.Untagged ∷ part_rank.Name ∷ part_rank.Namespace ∷ []
 
--- those of a type before TEXT
+-- The ranks of the instructions of a type that precede TEXT.
 abbrev pub earlier_ranks : List TypeRank
 earlier_ranks = type_rank.UseNil ∷ type_rank.EmbedValues ∷ type_rank.UseOrder ∷ type_rank.List ∷ type_rank.UseUnion ∷ type_rank.UseNumber ∷ type_rank.WhiteSpace ∷ []
 
 abbrev pub type_ranks : List TypeRank
 type_ranks = earlier_ranks ++ type_rank.Text ∷ []
 
--- one of these, or TEXT
+-- One instruction of these ranks, or TEXT.
 abbrev pub or_ranks_at : List TypeRank → Reader TypeMarkKind
 or_ranks_at [] = type_kind_at type_rank.Text
 or_ranks_at (rank ∷ ranks) = mark.or_kind_at (type_kind_at rank) (or_ranks_at ranks)
@@ -109,7 +109,7 @@ LateValue = Unit {0} ⊎ (Values ⊎ ((List ℕ × Rose PlainValueLabel) ⊎ Lis
 abbrev pub late_value_of : ℕ → LateValue → Rose PlainValueLabel
 late_value_of place x = value_of place (inr (inr (inr (inr x))))
 
--- a value that is no word, no number and no text
+-- A value that is not TRUE, FALSE, a number or a text.
 abbrev pub late_value_at : Reader (Rose PlainValueLabel) → Reader (Rose PlainValueLabel)
 late_value_at inside = as_at late_value_of (or_at (word_at (codes "{}")) (or_at (braced_at inside) (or_at (chosen_at inside) identifier_at)))
 
@@ -147,7 +147,7 @@ int_form place r = form.Int r
 abbrev pub text_form : ℕ → Option PlainEnds × Class → PlainForm
 text_form place x = form.Utf8 x.0 x.1
 
--- of a type without types in it, behind its word
+-- A form without nested types, after its word.
 abbrev pub simple_form_at : PlainName → Word → Reader PlainForm
 simple_form_at name word.Boolean = as_at bool_form nothing_at
 simple_form_at name word.Integer = as_at int_form number_range_at
@@ -165,7 +165,7 @@ abbrev pub ReadsEnding : ℕ → Sort → List ℕ → Reach → Result ((Option
 ReadsEnding most sort.Component bytes from result = Reads (type.ending_at most) bytes from result
 ReadsEnding most sort.Alternative bytes from result = result ≡ Ok ((None, absence.Never), from)
 
--- the types of the parts as the code keeps them
+-- The types of the parts as the code keeps them.
 abbrev pub Kids : Type 0
 Kids = Vec type.Typed Global
 

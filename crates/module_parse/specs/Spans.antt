@@ -1,4 +1,4 @@
--- What is read where only its bytes count.
+-- What is read if only its bytes matter.
 use Rattle.std.specs.Prelude.{◌≡◌, ℕ, ◌-◌, ◌≤◌, ⊤, List, take, drop, length, Result, Ok, Err}
 use Rattle.module_grammar.specs.declared.reach.Reach.{Reach}
 use Rattle.base_texts.specs.Digits.{is_digit}
@@ -7,11 +7,11 @@ use Rattle.module_grammar.specs.Reached.{reading}
 use Rattle.module_grammar.specs.declared.reach.Stop.{Stop}
 use Rattle.module_grammar.specs.declared.reach.Stop.TheVariants as stop
 
--- the bytes from the one place up to the other
+-- The bytes from one place up to another.
 abbrev pub between : List ℕ → ℕ → ℕ → List ℕ
 between bytes start end = take (end - start) (drop start bytes)
 
--- The bytes between are read.
+-- The bytes between the places are read.
 abbrev pub Spans : Reader (List ℕ) → List ℕ → Reach → Reach → Type 0
 Spans read bytes from to = reading read bytes from ≡ Ok (between bytes from.at to.at, to)
 
@@ -21,7 +21,7 @@ Lies bytes from to = (from.at ≤ to.at) × (to.at ≤ length bytes)
 abbrev pub digits_at : Reader (List ℕ)
 digits_at = many_at (byte_at is_digit)
 
--- The bytes between are read, or nothing.
+-- The bytes between the places are read, or nothing.
 abbrev pub GivesSpan : Reader (List ℕ) → List ℕ → Reach → Result Reach Stop → Type 0
 GivesSpan read bytes from (Ok to) = Spans read bytes from to
 GivesSpan read bytes from (Err (stop.Fails far)) = reading read bytes from ≡ Err (stop.Fails far)

@@ -11,7 +11,7 @@ use module_text::{PlainEnds, PlainNumber, PlainOctets, PlainRange};
 use simple_types::Class;
 use std::alloc::Global;
 
-// The greatest bound, behind two points.
+// The greatest bound, after two points.
 #[derive(Drop)]
 enum UpperBound {
     Number { number: PlainNumber },
@@ -44,7 +44,7 @@ fn ends_of(least: PlainNumber, greatest: UpperBound) -> PlainEnds
     }
 }
 
-/// The bounds of a number or a size.
+/// Reads the bounds of a number or a size.
 pub fn ends(alloc: Global, bytes: &[u8], from: Reach) -> Result<(PlainEnds, Reach), Stop>
     requires { from.at ≤ length bytes.now }
     ensures value { Reads ends_at bytes.now from result }
@@ -60,7 +60,7 @@ pub fn ends(alloc: Global, bytes: &[u8], from: Reach) -> Result<(PlainEnds, Reac
     }
 }
 
-/// The bounds of an INTEGER.
+/// Reads the bounds of an INTEGER.
 pub fn range(alloc: Global, bytes: &[u8], from: Reach) -> Result<(PlainRange, Reach), Stop>
     requires { from.at ≤ length bytes.now }
     ensures value { Reads range_at bytes.now from result }
@@ -90,7 +90,7 @@ fn range_in_parentheses(
     Ok((range, next))
 }
 
-/// What stands behind INTEGER.
+/// Reads the constraint after INTEGER, if there is one.
 pub fn number_range(
     alloc: Global,
     bytes: &[u8],
@@ -114,7 +114,7 @@ fn size_in_parentheses(alloc: Global, bytes: &[u8], from: Reach) -> Result<(Plai
     Ok((size, next))
 }
 
-/// A size, if there is one.
+/// Reads a size, if there is one.
 pub fn size(alloc: Global, bytes: &[u8], from: Reach) -> Result<(Option<PlainEnds>, Reach), Stop>
     requires { from.at ≤ length bytes.now }
     ensures value { Reads size_at bytes.now from result }
@@ -123,7 +123,7 @@ pub fn size(alloc: Global, bytes: &[u8], from: Reach) -> Result<(Option<PlainEnd
     optional(from, size_in_parentheses(alloc, bytes, from))
 }
 
-// The class of a text, where it is told.
+// Reads the class of a text, which is named.
 fn named_class(bytes: &[u8], from: Reach) -> Result<(Class, Reach), Stop>
     requires { from.at ≤ length bytes.now }
     ensures value { Reads named_class_at bytes.now from result }
@@ -145,7 +145,7 @@ fn named_class(bytes: &[u8], from: Reach) -> Result<(Class, Reach), Stop>
     Ok((Class::NcName, next))
 }
 
-/// The class of a text.
+/// Reads the class of a text. Without a name it is that of any text.
 pub fn class(bytes: &[u8], from: Reach) -> Result<(Class, Reach), Stop>
     requires { from.at ≤ length bytes.now }
     ensures value { Reads class_at bytes.now from result }
@@ -160,7 +160,7 @@ pub fn class(bytes: &[u8], from: Reach) -> Result<(Class, Reach), Stop>
     }
 }
 
-// Octets, where they stand.
+// Reads octets at this place.
 fn octets_here(alloc: Global, bytes: &[u8], from: Reach) -> Result<(PlainOctets, Reach), Stop>
     requires { from.at ≤ length bytes.now }
     ensures value { Reads octets_here_at bytes.now from result }
@@ -187,7 +187,7 @@ fn octets_in_comment(alloc: Global, bytes: &[u8], from: Reach) -> Result<(PlainO
     Ok((octets, next))
 }
 
-/// A fixed value, if there is one.
+/// Reads a fixed value, if there is one.
 pub fn fixed(alloc: Global, bytes: &[u8], from: Reach) -> Result<(Option<PlainOctets>, Reach), Stop>
     requires { from.at ≤ length bytes.now }
     ensures value { Reads fixed_at bytes.now from result }

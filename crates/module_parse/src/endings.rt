@@ -1,4 +1,4 @@
-//! What stands behind the type of a component.
+//! The fixed value and the absence that follow the type of a component.
 ghost use Rattle.std.specs.Prelude.{◌≤◌, length};
 ghost use Rattle.module_parse.specs.Reads.{Reads, Stays, Moves};
 ghost use Rattle.module_parse.specs.Readers.{fixed_absence_at};
@@ -27,7 +27,7 @@ fn default(
     value(alloc, depth, bytes, next)
 }
 
-// Where there is a fixed value.
+// Reads the absence of a component that has a fixed value.
 fn fixed_absence(
     alloc: Global,
     depth: u32,
@@ -47,7 +47,7 @@ fn fixed_absence(
     }
 }
 
-// OPTIONAL stands where there is no fixed value.
+// Reads the absence of a component. OPTIONAL appears only without a fixed value.
 fn absence(
     alloc: Global,
     depth: u32,
@@ -69,7 +69,7 @@ fn absence(
     fixed_absence(alloc, depth, bytes, other)
 }
 
-/// A fixed value, and what is said of absence, with so many values in one another at most.
+/// Reads a fixed value and the absence. At most `most` values are nested.
 pub fn ending(
     alloc: Global,
     most: u32,

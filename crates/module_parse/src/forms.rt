@@ -1,4 +1,4 @@
-//! Types, with so many in one another at most, on lines that are indented by so many levels.
+//! Types on lines of one level of indentation, with a greatest nesting depth.
 ghost use Rattle.std.specs.Prelude.{◌≡◌, ◌++◌, ◌≤◌, ◌+◌, ◌<◌, ◌^◌, length, suc};
 ghost use Rattle.module_grammar.specs.Reading.{behind_at};
 ghost use Rattle.module_print.specs.Notation.{new_line};
@@ -26,7 +26,7 @@ use std::alloc::Global;
 
 type TypeTree = Tree<PlainLabel>;
 
-// The words with which types begin that are no references, and all others.
+// The words with which types begin that are not references, and all others.
 #[derive(Clone, Copy)]
 enum Word {
     Boolean,
@@ -59,14 +59,14 @@ fn word_of(name: &Text) -> Word
     }
 }
 
-// What stands in a block: the components of a SEQUENCE or the alternatives of a CHOICE.
+// The kind of the parts in a block: the components of a SEQUENCE or the alternatives of a CHOICE.
 #[derive(Clone, Copy)]
 enum Sort {
     Component,
     Alternative,
 }
 
-// How many values, and how many types, lie in one another at most from here on, and the level of the lines.
+// The greatest nesting depth of values, that of types from here on, and the level of the lines.
 #[derive(Clone, Copy)]
 struct Room {
     most: u32,
@@ -74,7 +74,7 @@ struct Room {
     levels: usize,
 }
 
-// A type without types in it.
+// Reads a form without nested types.
 fn simple_form(
     alloc: Global,
     word: Word,
@@ -102,7 +102,7 @@ fn simple_form(
     }
 }
 
-// Reads the form into a box. Types nest, so each level is to take little of the stack.
+// Reads the form into a box. Types nest, so each level must use little stack.
 #[inline(never)]
 fn boxed_form(
     alloc: Global,
@@ -119,7 +119,7 @@ fn boxed_form(
     Ok((Boxed::new(alloc, form)?, next))
 }
 
-// What is said of a part behind its type.
+// Reads the fixed value and the absence of a part after its type.
 fn part_ending(
     alloc: Global,
     most: u32,
@@ -137,7 +137,7 @@ fn part_ending(
     }
 }
 
-// The part, with what is said of it behind its type.
+// Returns the part with the fixed value and the absence that follow its type.
 fn ended_part(
     alloc: Global,
     most: u32,
@@ -155,7 +155,7 @@ fn ended_part(
     Ok((part, next))
 }
 
-// A part on a line of its own, behind this word.
+// Reads a part on a line of its own, after this word.
 #[cycle(types)]
 fn part(
     alloc: Global,
@@ -183,7 +183,7 @@ fn part(
     Ok(((part, tree), next))
 }
 
-// Parts in braces, each on a line of its own, of one level more than those of the braces.
+// Reads parts in braces, each on a line of its own, one level more than the lines of the braces.
 #[cycle(types)]
 fn block(
     alloc: Global,
@@ -220,7 +220,7 @@ fn block(
     }
 }
 
-// What stands behind SEQUENCE where it has items.
+// Reads what follows SEQUENCE, if it has items.
 #[cycle(types)]
 fn sequence_of(
     alloc: Global,
@@ -253,7 +253,7 @@ fn sequence_of(
     Ok(((size, (part, tree)), next))
 }
 
-// What stands behind SEQUENCE, if anything does; else the word is a reference.
+// Reads what follows SEQUENCE, if anything does. Otherwise the word is a reference.
 #[cycle(types)]
 fn sequence(
     alloc: Global,
@@ -297,7 +297,7 @@ fn sequence(
     }
 }
 
-// What stands behind CHOICE, if anything does; else the word is a reference.
+// Reads what follows CHOICE, if anything does. Otherwise the word is a reference.
 #[cycle(types)]
 fn choice(
     alloc: Global,
@@ -369,7 +369,7 @@ fn typed(
     }
 }
 
-/// A type on lines that are not indented, with so many types, and so many values, in one another at most.
+/// Reads a type on lines that are not indented. At most `most` types, and at most `most` values, are nested.
 pub fn body(alloc: Global, most: u32, bytes: &[u8], from: Reach) -> Result<(TypeTree, Reach), Stop>
     requires { from.at ≤ length bytes.now }
     ensures value { Reads (type_at most most 0) bytes.now from result }

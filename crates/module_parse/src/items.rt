@@ -34,7 +34,7 @@ fn another_item(alloc: Global, bytes: &[u8], from: Reach) -> Result<(NumberedIte
     numbered_item(alloc, bytes, start)
 }
 
-// With a comma between two.
+// Reads items with a comma between each two.
 fn listed_items(
     alloc: Global,
     bytes: &[u8],
@@ -62,7 +62,7 @@ fn listed_items(
     }
 }
 
-// In braces.
+// Reads items in braces.
 fn items(alloc: Global, bytes: &[u8], from: Reach) -> Result<(PlainList<NumberedItem>, Reach), Stop>
     requires { from.at ≤ length bytes.now }
     ensures value { Reads (enumerated_at numbered_at) bytes.now from result }
@@ -83,7 +83,7 @@ fn another_name(alloc: Global, bytes: &[u8], from: Reach) -> Result<(PlainName, 
     plain_identifier(alloc, bytes, start)
 }
 
-// With a comma between two.
+// Reads identifiers with a comma between each two.
 fn listed_names(alloc: Global, bytes: &[u8], from: Reach) -> Result<(Vec<PlainName>, Reach), Stop>
     requires { from.at ≤ length bytes.now }
     ensures value { ReadsList (listed_at (codes ", ") plain_identifier_at) bytes.now from result }
@@ -107,7 +107,7 @@ fn listed_names(alloc: Global, bytes: &[u8], from: Reach) -> Result<(Vec<PlainNa
     }
 }
 
-// In braces.
+// Reads identifiers in braces.
 fn names(alloc: Global, bytes: &[u8], from: Reach) -> Result<(PlainList<PlainName>, Reach), Stop>
     requires { from.at ≤ length bytes.now }
     ensures value { Reads (enumerated_at plain_identifier_at) bytes.now from result }
@@ -119,7 +119,7 @@ fn names(alloc: Global, bytes: &[u8], from: Reach) -> Result<(PlainList<PlainNam
     Ok((PlainList::of(listed), next))
 }
 
-/// What stands behind ENUMERATED, if anything does; else the word is a reference.
+/// Reads what follows ENUMERATED, if anything does. Otherwise the word is a reference.
 pub fn enumerated(
     alloc: Global,
     name: PlainName,

@@ -1,7 +1,7 @@
 //! Reads the text of a printed module into a tree, or reports its first error.
 //!
-//! Each function reads one thing at a place of the bytes, as `module_grammar` defines it. It returns the thing and the place
-//! after it, or the longest prefix that begins a text, or the place of a type or a value that is nested too deep.
+//! Each function reads one thing at a place of the bytes, as `module_grammar` defines it. It returns the thing and the place after
+//! it. Otherwise it returns the longest prefix that begins a text, or the place of a type or a value that is nested too deep.
 //!
 //! Read first: `specs/Parsed`, then `parse` in `src/modules.rt`.
 #![tactic(auto)]

@@ -12,7 +12,7 @@ use module_grammar::{Reach, Stop};
 use module_text::{NameAs, PartMark, PartMarkKind, PlainList, TypeMark, TypeMarkKind};
 use std::alloc::Global;
 
-// CAPITALIZED, UNCAPITALIZED or a quoted text.
+// Reads CAPITALIZED, UNCAPITALIZED or a quoted text.
 fn name_as(alloc: Global, bytes: &[u8], from: Reach) -> Result<(NameAs, Reach), Stop>
     requires { from.at ≤ length bytes.now }
     ensures value { Reads name_as_at bytes.now from result }
@@ -31,7 +31,7 @@ fn name_as(alloc: Global, bytes: &[u8], from: Reach) -> Result<(NameAs, Reach), 
     Ok((NameAs::Quoted { name }, next))
 }
 
-// The instructions of parts, in the order in which they stand.
+// The ranks of the instructions of parts, in their order.
 #[derive(Clone, Copy)]
 enum PartRank {
     Attribute,
@@ -69,7 +69,7 @@ fn namespace_mark(alloc: Global, bytes: &[u8], from: Reach) -> Result<(PartMarkK
     Ok((PartMarkKind::Namespace { space }, next))
 }
 
-// Up to the bracket.
+// Reads an instruction up to the bracket.
 fn part_mark_kind(
     alloc: Global,
     rank: PartRank,
@@ -115,7 +115,7 @@ fn part_mark(
     ))
 }
 
-// As many of this rank as there are, behind others.
+// Reads any number of instructions of this rank, after others.
 fn more_part_marks(
     alloc: Global,
     rank: PartRank,
@@ -143,7 +143,7 @@ fn more_part_marks(
     }
 }
 
-/// The instructions of a part or an assignment, in the order of their ranks.
+/// Reads the instructions of a part or an assignment, in the order of their ranks.
 pub fn part_marks(
     alloc: Global,
     bytes: &[u8],
@@ -163,7 +163,7 @@ pub fn part_marks(
     Ok((PlainList::of(marks), nothing(next)))
 }
 
-// The instructions of types, in the order in which they stand.
+// The ranks of the instructions of types, in their order.
 #[derive(Clone, Copy)]
 enum TypeRank {
     UseNil,
@@ -187,7 +187,7 @@ const TYPE_RANKS: [TypeRank; 8] = [
     TypeRank::Text,
 ];
 
-// Those before TEXT.
+// The ranks that precede TEXT.
 const EARLIER_RANKS: [TypeRank; 7] = [
     TypeRank::UseNil,
     TypeRank::EmbedValues,
@@ -223,7 +223,7 @@ fn text_mark(alloc: Global, bytes: &[u8], from: Reach) -> Result<(TypeMarkKind, 
     Ok((TypeMarkKind::Text { identifier, text }, next))
 }
 
-// The word of an instruction that has nothing else.
+// Reads an instruction that consists of this word.
 fn plain_mark(
     word: &[u8],
     kind: TypeMarkKind,
@@ -238,7 +238,7 @@ fn plain_mark(
     Ok((kind, next))
 }
 
-// Up to the bracket.
+// Reads an instruction up to the bracket.
 fn type_mark_kind(
     alloc: Global,
     rank: TypeRank,
@@ -287,7 +287,7 @@ fn type_mark(
     ))
 }
 
-// As many of this rank as there are, behind others.
+// Reads any number of instructions of this rank, after others.
 fn more_type_marks(
     alloc: Global,
     rank: TypeRank,
@@ -315,7 +315,7 @@ fn more_type_marks(
     }
 }
 
-/// The instructions of a type, in the order of their ranks.
+/// Reads the instructions of a type, in the order of their ranks.
 pub fn type_marks(
     alloc: Global,
     bytes: &[u8],
@@ -335,7 +335,7 @@ pub fn type_marks(
     Ok((PlainList::of(marks), nothing(next)))
 }
 
-// The first instruction of a type.
+// Reads the first instruction of a type.
 fn own_mark(alloc: Global, bytes: &[u8], from: Reach) -> Result<Reach, Stop>
     requires { from.at ≤ length bytes.now }
     ensures { Finds own_mark_at bytes.now from result }
@@ -351,7 +351,7 @@ fn own_mark(alloc: Global, bytes: &[u8], from: Reach) -> Result<Reach, Stop>
     Ok(behind)
 }
 
-// That a type begins here: its first instruction, or else a capital letter.
+// Reads what shows that a type begins here: its first instruction, or else a capital letter.
 fn start(alloc: Global, bytes: &[u8], from: Reach) -> Result<Reach, Stop>
     requires { from.at ≤ length bytes.now }
     ensures { Finds start_at bytes.now from result }
@@ -365,7 +365,7 @@ fn start(alloc: Global, bytes: &[u8], from: Reach) -> Result<Reach, Stop>
     }
 }
 
-/// Why no type is read where one would lie too deep.
+/// Returns why no type is read where one would be nested too deep.
 pub fn too_deep(alloc: Global, bytes: &[u8], from: Reach) -> Stop
     requires { from.at ≤ length bytes.now }
     ensures { IsStopped (sunk_at {B = Typed} start_at) bytes.now from result }

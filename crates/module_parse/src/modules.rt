@@ -16,7 +16,7 @@ use module_grammar::{Reach, Stop};
 use module_text::PlainAssignment;
 use std::alloc::Global;
 
-// How many types, and how many values, lie in one another at most.
+// The greatest nesting depth of types, and that of values.
 const LIMIT: u32 = 1024;
 
 fn limit() -> u32
@@ -33,11 +33,11 @@ const CLOSING: &[u8] =
 /// What bytes are.
 #[derive(Drop)]
 pub enum Finding {
-    /// The text of these assignments.
+    /// They are the text of these assignments.
     Module { assignments: Vec<PlainAssignment> },
-    /// No text: so many bytes at the front begin one, and no more.
+    /// They are not a text: the first `at` of them begin one, and no more do.
     Syntax { at: usize },
-    /// The bytes begin a text in which a type or a value that lies too deep begins here.
+    /// They begin a text in which a type or a value that is nested too deep begins here.
     TooDeep { at: usize },
 }
 
@@ -67,7 +67,7 @@ fn assignment(
     ))
 }
 
-// As many as there are.
+// Reads all assignments that there are.
 fn assignments(
     alloc: Global,
     most: u32,
@@ -104,9 +104,9 @@ fn module(alloc: Global, most: u32, bytes: &[u8]) -> Result<(Vec<PlainAssignment
     Ok((assignments, next))
 }
 
-/// What these bytes are, of which there are at most 16 MiB. `Memory` says that memory is missing.
+/// Returns what these bytes are, of which there are at most 16 MiB. The only error is a failed allocation.
 ///
-/// It takes time linear in their number, and recurs as deep as types and values may lie in one another.
+/// The time is linear in their number. Recursion is bounded by the greatest nesting depth of types and values.
 pub fn parse(alloc: Global, bytes: &[u8]) -> Result<Finding, Memory>
     requires { length bytes.now ≤ 16777216 }
     ensures { Parses bytes.now result }

@@ -13,7 +13,7 @@ use module_grammar::{Reach, Stop, later, word};
 use module_text::{PlainName, PlainNumber, Written, identifier_text, reference_text};
 use std::alloc::{AllocError, Global};
 
-// A letter or a digit, behind a hyphen or not.
+// Reads a letter or a digit, with or without a preceding hyphen.
 fn piece(bytes: &[u8], from: Reach) -> Result<Reach, Stop>
     requires { from.at ≤ length bytes.now }
     ensures value { ReadsSpan piece_at piece_text bytes.now from result }
@@ -27,7 +27,7 @@ fn piece(bytes: &[u8], from: Reach) -> Result<Reach, Stop>
     byte(ByteClass::LetterOrDigit, bytes, letter)
 }
 
-// Behind as many of these as there are.
+// Reads all such letters and digits that there are.
 fn behind_pieces(bytes: &[u8], from: Reach) -> Result<Reach, Stop>
     requires { from.at ≤ length bytes.now }
     ensures value { ReadsSpan (many_at piece_at) (each_written piece_text) bytes.now from result }
@@ -42,7 +42,7 @@ fn behind_pieces(bytes: &[u8], from: Reach) -> Result<Reach, Stop>
     }
 }
 
-// Behind the decimal digits from here on.
+// Reads the decimal digits from here on.
 fn behind_digits(bytes: &[u8], from: Reach) -> Reach
     requires { from.at ≤ length bytes.now }
     ensures value { Spans digits_at bytes.now from result }
@@ -58,7 +58,7 @@ fn behind_digits(bytes: &[u8], from: Reach) -> Reach
     }
 }
 
-// Behind an identifier.
+// Reads past an identifier.
 fn behind_identifier(bytes: &[u8], from: Reach) -> Result<Reach, Stop>
     requires { from.at ≤ length bytes.now }
     ensures value { ReadsSpan identifier_at (λ name. name) bytes.now from result }
@@ -68,7 +68,7 @@ fn behind_identifier(bytes: &[u8], from: Reach) -> Result<Reach, Stop>
     behind_pieces(bytes, next)
 }
 
-/// An identifier.
+/// Reads an identifier.
 pub fn identifier(alloc: Global, bytes: &[u8], from: Reach) -> Result<(Text, Reach), Stop>
     requires { from.at ≤ length bytes.now }
     ensures value { Reads identifier_at bytes.now from result }
@@ -81,7 +81,7 @@ pub fn identifier(alloc: Global, bytes: &[u8], from: Reach) -> Result<(Text, Rea
     }
 }
 
-// Behind a reference.
+// Reads past a reference.
 fn behind_reference(bytes: &[u8], from: Reach) -> Result<Reach, Stop>
     requires { from.at ≤ length bytes.now }
     ensures value { ReadsSpan reference_at (λ name. name) bytes.now from result }
@@ -91,7 +91,7 @@ fn behind_reference(bytes: &[u8], from: Reach) -> Result<Reach, Stop>
     behind_pieces(bytes, next)
 }
 
-/// A reference.
+/// Reads a reference.
 pub fn reference(alloc: Global, bytes: &[u8], from: Reach) -> Result<(Text, Reach), Stop>
     requires { from.at ≤ length bytes.now }
     ensures value { Reads reference_at bytes.now from result }
@@ -104,7 +104,7 @@ pub fn reference(alloc: Global, bytes: &[u8], from: Reach) -> Result<(Text, Reac
     }
 }
 
-/// An identifier, where it stands.
+/// Reads an identifier with its place.
 pub fn plain_identifier(
     alloc: Global,
     bytes: &[u8],
@@ -124,7 +124,7 @@ pub fn plain_identifier(
     ))
 }
 
-/// A reference, where it stands.
+/// Reads a reference with its place.
 pub fn plain_reference(alloc: Global, bytes: &[u8], from: Reach) -> Result<(PlainName, Reach), Stop>
     requires { from.at ≤ length bytes.now }
     ensures value { Reads plain_reference_at bytes.now from result }
@@ -140,7 +140,7 @@ pub fn plain_reference(alloc: Global, bytes: &[u8], from: Reach) -> Result<(Plai
     ))
 }
 
-// One digit or more.
+// Reads one digit or more.
 fn numeral(bytes: &[u8], from: Reach) -> Result<Reach, Stop>
     requires { from.at ≤ length bytes.now }
     ensures value { GivesSpan numeral_at bytes.now from result }
@@ -160,7 +160,7 @@ fn numeral(bytes: &[u8], from: Reach) -> Result<Reach, Stop>
     ))
 }
 
-// Behind decimal digits, with `-` before them or without.
+// Reads past decimal digits, with or without a `-` at the beginning.
 fn behind_signed(bytes: &[u8], from: Reach) -> Result<Reach, Stop>
     requires { from.at ≤ length bytes.now }
     ensures value { GivesSpan signed_at bytes.now from result }
@@ -184,7 +184,7 @@ fn copy_of(alloc: Global, bytes: &[u8]) -> Result<Written, AllocError>
     Ok(Written::of(copy))
 }
 
-/// Decimal digits, with `-` before them or without.
+/// Reads decimal digits, with or without a `-` at the beginning.
 pub fn signed(alloc: Global, bytes: &[u8], from: Reach) -> Result<(Written, Reach), Stop>
     requires { from.at ≤ length bytes.now }
     ensures value { Reads signed_at bytes.now from result }
@@ -195,7 +195,7 @@ pub fn signed(alloc: Global, bytes: &[u8], from: Reach) -> Result<(Written, Reac
     Ok((written, next))
 }
 
-/// A number, where it stands.
+/// Reads a number with its place.
 pub fn number(alloc: Global, bytes: &[u8], from: Reach) -> Result<(PlainNumber, Reach), Stop>
     requires { from.at ≤ length bytes.now }
     ensures value { Reads number_at bytes.now from result }
@@ -211,7 +211,7 @@ pub fn number(alloc: Global, bytes: &[u8], from: Reach) -> Result<(PlainNumber, 
     ))
 }
 
-// A byte inside quotation marks, which are doubled there.
+// Reads a byte in quotation marks. Quotation marks there are doubled.
 fn quoted_byte(bytes: &[u8], from: Reach) -> Result<(u8, Reach), Stop>
     requires { from.at ≤ length bytes.now }
     ensures value { ReadsAs byte_of quoted_byte_at bytes.now from result }
@@ -225,7 +225,7 @@ fn quoted_byte(bytes: &[u8], from: Reach) -> Result<(u8, Reach), Stop>
     Ok((b'"', next))
 }
 
-// As many of these as there are.
+// Reads all such bytes that there are.
 fn quoted_bytes(alloc: Global, bytes: &[u8], from: Reach) -> Result<(Written, Reach), Stop>
     requires { from.at ≤ length bytes.now }
     ensures value { ReadsAs (map byte_of) (many_at quoted_byte_at) bytes.now from result }
@@ -247,7 +247,7 @@ fn quoted_bytes(alloc: Global, bytes: &[u8], from: Reach) -> Result<(Written, Re
     }
 }
 
-/// A text in quotation marks, of which those inside are doubled.
+/// Reads a text in quotation marks. Quotation marks in it are doubled.
 pub fn quoted(alloc: Global, bytes: &[u8], from: Reach) -> Result<(Written, Reach), Stop>
     requires { from.at ≤ length bytes.now }
     ensures value { Reads quoted_at bytes.now from result }
@@ -259,7 +259,7 @@ pub fn quoted(alloc: Global, bytes: &[u8], from: Reach) -> Result<(Written, Reac
     Ok((text, next))
 }
 
-// Two hexadecimal digits.
+// Reads two hexadecimal digits.
 fn octet(bytes: &[u8], from: Reach) -> Result<Reach, Stop>
     requires { from.at ≤ length bytes.now }
     ensures value { ReadsSpan octet_at octet_text bytes.now from result }
@@ -269,7 +269,7 @@ fn octet(bytes: &[u8], from: Reach) -> Result<Reach, Stop>
     byte(ByteClass::Hexadecimal, bytes, low)
 }
 
-// Behind as many of these as there are.
+// Reads past all such pairs that there are.
 fn behind_octets(bytes: &[u8], from: Reach) -> Result<Reach, Stop>
     requires { from.at ≤ length bytes.now }
     ensures value { ReadsSpan (many_at octet_at) (each_written octet_text) bytes.now from result }
@@ -284,7 +284,7 @@ fn behind_octets(bytes: &[u8], from: Reach) -> Result<Reach, Stop>
     }
 }
 
-/// Octets, of two hexadecimal digits each.
+/// Reads octets, each written as two hexadecimal digits.
 pub fn octets(alloc: Global, bytes: &[u8], from: Reach) -> Result<(Written, Reach), Stop>
     requires { from.at ≤ length bytes.now }
     ensures value { Reads octets_at bytes.now from result }

@@ -10,7 +10,7 @@ use base_texts::Text;
 use module_grammar::{Reach, Stop};
 use std::alloc::Global;
 
-/// An identifier with a space behind it.
+/// Reads an identifier with a space after it.
 pub fn label(alloc: Global, bytes: &[u8], from: Reach) -> Result<(Text, Reach), Stop>
     requires { from.at ≤ length bytes.now }
     ensures value { Reads label_at bytes.now from result }
@@ -21,7 +21,7 @@ pub fn label(alloc: Global, bytes: &[u8], from: Reach) -> Result<(Text, Reach), 
     Ok((name, next))
 }
 
-/// A label, if there is one.
+/// Reads an identifier with a space after it, if there is one.
 pub fn item_label(alloc: Global, bytes: &[u8], from: Reach) -> Result<(Text, Reach), Stop>
     requires { from.at ≤ length bytes.now }
     ensures value { Reads item_label_at bytes.now from result }
@@ -36,7 +36,7 @@ pub fn item_label(alloc: Global, bytes: &[u8], from: Reach) -> Result<(Text, Rea
     }
 }
 
-/// A new line that is indented by so many levels, of four spaces each.
+/// Reads a new line with an indentation of this level, four spaces for each level.
 pub fn line(levels: usize, bytes: &[u8], from: Reach) -> Result<Reach, Stop>
     requires { from.at ≤ length bytes.now }
     ensures value { ReadsWord (new_line levels) bytes.now from result }
@@ -52,7 +52,7 @@ pub fn line(levels: usize, bytes: &[u8], from: Reach) -> Result<Reach, Stop>
     Ok(next)
 }
 
-/// This word, and behind it a new line.
+/// Reads this word, and a new line after it.
 pub fn word_and_line(text: &[u8], levels: usize, bytes: &[u8], from: Reach) -> Result<Reach, Stop>
     requires { from.at ≤ length bytes.now }
     ensures value { ReadsWord (text.now ++ new_line levels) bytes.now from result }
@@ -62,7 +62,7 @@ pub fn word_and_line(text: &[u8], levels: usize, bytes: &[u8], from: Reach) -> R
     line(levels, bytes, end)
 }
 
-/// The brace behind parts, on a line that is indented by so many levels.
+/// Reads the brace after parts, on a line of this level of indentation.
 pub fn closing_brace(levels: usize, bytes: &[u8], from: Reach) -> Result<Reach, Stop>
     requires { from.at ≤ length bytes.now }
     ensures value { ReadsWord (closing levels) bytes.now from result }

@@ -1,4 +1,4 @@
-//! Words, and what comes behind what failed.
+//! Words, and how reading continues after a failure.
 ghost use Rattle.std.specs.Prelude.{◌≡◌, ◌≤◌, length, MatchResult};
 ghost use Rattle.module_grammar.specs.Reached.{IsFinal};
 ghost use Rattle.module_parse.specs.Reads.{ReadsWord, ReadsByte, PassesWord, IsAgain, IsNothing, optional_of};
@@ -7,7 +7,7 @@ ghost use Rattle.module_parse.specs.Classes.{class_test};
 use base_texts::is_digit;
 use module_grammar::{Reach, Stop, later, word};
 
-/// This word.
+/// Reads this word.
 pub fn literal(text: &[u8], bytes: &[u8], from: Reach) -> Result<Reach, Stop>
     requires { from.at ≤ length bytes.now }
     ensures value { ReadsWord text.now bytes.now from result }
@@ -16,16 +16,16 @@ pub fn literal(text: &[u8], bytes: &[u8], from: Reach) -> Result<Reach, Stop>
     word(text, bytes, from)
 }
 
-/// Bytes that are told apart.
+/// Classes of bytes.
 #[derive(Clone, Copy)]
 pub enum ByteClass {
     Small,
     Capital,
     LetterOrDigit,
     Hexadecimal,
-    /// Not a quotation mark.
+    /// Any byte except a quotation mark.
     Plain,
-    /// With which a value begins.
+    /// A byte with which a value begins.
     ValueFirst,
 }
 
@@ -54,7 +54,7 @@ impl ByteClass {
     }
 }
 
-/// One byte of this class.
+/// Reads one byte of this class.
 pub fn byte(class: ByteClass, bytes: &[u8], from: Reach) -> Result<Reach, Stop>
     requires { from.at ≤ length bytes.now }
     ensures value { ReadsByte (class_test class) bytes.now from result }
@@ -72,7 +72,7 @@ pub fn byte(class: ByteClass, bytes: &[u8], from: Reach) -> Result<Reach, Stop>
     })
 }
 
-/// Returns to the place `from` if nothing could be read there; otherwise returns the stop itself.
+/// Returns to the place `from` if nothing could be read there. Otherwise returns the stop itself.
 pub fn again(from: Reach, stop: Stop) -> Result<Reach, Stop>
     ensures { MatchResult result (λ next. IsAgain from stop next) (λ other. (other ≡ stop) × IsFinal other) }
 {
@@ -80,7 +80,7 @@ pub fn again(from: Reach, stop: Stop) -> Result<Reach, Stop>
     Ok(Reach { at: from.at, far })
 }
 
-/// Nothing, which stands everywhere.
+/// Reads nothing, which succeeds everywhere.
 pub fn nothing(from: Reach) -> Reach
     ensures { IsNothing from result }
 {
@@ -90,7 +90,7 @@ pub fn nothing(from: Reach) -> Reach
     }
 }
 
-/// What was found, if it was.
+/// Returns what was found, or None if nothing could be read.
 pub fn optional<T: Drop>(
     from: Reach,
     found: Result<(T, Reach), Stop>,

@@ -1,4 +1,4 @@
-//! Values behind DEFAULT.
+//! Values after DEFAULT.
 ghost use Rattle.std.specs.Prelude.{◌≡◌, ◌≤◌, length, codes, List};
 ghost use Rattle.base_trees.specs.Rose.{Rose, node, none};
 ghost use Rattle.module_grammar.specs.Reading.{sunk_at, byte_at, behind_at};
@@ -16,7 +16,7 @@ use std::alloc::Global;
 
 type ValueTree = Tree<PlainValueLabel>;
 
-// Why no value is read where one would lie too deep.
+// Returns why no value is read where one would be nested too deep.
 fn too_deep(bytes: &[u8], from: Reach) -> Stop
     requires { from.at ≤ length bytes.now }
     ensures { IsStopped (sunk_at {B = Rose PlainValueLabel} (byte_at is_value_first)) bytes.now from result }
@@ -42,7 +42,7 @@ fn leaf(alloc: Global, at: usize, value: PlainValue) -> ValueTree
     )
 }
 
-// Behind a comma.
+// Reads a value after a comma.
 #[cycle(values)]
 fn another(alloc: Global, depth: u32, bytes: &[u8], from: Reach) -> Result<(ValueTree, Reach), Stop>
     requires { from.at ≤ length bytes.now }
@@ -53,7 +53,7 @@ fn another(alloc: Global, depth: u32, bytes: &[u8], from: Reach) -> Result<(Valu
     value(alloc, depth, bytes, start)
 }
 
-// With a comma between two.
+// Reads values with a comma between each two.
 #[cycle(values)]
 fn listed(
     alloc: Global,
@@ -83,7 +83,7 @@ fn listed(
     }
 }
 
-// Values in braces.
+// Reads values in braces.
 #[cycle(values)]
 fn braced(
     alloc: Global,
@@ -101,7 +101,7 @@ fn braced(
     Ok((values, next))
 }
 
-// The identifier of an alternative, and its value.
+// Reads the identifier of an alternative, and its value.
 #[cycle(values)]
 fn chosen(
     alloc: Global,
@@ -119,7 +119,7 @@ fn chosen(
     Ok(((identifier, value), next))
 }
 
-// A value that is no word, no number and no text.
+// Reads a value that is not TRUE, FALSE, a number or a text.
 #[cycle(values)]
 fn late_value(
     alloc: Global,
@@ -169,7 +169,7 @@ fn late_value(
     Ok((leaf(alloc, from.at, PlainValue::Item { identifier }), next))
 }
 
-/// A value, with so many in one another at most.
+/// Reads a value. At most `depth` values are nested.
 #[cycle(values)]
 pub fn value(
     alloc: Global,

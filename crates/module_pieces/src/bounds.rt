@@ -8,10 +8,10 @@ use crate::finding::unless;
 use crate::numbers::{is_printed_number, is_size, size_of, whole_of};
 use module_text::{ModuleWhy, PlainEnds, PlainNumber, PlainRange, TextFault};
 
-/// A least and a greatest number, where there is one.
+/// A least and a greatest number, each if there is one.
 pub type Bounds = (Option<i128>, Option<i128>);
 
-/// The bounds, where each has 128 bits.
+/// Returns the bounds, if each has 128 bits.
 pub fn bounds_of(ends: &PlainEnds) -> Option<Bounds>
     ensures { result ≡ told.bounds_of ends.now }
 {
@@ -32,7 +32,7 @@ pub fn bounds_of(ends: &PlainEnds) -> Option<Bounds>
     }
 }
 
-/// The bounds of an INTEGER, where each has 128 bits.
+/// Returns the bounds of an INTEGER, if each has 128 bits.
 pub fn range_of(range: &Option<PlainRange>) -> Option<Bounds>
     ensures { result ≡ told.range_of range.now }
 {
@@ -46,7 +46,7 @@ pub fn range_of(range: &Option<PlainRange>) -> Option<Bounds>
     }
 }
 
-/// The least and the greatest size, where each has 32 bits.
+/// Returns the least and the greatest size, if each has 32 bits.
 pub fn sizes_of(size: &Option<PlainEnds>) -> Option<(u32, Option<u32>)>
     ensures { result ≡ told.sizes_of size.now }
 {
@@ -68,14 +68,14 @@ pub fn sizes_of(size: &Option<PlainEnds>) -> Option<(u32, Option<u32>)>
     }
 }
 
-// The fault of a number.
+// Returns the fault of a number.
 fn number_fault(number: &PlainNumber) -> Option<TextFault>
     ensures { result ≡ first (rule.number_faults number.now) }
 {
     unless(is_printed_number(number), number.at, ModuleWhy::Spelling)
 }
 
-/// Whether both are numbers of 128 bits, and the first is less.
+/// Returns whether both are numbers of 128 bits, and the first is less.
 pub(crate) fn is_below(least: Option<i128>, greatest: Option<i128>) -> bool
     ensures { result ≡ rule.is_below least greatest }
 {
@@ -85,7 +85,7 @@ pub(crate) fn is_below(least: Option<i128>, greatest: Option<i128>) -> bool
     }
 }
 
-// The first fault of bounds.
+// Returns the first fault of bounds.
 #[tactic(auto, using(crate::proofs::Firsts::firsts))]
 fn ends_fault(ends: &PlainEnds) -> Option<TextFault>
     ensures { result ≡ first (rule.ends_faults ends.now) }
@@ -107,7 +107,7 @@ fn ends_fault(ends: &PlainEnds) -> Option<TextFault>
     }
 }
 
-/// The first fault of the bounds of an INTEGER.
+/// Returns the first fault of the bounds of an INTEGER.
 #[tactic(auto, unfolding(module_text::specs::Listed::first))]
 pub fn range_fault(range: &Option<PlainRange>) -> Option<TextFault>
     ensures { result ≡ first (rule.range_faults range.now) }
@@ -128,14 +128,14 @@ fn is_zero(number: Option<i128>) -> bool
     }
 }
 
-// The fault of a size.
+// Returns the fault of a size.
 fn one_size_fault(number: &PlainNumber) -> Option<TextFault>
     ensures { result ≡ first (rule.one_size_faults number.now) }
 {
     unless(is_size(number), number.at, ModuleWhy::Spelling)
 }
 
-/// The first fault of a size.
+/// Returns the first fault of a size.
 #[tactic(auto, using(crate::proofs::Firsts::firsts), unfolding(module_text::specs::Listed::first))]
 pub fn size_fault(size: &Option<PlainEnds>) -> Option<TextFault>
     ensures { result ≡ first (rule.size_faults size.now) }

@@ -1,10 +1,10 @@
-//! Faults one behind another.
+//! Faults in their order.
 ghost use Rattle.std.specs.Prelude.{◌≡◌};
 ghost use Rattle.module_text.specs.Listed as listed;
 
 use module_text::{ModuleWhy, TextFault};
 
-/// A fault here, for this reason, unless it is so.
+/// Returns a fault at this place, for this reason, unless the condition holds.
 #[tactic(auto, unfolding(module_text::specs::Listed::first))]
 pub fn unless(holds: bool, at: u64, why: ModuleWhy) -> Option<TextFault>
     ensures { result ≡ listed.first (listed.unless holds at why) }

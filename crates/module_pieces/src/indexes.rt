@@ -13,14 +13,14 @@ use indexmap::IndexMap;
 use module_text::{NumberedItem, PlainAssignment, PlainForm, PlainLabel, Written};
 use std::alloc::Global;
 
-/// Where the items or the alternatives of a type stand, by their identifiers, and the words for which items stand.
+/// The places of the items or the alternatives of a type, by their identifiers, and the words that items represent.
 #[derive(Drop)]
 pub struct Index {
     places: IndexMap<Text, usize>,
     words: Vec<Written>,
 }
 
-// The words for which the items stand.
+// Returns the words that the items represent.
 fn words_of(alloc: Global, label: &PlainLabel) -> Result<Vec<Written>, Memory>
     ensures { IfOk result (λ words. words.items ≡ words_in label.now) }
 {
@@ -32,7 +32,7 @@ fn words_of(alloc: Global, label: &PlainLabel) -> Result<Vec<Written>, Memory>
     }
 }
 
-// The number of the item at this place, as it is written.
+// Returns the number of the item at this place, as it is written.
 fn number_at(items: &[NumberedItem], place: Option<usize>) -> Option<&[u8]>
     ensures { MatchOption result (number_at items.now place ≡ None) (λ text. number_at items.now place ≡ Some text.now) }
 {
@@ -40,7 +40,7 @@ fn number_at(items: &[NumberedItem], place: Option<usize>) -> Option<&[u8]>
     Some(item.number.written.bytes())
 }
 
-// The word at this place.
+// Returns the word at this place.
 fn word_at(words: &[Written], place: Option<usize>) -> Option<&[u8]>
     ensures { MatchOption result
         (option_and_then (slice_get words.now) place ≡ None)
@@ -51,7 +51,7 @@ fn word_at(words: &[Written], place: Option<usize>) -> Option<&[u8]>
 }
 
 impl Index {
-    // The index of a type with this label.
+    // Returns the index of a type with this label.
     fn of(alloc: Global, label: &PlainLabel) -> Result<Index, Memory>
         ensures { IfOk result (λ index. IsIndex index label.now) }
     {
@@ -66,7 +66,7 @@ impl Index {
         self.places.get(identifier).copied()
     }
 
-    /// The spelling of the item with this identifier: its number as it is written, or its word.
+    /// Returns the spelling of the item with this identifier: its number as it is written, or its word.
     pub fn item<'a>(&'a self, label: &'a PlainLabel, identifier: &Text) -> Option<&'a [u8]>
         requires { IsIndex self.now label.now }
         ensures { MatchOption result
@@ -80,7 +80,7 @@ impl Index {
         }
     }
 
-    /// Where the alternative with this identifier stands.
+    /// Returns the place of the alternative with this identifier.
     pub fn alternative(&self, label: &PlainLabel, identifier: &Text) -> Option<usize>
         requires { IsIndex self.now label.now }
         ensures { result ≡ rule.alternative_named label.now.form identifier.now }
@@ -92,7 +92,7 @@ impl Index {
     }
 }
 
-/// The index of a type and of each type in it. The time is linear in the type.
+/// Returns the index of a type and of each type nested in it. The time is linear in the type.
 pub fn index_of(alloc: Global, node: &Tree<PlainLabel>) -> Result<Tree<Index>, Memory>
     ensures { IfOk result (λ index. Indexes index node.now) }
 {
@@ -105,7 +105,7 @@ pub fn index_of(alloc: Global, node: &Tree<PlainLabel>) -> Result<Tree<Index>, M
     Ok(Tree::join(own, indexes))
 }
 
-// Whether values at a type with this label may name items or alternatives.
+// Returns whether values at a type with this label may name items or alternatives.
 fn may_name(label: &PlainLabel) -> bool
     ensures { result ≡ may_name label.now }
 {
@@ -118,7 +118,7 @@ fn may_name(label: &PlainLabel) -> bool
     }
 }
 
-// The index of a type, where values at it may name items or alternatives.
+// Returns the index of a type, if values at it may name items or alternatives.
 fn kept_index(alloc: Global, node: &Tree<PlainLabel>) -> Result<Option<Tree<Index>>, Memory>
     ensures { IfOk result (λ kept. IsKept kept node.now) }
 {
@@ -129,7 +129,8 @@ fn kept_index(alloc: Global, node: &Tree<PlainLabel>) -> Result<Option<Tree<Inde
     Ok(Some(index))
 }
 
-/// Of each assignment the index of its type, where values at it may name items or alternatives. The time is linear in the types.
+/// Returns the index of the type of each assignment, if values at it may name items or alternatives. The time is linear in the
+/// types.
 pub fn indexes_of(
     alloc: Global,
     assignments: &[PlainAssignment],

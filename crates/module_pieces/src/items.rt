@@ -12,7 +12,7 @@ use base_texts::Memory;
 use module_text::{ModuleWhy, NumberedItem, PlainName, TextFault, Written};
 use std::alloc::Global;
 
-// Whether the identifier is `int` and the number.
+// Returns whether the identifier is `int` and the number.
 fn is_numbered_so(item: &NumberedItem) -> bool
     ensures { result ≡ rule.is_numbered_so item.now }
 {
@@ -28,7 +28,7 @@ fn is_above(before: Option<i128>, number: Option<i128>) -> bool
     before.is_none() || is_below(before, number)
 }
 
-// The first fault of an item behind one with this number, but for Duplicate.
+// Returns the first fault of an item after one with this number, except Duplicate.
 #[tactic(auto, using(crate::proofs::Firsts::firsts))]
 fn item_fault(before: Option<i128>, item: &NumberedItem) -> Option<TextFault>
     ensures { result ≡ first (rule.item_faults before item.now) }
@@ -48,7 +48,7 @@ fn item_fault(before: Option<i128>, item: &NumberedItem) -> Option<TextFault>
     )
 }
 
-/// The first fault of items with numbers.
+/// Returns the first fault of items with numbers.
 #[tactic(auto, using(crate::proofs::Firsts::firsts))]
 pub fn numbered_fault(alloc: Global, items: &[NumberedItem]) -> Result<Option<TextFault>, Memory>
     ensures { IfOk result (λ found. found ≡ first (rule.numbered_faults [] None items.now)) }
@@ -72,7 +72,7 @@ pub fn numbered_fault(alloc: Global, items: &[NumberedItem]) -> Result<Option<Te
     Ok(None)
 }
 
-/// The numbers, where each has 128 bits.
+/// Returns the numbers, if each has 128 bits.
 pub fn numbers_of(alloc: Global, items: &[NumberedItem]) -> Result<Option<Vec<i128>>, Memory>
     ensures { IfOk result (λ found. MatchOption found (simple.numbers_of items.now ≡ None) (λ numbers. simple.numbers_of items.now ≡ Some numbers.items)) }
 {
@@ -86,14 +86,14 @@ pub fn numbers_of(alloc: Global, items: &[NumberedItem]) -> Result<Option<Vec<i1
     Ok(Some(numbers))
 }
 
-/// Whether the first text stands before the second in the order of their bytes.
+/// Returns whether the first text precedes the second in the order of their bytes.
 pub fn text_lt(first: &[u8], second: &[u8]) -> bool
     ensures { result ≡ simple.text_lt first.now second.now }
 {
     first.cmp(second).is_lt()
 }
 
-// Whether the word may stand behind this one: the words of an order in any order.
+// Returns whether the word may follow this one. The words of an order may be in any order.
 fn may_follow(order: bool, before: Option<&Written>, word: &Written) -> bool
     ensures { result ≡ (order || rule.is_word_above (option_map (λ w. w.now) before.entry) word.now) }
 {
@@ -103,7 +103,7 @@ fn may_follow(order: bool, before: Option<&Written>, word: &Written) -> bool
     }
 }
 
-/// The first fault of items without numbers, which stand for these words: of an order, in any order.
+/// Returns the first fault of items without numbers, which represent these words. Those of an order may be in any order.
 pub fn word_fault(
     alloc: Global,
     order: bool,

@@ -1,4 +1,4 @@
-//! Names and texts beside the identifiers of ASN.1.
+//! Names and texts next to the identifiers of ASN.1.
 ghost use Rattle.std.specs.Prelude.{◌≡◌, ◌∷◌, IfOk, bytes_eq, chars};
 ghost use Rattle.std.specs.List.{list_all};
 ghost use Rattle.base_texts.specs.Characters.{is_xml_char};
@@ -16,7 +16,7 @@ fn are_xml_chars(text: &str) -> bool
     text.chars().all(|c| is_xml_char(c))
 }
 
-/// Whether the bytes are UTF-8 of XML characters alone.
+/// Returns whether the bytes are UTF-8 of XML characters only.
 pub fn is_xml_text(bytes: &[u8]) -> bool
     ensures { result ≡ told.is_xml_text bytes.now }
 {
@@ -26,14 +26,14 @@ pub fn is_xml_text(bytes: &[u8]) -> bool
     }
 }
 
-// Whether no form but quotation marks tells the name back.
+// Returns whether only quotation marks restore the name.
 fn is_quoted(generated: &[u8], name: &[u8]) -> bool
     ensures { result ≡ told.is_form (NameAs.Quoted name.now) (form_of generated.now name.now) }
 {
     generated != name && !is_capitalized(generated, name) && !is_uncapitalized(generated, name)
 }
 
-/// Whether the name is told in the form that tells it back, with XML characters alone.
+/// Returns whether the name is written in the form that restores it, with XML characters only.
 pub fn is_told_so(generated: &[u8], name: &NameAs) -> bool
     ensures { result ≡ told.is_told_so generated.now name.now }
 {
@@ -47,7 +47,7 @@ pub fn is_told_so(generated: &[u8], name: &NameAs) -> bool
     }
 }
 
-// The bytes with this first byte in place of theirs.
+// Returns the rest of the bytes after this first byte.
 fn begun(alloc: Global, first: u8, rest: &[u8]) -> Result<Vec<u8>, Memory>
     ensures { IfOk result (λ bytes. bytes.items ≡ first ∷ rest.now) }
 {
@@ -57,7 +57,7 @@ fn begun(alloc: Global, first: u8, rest: &[u8]) -> Result<Vec<u8>, Memory>
     Ok(bytes)
 }
 
-/// The name that is told.
+/// Returns the name that is given next to the generated name.
 pub fn told_name(alloc: Global, generated: &[u8], name: &NameAs) -> Result<Vec<u8>, Memory>
     ensures { IfOk result (λ bytes. bytes.items ≡ told.told_name generated.now name.now) }
 {

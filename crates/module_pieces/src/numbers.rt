@@ -25,7 +25,7 @@ fn without_sign(bytes: &[u8]) -> &[u8]
     }
 }
 
-// The number that the bytes write, where it has 128 bits.
+// Returns the number that the bytes write, if it has 128 bits.
 fn whole_number(bytes: &[u8]) -> Option<i128>
     ensures { result ≡ told.if_128_bits (whole_number bytes.now) }
 {
@@ -38,14 +38,14 @@ fn whole_number(bytes: &[u8]) -> Option<i128>
     }
 }
 
-/// The number, where it has 128 bits.
+/// Returns the number, if it has 128 bits.
 pub fn whole_of(number: &PlainNumber) -> Option<i128>
     ensures { result ≡ told.whole_of number.now }
 {
     whole_number(number.written.bytes())
 }
 
-// Whether it is printed so.
+// Returns whether the number is written as it is printed.
 fn is_printed(number: Option<i128>, written: &[u8]) -> bool
     ensures { result ≡ told.is_printed number written.now }
 {
@@ -55,14 +55,14 @@ fn is_printed(number: Option<i128>, written: &[u8]) -> bool
     }
 }
 
-/// Whether the number has 128 bits and is printed so.
+/// Returns whether the number has 128 bits and is written as it is printed.
 pub fn is_printed_number(number: &PlainNumber) -> bool
     ensures { result ≡ told.is_printed_number number.now }
 {
     is_printed(whole_of(number), number.written.bytes())
 }
 
-/// The size, where it has 32 bits.
+/// Returns the size, if it has 32 bits.
 pub fn size_of(number: Option<i128>) -> Option<u32>
     ensures { result ≡ told.size_of number }
 {
@@ -72,7 +72,7 @@ pub fn size_of(number: Option<i128>) -> Option<u32>
     }
 }
 
-/// Whether the number is a size that is printed so.
+/// Returns whether the number is a size that is written as it is printed.
 pub fn is_size(number: &PlainNumber) -> bool
     ensures { result ≡ rule.is_size number.now }
 {

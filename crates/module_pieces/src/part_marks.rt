@@ -28,21 +28,21 @@ fn is_name(mark: &PartMark) -> bool
     matches!(mark.kind, PartMarkKind::Name { .. })
 }
 
-/// Whether ATTRIBUTE stands among them.
+/// Returns whether ATTRIBUTE is among them.
 pub fn has_attribute(marks: &[PartMark]) -> bool
     ensures { result ≡ told.has_attribute marks.now }
 {
     marks.iter().any(is_attribute)
 }
 
-/// Whether UNTAGGED stands among them.
+/// Returns whether UNTAGGED is among them.
 pub fn has_untagged(marks: &[PartMark]) -> bool
     ensures { result ≡ told.has_untagged marks.now }
 {
     marks.iter().any(is_untagged)
 }
 
-/// Whether there are none but NAME.
+/// Returns whether all of them are NAME.
 pub fn have_names_alone(marks: &[PartMark]) -> bool
     ensures { result ≡ told.have_names_alone marks.now }
 {
@@ -60,14 +60,14 @@ fn rank(kind: &PartMarkKind) -> u8
     }
 }
 
-// Whether the name may be told beside this one.
+// Returns whether the name may be given next to this generated name.
 fn may_name(generated: &[u8], name: &NameAs) -> bool
     ensures { result ≡ may.may_name generated.now name.now }
 {
     !generated.is_empty() && is_told_so(generated, name)
 }
 
-// Whether an instruction may stand at a part or an assignment of this name.
+// Returns whether an instruction may appear at a part or an assignment of this name.
 fn may_stand(simple: bool, generated: &[u8], kind: &PartMarkKind) -> bool
     ensures { result ≡ may.part_mark_may simple generated.now kind.now }
 {
@@ -86,7 +86,8 @@ fn stands(simple: bool, generated: &[u8], before: Option<u8>, mark: &PartMark) -
     before != Some(rank(&mark.kind)) && may_stand(simple, generated, &mark.kind)
 }
 
-/// The first fault of the instructions of a part or an assignment of this name, whose type stands for a simple type or not.
+/// Returns the first fault of the instructions of a part or an assignment of this name. `simple` states whether its type represents
+/// a simple type.
 #[tactic(auto, using(crate::proofs::Firsts::firsts))]
 pub fn part_mark_fault(simple: bool, generated: &[u8], marks: &[PartMark]) -> Option<TextFault>
     ensures { result ≡ first (rule.part_mark_faults simple generated.now None marks.now) }

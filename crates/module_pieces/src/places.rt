@@ -1,4 +1,4 @@
-//! Where items and alternatives stand.
+//! The places of items and alternatives.
 ghost use Rattle.std.specs.Prelude.{◌≡◌, ℕ, List, IfOk, OnOk, position, bytes_eq};
 ghost use Rattle.indexmap.specs.IndexMap.{get};
 ghost use Rattle.module_text.specs.declared.types.NumberedItem.{NumberedItem};
@@ -11,7 +11,7 @@ use indexmap::IndexMap;
 use module_text::{NumberedItem, PlainForm, PlainName, PlainPart};
 use std::alloc::Global;
 
-// The places with that of one identifier more, where it is none of them.
+// Adds the place of one more identifier, unless it is already there.
 fn note(
     alloc: Global,
     places: &mut IndexMap<Text, usize>,
@@ -27,7 +27,7 @@ fn note(
     Ok(())
 }
 
-// Where the first item with each identifier stands, of items with numbers.
+// Returns the place of the first item with each identifier, among items with numbers.
 fn number_places(alloc: Global, items: &[NumberedItem]) -> Result<IndexMap<Text, usize>, Memory>
     ensures { IfOk result (λ places. (identifier : List ℕ) →
         get bytes_eq places identifier ≡ position (λ (i : NumberedItem). bytes_eq i.identifier.name identifier) items.now) }
@@ -39,7 +39,7 @@ fn number_places(alloc: Global, items: &[NumberedItem]) -> Result<IndexMap<Text,
     Ok(places)
 }
 
-// Finds where the first item with each identifier is among items without numbers.
+// Returns the place of the first item with each identifier, among items without numbers.
 fn word_places(alloc: Global, names: &[PlainName]) -> Result<IndexMap<Text, usize>, Memory>
     ensures { IfOk result (λ places. (identifier : List ℕ) →
         get bytes_eq places identifier ≡ position (λ (i : PlainName). bytes_eq i.name identifier) names.now) }
@@ -51,7 +51,7 @@ fn word_places(alloc: Global, names: &[PlainName]) -> Result<IndexMap<Text, usiz
     Ok(places)
 }
 
-// Finds where the first alternative with each identifier is.
+// Returns the place of the first alternative with each identifier.
 fn part_places(alloc: Global, parts: &[PlainPart]) -> Result<IndexMap<Text, usize>, Memory>
     ensures { IfOk result (λ places. (identifier : List ℕ) →
         get bytes_eq places identifier ≡ position (λ (p : PlainPart). bytes_eq p.identifier identifier) parts.now) }
@@ -63,7 +63,7 @@ fn part_places(alloc: Global, parts: &[PlainPart]) -> Result<IndexMap<Text, usiz
     Ok(places)
 }
 
-/// Where the first item or alternative with each identifier stands.
+/// Returns the place of the first item or alternative with each identifier.
 pub(crate) fn places_of(alloc: Global, form: &PlainForm) -> Result<IndexMap<Text, usize>, Memory>
     ensures { IfOk result (λ places. (identifier : List ℕ) → get bytes_eq places identifier ≡ place_in form.now identifier) }
 {

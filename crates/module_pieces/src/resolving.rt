@@ -8,7 +8,7 @@ use crate::type_marks::{has_embed_values, has_use_nil, has_use_order, has_use_un
 use asn_types::Role;
 use module_text::{PlainForm, PlainLabel, PlainPart};
 
-/// How many parts there are.
+/// Returns the number of parts.
 pub fn part_count(form: &PlainForm) -> usize
     ensures { result ≡ length (parts_of form.now) }
 {
@@ -29,7 +29,7 @@ fn is_item(form: &PlainForm, part: &PlainPart) -> bool
     }
 }
 
-/// The role of the part with this number.
+/// Returns the role of the part with this number.
 pub fn role_of(label: &PlainLabel, i: usize, part: &PlainPart) -> Role
     requires { i < length (parts_of label.now.form) }
     ensures { result ≡ rule.role_of label.now i part.now }

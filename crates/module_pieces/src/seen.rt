@@ -1,4 +1,4 @@
-//! Names that stood before.
+//! Names that appeared before.
 ghost use Rattle.std.specs.Prelude.{◌≡◌, ◌++◌, ◌∷◌, [], false, OnOk};
 ghost use Rattle.module_text.specs.Faults.{has_text};
 
@@ -7,7 +7,7 @@ use indexmap::IndexSet;
 use std::alloc::Global;
 use std::marker::Model;
 
-/// Names of which no two are equal, in the order in which they stood.
+/// Distinct names, in the order in which they appeared.
 #[derive(Drop)]
 pub struct Seen {
     names: IndexSet<Text>,
@@ -22,7 +22,7 @@ impl Model for Seen {
 }
 
 impl Seen {
-    /// No names yet.
+    /// Returns an empty list.
     pub fn new(alloc: Global) -> Seen
         ensures { result ≡ [] }
     {
@@ -31,14 +31,14 @@ impl Seen {
         }
     }
 
-    /// Whether the name is one of them.
+    /// Returns whether the name is one of them.
     pub fn has(&self, name: &Text) -> bool
         ensures { result ≡ has_text self.now name.now }
     {
         self.names.contains(name)
     }
 
-    /// One name more, behind the others.
+    /// Adds a name after the others.
     pub fn note(&mut self, name: Text) -> Result<(), Memory>
         requires { has_text self.old name ≡ false }
         ensures { OnOk result (self.new ≡ self.old ++ name ∷ []) }

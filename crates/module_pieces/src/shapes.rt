@@ -1,4 +1,4 @@
-//! What EMBED-VALUES and USE-NIL ask of a type, and what its parts are.
+//! What EMBED-VALUES and USE-NIL require of a type, and tests of its parts.
 ghost use Rattle.std.specs.Prelude.{◌≡◌};
 ghost use Rattle.base_trees.specs.Rose.{roses_of};
 ghost use Rattle.module_text.specs.Orders as rule;
@@ -7,28 +7,28 @@ use base_trees::Tree;
 use module_text::{Absence, PlainForm, PlainLabel};
 use simple_types::Class;
 
-/// Whether the type is a SEQUENCE.
+/// Returns whether the type is a SEQUENCE.
 pub fn is_sequence(form: &PlainForm) -> bool
     ensures { result ≡ rule.is_sequence form.now }
 {
     matches!(form, PlainForm::Sequence { .. })
 }
 
-/// Whether the type is a SEQUENCE OF.
+/// Returns whether the type is a SEQUENCE OF.
 pub fn is_sequence_of(form: &PlainForm) -> bool
     ensures { result ≡ rule.is_sequence_of form.now }
 {
     matches!(form, PlainForm::SequenceOf { .. })
 }
 
-/// Whether the type is a CHOICE.
+/// Returns whether the type is a CHOICE.
 pub fn is_choice(form: &PlainForm) -> bool
     ensures { result ≡ rule.is_choice form.now }
 {
     matches!(form, PlainForm::Choice { .. })
 }
 
-/// Whether a part of which this is said may be absent.
+/// Returns whether a part with this absence may be absent.
 pub fn may_be_absent(absence: &Absence) -> bool
     ensures { result ≡ rule.may_be_absent absence.now }
 {
@@ -41,7 +41,7 @@ fn is_any(class: Class) -> bool
     matches!(class, Class::Any)
 }
 
-// Whether the type is UTF8String without constraints.
+// Returns whether the type is UTF8String without constraints.
 fn is_any_text(form: &PlainForm) -> bool
     ensures { result ≡ rule.is_any_text form.now }
 {
@@ -51,14 +51,14 @@ fn is_any_text(form: &PlainForm) -> bool
     }
 }
 
-/// Whether the type is a SEQUENCE OF without a size.
+/// Returns whether the type is a SEQUENCE OF without a size.
 pub fn is_any_list(form: &PlainForm) -> bool
     ensures { result ≡ rule.is_any_list form.now }
 {
     matches!(form, PlainForm::SequenceOf { size: None, .. })
 }
 
-// Whether the type is such a list of such texts.
+// Returns whether the type is a SEQUENCE OF UTF8String, both without constraints.
 fn is_text_list(node: &Tree<PlainLabel>) -> bool
     ensures { result ≡ rule.is_text_list node.now }
 {
@@ -68,7 +68,7 @@ fn is_text_list(node: &Tree<PlainLabel>) -> bool
     }
 }
 
-/// Whether the type is a SEQUENCE whose first part is a list of texts.
+/// Returns whether the type is a SEQUENCE whose first part is a list of texts.
 pub fn has_texts(form: &PlainForm, kids: &[Tree<PlainLabel>]) -> bool
     ensures { result ≡ rule.has_texts form.now (roses_of kids.now) }
 {
@@ -78,7 +78,7 @@ pub fn has_texts(form: &PlainForm, kids: &[Tree<PlainLabel>]) -> bool
     }
 }
 
-/// Whether the type is a SEQUENCE whose last part may be absent.
+/// Returns whether the type is a SEQUENCE whose last part may be absent.
 pub fn has_content(form: &PlainForm) -> bool
     ensures { result ≡ rule.has_content form.now }
 {

@@ -43,35 +43,35 @@ fn is_no_text(mark: &TypeMark) -> bool
     !matches!(mark.kind, TypeMarkKind::Text { .. })
 }
 
-/// Whether USE-NIL stands among them.
+/// Returns whether USE-NIL is among them.
 pub fn has_use_nil(marks: &[TypeMark]) -> bool
     ensures { result ≡ told.has_use_nil marks.now }
 {
     marks.iter().any(is_use_nil)
 }
 
-/// Whether EMBED-VALUES stands among them.
+/// Returns whether EMBED-VALUES is among them.
 pub fn has_embed_values(marks: &[TypeMark]) -> bool
     ensures { result ≡ told.has_embed_values marks.now }
 {
     marks.iter().any(is_embed_values)
 }
 
-/// Whether USE-ORDER stands among them.
+/// Returns whether USE-ORDER is among them.
 pub fn has_use_order(marks: &[TypeMark]) -> bool
     ensures { result ≡ told.has_use_order marks.now }
 {
     marks.iter().any(is_use_order)
 }
 
-/// Whether LIST stands among them.
+/// Returns whether LIST is among them.
 pub fn has_list(marks: &[TypeMark]) -> bool
     ensures { result ≡ told.has_list marks.now }
 {
     marks.iter().any(is_list)
 }
 
-/// Whether USE-UNION stands among them.
+/// Returns whether USE-UNION is among them.
 pub fn has_use_union(marks: &[TypeMark]) -> bool
     ensures { result ≡ told.has_use_union marks.now }
 {
@@ -95,7 +95,7 @@ fn alone_as(kind: &TypeMarkKind) -> Alone
     }
 }
 
-// With one more instruction.
+// Returns what the instructions state with one more after them.
 fn with_mark(seen: Alone, mark: &TypeMark) -> Alone
     ensures { result ≡ told.with_mark seen mark.now }
 {
@@ -108,7 +108,7 @@ fn with_mark(seen: Alone, mark: &TypeMark) -> Alone
     }
 }
 
-/// What they say of a simple type.
+/// Returns what the instructions state of a simple type.
 pub fn told_alone(marks: &[TypeMark]) -> Alone
     ensures { result ≡ told.told_alone marks.now }
 {
@@ -119,7 +119,7 @@ pub fn told_alone(marks: &[TypeMark]) -> Alone
     seen
 }
 
-/// What is done to white space, where they say nothing else.
+/// Returns the treatment of white space, if the instructions state nothing else.
 pub fn white_space_alone(alone: Alone) -> Option<WhiteSpace>
     ensures { result ≡ told.white_space_alone alone }
 {
@@ -130,7 +130,7 @@ pub fn white_space_alone(alone: Alone) -> Option<WhiteSpace>
     }
 }
 
-/// Where an instruction stands among others.
+/// Returns the position of an instruction among others.
 pub fn rank(kind: &TypeMarkKind) -> u8
     ensures { result ≡ rank_of_type_mark kind.now }
 {
@@ -147,7 +147,7 @@ pub fn rank(kind: &TypeMarkKind) -> u8
     }
 }
 
-/// Whether an instruction of this rank may stand behind one of that: each stands once but TEXT.
+/// Returns whether an instruction of this rank may follow one of rank `before`. Each appears once, except TEXT.
 pub fn stands_once(before: Option<u8>, rank: u8) -> bool
     ensures { result ≡ may.stands_once before rank }
 {

@@ -1,4 +1,4 @@
-//! The texts for which the items of an ENUMERATED stand.
+//! The texts that the items of an ENUMERATED represent.
 ghost use Rattle.std.specs.Prelude.{◌≡◌, ◌∷◌, [], List, true, false, IfOk, MatchOption};
 ghost use Rattle.module_text.specs.declared.types.PlainName.{PlainName};
 ghost use Rattle.std.specs.List.{list_all, filter_map};
@@ -10,7 +10,7 @@ use base_texts::{Memory, Text, TextError};
 use module_text::{NameAs, PlainName, TypeMark, TypeMarkKind, Written};
 use std::alloc::Global;
 
-// What the next TEXT says, of which item, and the instructions behind it.
+// Returns the next TEXT, with its item, and the instructions after it.
 fn next_text(marks: &[TypeMark]) -> Option<(&Text, &NameAs, &[TypeMark])>
     ensures { MatchOption result
         (filter_map told.said marks.now ≡ [])
@@ -24,7 +24,7 @@ fn next_text(marks: &[TypeMark]) -> Option<(&Text, &NameAs, &[TypeMark])>
     None
 }
 
-// The text for which the first of these items stands, and the instructions that are left for the others.
+// Returns the text that this item represents, and the instructions that remain for the items after it.
 fn next_word<'a>(
     alloc: Global,
     marks: &'a [TypeMark],
@@ -43,7 +43,7 @@ fn next_word<'a>(
     Ok((Vec::from_slice(alloc, name)?, marks))
 }
 
-/// The texts for which items with these identifiers stand, as bytes.
+/// Returns the texts that items with these identifiers represent, as bytes.
 pub fn written_words(
     alloc: Global,
     marks: &[TypeMark],
@@ -61,7 +61,7 @@ pub fn written_words(
     Ok(words)
 }
 
-/// Returns the words of items as texts, or None where one is not UTF-8.
+/// Returns the words of items as texts. None if one of them is not UTF-8.
 pub fn words_of(
     alloc: Global,
     marks: &[TypeMark],

@@ -14,7 +14,7 @@ use Rattle.asn_types.specs.declared.types.Form.{Form}
 use Rattle.asn_types.specs.declared.types.Form.TheVariants as form
 use Rattle.module_print.specs.Notation.{quoted}
 
--- a name in the form that tells it from the generated one, or in quotation marks where no form does
+-- A name in the form that distinguishes it from the generated name, or in quotation marks if there is no such form.
 abbrev pub in_form : Option NameForm → List ℕ → List ℕ
 in_form (Some Capitalized) name = codes "CAPITALIZED"
 in_form (Some Uncapitalized) name = codes "UNCAPITALIZED"
@@ -24,11 +24,11 @@ in_form None name = quoted name
 abbrev pub as_name : List ℕ → List ℕ → List ℕ
 as_name generated name = codes " AS " ++ in_form (form_of generated name) name
 
--- the identifier of an item that stands for a number
+-- The identifier of an item that represents a number.
 abbrev pub number_identifier : ℤ → List ℕ
 number_identifier z = codes "int" ++ signed_decimal z
 
--- the identifier of the item of an ENUMERATED with this number, if there is one
+-- The identifier of the item of an ENUMERATED with this number, if there is one.
 abbrev pub item_identifier : Form → ℕ → Option (List ℕ)
 item_identifier (form.Words identifiers words) item = slice_get identifiers item
 item_identifier (form.Numbers numbers) item = option_map number_identifier (slice_get numbers item)
@@ -37,7 +37,7 @@ item_identifier _ item = None
 abbrev pub as_item : List ℕ → List ℕ → List ℕ
 as_item identifier text = identifier ++ as_name identifier text
 
--- in brackets, with a space behind
+-- The instruction in brackets, with a space after it.
 abbrev pub bracketed : List ℕ → List ℕ
 bracketed instruction = 91 ∷ instruction ++ codes "] "
 
@@ -47,7 +47,7 @@ name_prefix generated name = bracketed (codes "NAME" ++ as_name generated name)
 abbrev pub namespace_prefix : List ℕ → List ℕ
 namespace_prefix space = bracketed (codes "NAMESPACE AS " ++ quoted space)
 
--- to preserve white space needs no instruction
+-- Preserving white space needs no instruction.
 abbrev pub white_space_prefix : WhiteSpace → List ℕ
 white_space_prefix Preserve = []
 white_space_prefix Replace = bracketed (codes "WHITESPACE REPLACE")
@@ -56,7 +56,7 @@ white_space_prefix Collapse = bracketed (codes "WHITESPACE COLLAPSE")
 abbrev pub text_prefix : Form → ℕ → List ℕ → List ℕ
 text_prefix f item text = bracketed (codes "TEXT:" ++ as_item (unwrap_or (item_identifier f item) []) text)
 
--- an instruction of a type of this form, whose part or assignment has this generated name
+-- An instruction of a type of this form, whose part or assignment has this generated name.
 abbrev pub instruction : List ℕ → Form → Instruction → List ℕ
 instruction generated f mark.Attribute = bracketed (codes "ATTRIBUTE")
 instruction generated f mark.Untagged = bracketed (codes "UNTAGGED")
@@ -73,7 +73,7 @@ instruction generated f (mark.Text item text) = text_prefix f item text
 
 -- ---- their order
 
--- where an instruction stands among others
+-- The position of an instruction among others.
 abbrev pub rank : Instruction → ℕ
 rank mark.Attribute = 0
 rank mark.Untagged = 1
@@ -94,10 +94,10 @@ ranks = 0 ∷ 1 ∷ 2 ∷ 3 ∷ 4 ∷ 5 ∷ 6 ∷ 7 ∷ 8 ∷ 9 ∷ 10 ∷ 11 �
 abbrev pub if_ranked : List ℕ → Form → ℕ → Instruction → List ℕ
 if_ranked generated f place mark = if rank mark == place then instruction generated f mark else []
 
--- those of one rank, in the order in which they are given
+-- The instructions of one rank, in the order in which they are given.
 abbrev pub ranked : List ℕ → Form → List Instruction → ℕ → List ℕ
 ranked generated f marks place = flat_map (if_ranked generated f place) marks
 
--- all, in the order of their ranks
+-- All instructions, in the order of their ranks.
 abbrev pub instructions : List ℕ → Form → List Instruction → List ℕ
 instructions generated f marks = flat_map (ranked generated f marks) ranks

@@ -1,5 +1,5 @@
--- What is asked of the names and the fixed values of a module, so that its print tells where each encoding instruction begins and ends. Of
--- texts behind DEFAULT nothing is asked, nor of those in instructions: they stand in quotation marks.
+-- What the names and the fixed values of a module must be, so that its print shows where each encoding instruction begins and ends.
+-- Texts after DEFAULT and texts in instructions may be any, because they are in quotation marks.
 use Rattle.std.specs.Prelude.{◌≡◌, ◌==◌, ℕ, ◌<◌, Bool, true, not, ◌&&◌, List, [], All}
 use Rattle.std.specs.List.{list_all}
 use Rattle.base_trees.specs.Rose.{Rose, node, Roses, none, more}
@@ -12,25 +12,25 @@ use Rattle.asn_types.specs.declared.types.TypeLabel.{TypeLabel}
 use Rattle.asn_types.specs.declared.modules.Assignment.{Assignment}
 use Rattle.asn_types.specs.Parts.{parts_of}
 
--- neither a bracket nor a quotation mark
+-- The byte is neither a bracket nor a quotation mark.
 abbrev pub is_free : ℕ → Bool
 is_free b = not (b == 34) && not (b == 91) && not (b == 93)
 
--- A name has neither: X.680 has letters, digits and hyphens there (clauses 12.2 and 12.3).
+-- A name has neither: its characters are letters, digits and hyphens (X.680, clauses 12.2 and 12.3).
 abbrev pub IsFree : List ℕ → Type 0
 IsFree name = list_all is_free name ≡ true
 
--- a fixed value has octets, which two hexadecimal digits each tell
+-- A fixed value consists of octets, each written as two hexadecimal digits.
 abbrev pub HasOctets : Standard → Type 0
 HasOctets Free = Unit {0}
 HasOctets (Default text) = Unit {0}
 HasOctets (Fixed text) = All (λ octet. octet < 256) text
 
--- a component, an alternative or an item
+-- What holds of a component, an alternative or an item.
 abbrev pub IsNamed : Component → Type 0
 IsNamed part = IsFree part.identifier × HasOctets part.standard
 
--- the identifiers of the items of an ENUMERATED, but for those that stand for numbers
+-- The identifiers of the items of an ENUMERATED, except those that represent numbers.
 abbrev pub identifiers_of : Form → List (List ℕ)
 identifiers_of (form.Words identifiers words) = identifiers
 identifiers_of (form.Order identifiers) = identifiers

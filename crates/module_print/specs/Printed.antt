@@ -1,4 +1,4 @@
--- A module as the notation of ASN.1 (X.680) with the encoding instructions of X.693: one assignment after the other.
+-- A module in the notation of ASN.1 (X.680) with the encoding instructions of X.693: one assignment after the other.
 use Rattle.std.specs.Prelude.{ℕ, suc, ℤ, Option, List, [], ◌∷◌, ◌++◌, map, slice_get, unwrap_or, codes, if◌then◌else◌}
 use Rattle.std.specs.List.{flat_map}
 use Rattle.std.specs.Option.{option_map}
@@ -18,32 +18,32 @@ use Rattle.module_print.specs.Notation.{number_range, size_range, class_range, f
 use Rattle.module_print.specs.Instructions.{number_identifier, instructions}
 use Rattle.module_print.specs.Values.{default}
 
--- the name of the assignment with this number
+-- The name of the assignment with this number.
 abbrev pub reference_at : List Assignment → ℕ → List ℕ
 reference_at M to = unwrap_or (option_map (λ a. a.reference) (slice_get M to)) []
 
--- an item that stands for a number (clause 20): its identifier, and the number
+-- An item that represents a number (clause 20): its identifier, and the number.
 abbrev pub numbered_item : ℤ → List ℕ
 numbered_item z = number_identifier z ++ codes "(" ++ signed_decimal z ++ codes ")"
 
--- INTEGER (clause 19)
+-- INTEGER (clause 19).
 abbrev pub integer : Option ℤ → Option ℤ → List ℕ
 integer least greatest = codes "INTEGER" ++ number_range least greatest
 
--- UTF8String (clause 41)
+-- UTF8String (clause 41).
 abbrev pub text_type : ℕ → Option ℕ → Class → List ℕ
 text_type least most class = codes "UTF8String" ++ size_range least most ++ class_range class
 
--- SEQUENCE OF (clauses 26 and 49), without its item
+-- SEQUENCE OF (clauses 26 and 49), without its item.
 abbrev pub sequence_of : ℕ → Option ℕ → List ℕ
 sequence_of least most = codes "SEQUENCE" ++ size_range least most ++ codes " OF "
 
--- Where the parts of a type stand: on lines of their own, or on that of the type.
+-- The level of the parts of a type. They are on lines of their own, or on the line of the type.
 abbrev pub level_of_parts : ℕ → Form → ℕ
 level_of_parts levels (form.SequenceOf part least most) = levels
 level_of_parts levels _ = suc levels
 
--- a type (clauses 17 to 29), on a line that is indented by so many levels, with its parts
+-- A type (clauses 17 to 29) with its parts, on a line of this level of indentation.
 abbrev pub type_of : List Assignment → ℕ → Form → List (List ℕ) → List ℕ
 type_of M levels form.Bool parts = codes "BOOLEAN"
 type_of M levels (form.Int least greatest) parts = integer least greatest
@@ -56,12 +56,12 @@ type_of M levels (form.Choice alternatives) parts = codes "CHOICE " ++ block lev
 type_of M levels (form.SequenceOf item least most) parts = sequence_of least most ++ flat_map (λ part. part) parts
 type_of M levels (form.Ref to) parts = reference_at M to
 
--- an identifier with a space behind it, where there is one
+-- An identifier with a space after it, if there is one.
 abbrev pub labelled : List ℕ → List ℕ
 labelled [] = []
 labelled (byte ∷ bytes) = (byte ∷ bytes) ++ codes " "
 
--- what is said of a part that may be absent (clause 25.1)
+-- The text after the type of a part that may be absent (clause 25.1).
 abbrev pub if_absent : List Assignment → Rose TypeLabel → Standard → List ℕ
 if_absent M t Free = codes " OPTIONAL"
 if_absent M t (Default text) = default M t text
@@ -70,22 +70,22 @@ if_absent M t (Fixed text) = default M t text
 abbrev pub ending : List Assignment → Component → Rose TypeLabel → List ℕ
 ending M part t = if part.optional then if_absent M t part.standard else []
 
--- a component, an alternative or an item with its type (clauses 25, 26 and 29), which is printed so
+-- A component, an alternative or an item with its type (clauses 25, 26 and 29), whose print is `type`.
 abbrev pub with_type : List Assignment → Component → Rose TypeLabel → List ℕ → List ℕ
 with_type M part t type = labelled part.identifier ++ type ++ fixed_range part.standard ++ ending M part t
 
--- the instructions of a part or an assignment, then those of its type
+-- The instructions of a part or an assignment, then those of its type.
 abbrev pub prefixes : List ℕ → List Instruction → TypeLabel → List ℕ
 prefixes generated marks l = instructions generated l.form marks ++ instructions generated l.form l.marks
 
 module _ (M : List Assignment) where
   abbrev mutual
-    -- the type of a part or an assignment with this name and these instructions
+    -- The type of a part or an assignment with this name and these instructions.
     pub printed_type : ℕ → List ℕ → List Instruction → Rose TypeLabel → List ℕ
     printed_type levels generated marks (node l ts) =
         prefixes generated marks l ++ type_of M levels l.form (printed_parts (level_of_parts levels l.form) (parts_of l.form) ts)
 
-    -- the parts with these types
+    -- The parts with these types.
     pub printed_parts : ℕ → List Component → Roses TypeLabel → List (List ℕ)
     printed_parts levels parts none = []
     printed_parts levels parts (more t ts) =
@@ -94,15 +94,15 @@ module _ (M : List Assignment) where
           | part ∷ others ↦ with_type M part t (printed_type levels part.identifier part.marks t) ∷ printed_parts levels others ts
         ]
 
-  -- an assignment (clause 16.1) on lines of its own
+  -- An assignment (clause 16.1) on lines of its own.
   abbrev pub printed_assignment : Assignment → List ℕ
   printed_assignment a = a.reference ++ codes " ::= " ++ printed_type 0 a.reference a.marks a.body ++ codes "\n"
 
--- the module's name and its defaults (clause 13)
+-- The name and the defaults of the module (clause 13).
 abbrev pub opening : List ℕ
 opening = codes "Schema-Set DEFINITIONS XER INSTRUCTIONS AUTOMATIC TAGS ::= BEGIN\n"
 
--- what holds of all types (clause 54, and GLOBAL-DEFAULTS of X.693)
+-- What holds of all types (clause 54, and GLOBAL-DEFAULTS of X.693).
 abbrev pub closing : List ℕ
 closing =
     codes "ENCODING-CONTROL XER\n"

@@ -1,10 +1,10 @@
--- What is left of a text without its encoding instructions, each of which is in brackets with a space behind it (X.680, clause 31.3): a
--- bracket in a text in quotation marks begins none and ends none.
+-- What remains of a text without its encoding instructions. Each instruction is in brackets with a space after it (X.680, clause
+-- 31.3). A bracket in a text in quotation marks neither begins nor ends an instruction.
 use Rattle.std.specs.Prelude.{◌==◌, ℕ, Bool, true, false, not, List, [], ◌∷◌, ◌++◌, if◌then◌else◌}
 use Rattle.module_print.specs.declared.stripping.Within.{Within}
 use Rattle.module_print.specs.declared.stripping.Within.TheVariants.{Module, Text, Instruction, Quotes, Behind}
 
--- where the byte behind this one stands
+-- The position of the byte after this one.
 abbrev pub next : Within → ℕ → Within
 next Module b = if b == 91 then Instruction else if b == 34 then Text else Module
 next Text b = if b == 34 then Module else Text
@@ -12,7 +12,7 @@ next Instruction b = if b == 93 then Behind else if b == 34 then Quotes else Ins
 next Quotes b = if b == 34 then Instruction else Quotes
 next Behind b = Module
 
--- whether a byte belongs to no instruction
+-- The byte belongs to no instruction.
 abbrev pub is_kept : Within → ℕ → Bool
 is_kept Module b = not (b == 91)
 is_kept Text b = true

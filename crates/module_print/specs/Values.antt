@@ -1,5 +1,5 @@
--- The value behind DEFAULT in the notation of X.680. It is the one that a text gives, by the simple type for which the
--- type of the part stands.
+-- The value after DEFAULT in the notation of X.680. It is the value that a text gives, read by the simple type that the type of the
+-- part represents.
 use Rattle.std.specs.Prelude.{ℕ, zero, suc, Option, Some, None, Ok, Err, List, [], ◌∷◌, ◌++◌, map, slice_get, unwrap_or, codes, if◌then◌else◌}
 use Rattle.std.specs.Option.{option_map}
 use Rattle.std.specs.Fmt.{signed_decimal}
@@ -18,27 +18,27 @@ use Rattle.asn_types.specs.Spaces.{space_at}
 use Rattle.module_print.specs.Notation.{quoted, listed}
 use Rattle.module_print.specs.Instructions.{item_identifier}
 
--- BOOLEAN (clause 18.3)
+-- BOOLEAN (clause 18.3).
 abbrev pub truth : ValueLabel → List ℕ
 truth (label.Bool b) = if b then codes "TRUE" else codes "FALSE"
 truth _ = []
 
--- INTEGER (clause 19.9)
+-- INTEGER (clause 19.9).
 abbrev pub whole : ValueLabel → List ℕ
 whole (label.Int z) = signed_decimal z
 whole _ = []
 
--- ENUMERATED (clause 20.8): the identifier of the item
+-- ENUMERATED (clause 20.8): the identifier of the item.
 abbrev pub item : Form → ValueLabel → List ℕ
 item f (label.Enum i) = unwrap_or (item_identifier f i) []
 item f _ = []
 
--- UTF8String (clause 41)
+-- UTF8String (clause 41).
 abbrev pub characters : ValueLabel → List ℕ
 characters (label.Utf8 text) = quoted text
 characters _ = []
 
--- SEQUENCE OF (clause 26.3)
+-- SEQUENCE OF (clause 26.3).
 abbrev pub items : List (List ℕ) → List ℕ
 items [] = codes "{}"
 items (value ∷ values) = codes "{" ++ listed (codes " ") (value ∷ values) ++ codes " }"
@@ -46,12 +46,12 @@ items (value ∷ values) = codes "{" ++ listed (codes " ") (value ∷ values) ++
 abbrev pub alternative : List Component → ℕ → List ℕ
 alternative parts i = unwrap_or (option_map (λ (part : Component). part.identifier) (slice_get parts i)) []
 
--- CHOICE (clause 29): the identifier of the alternative, and its value
+-- CHOICE (clause 29): the identifier of the alternative, and its value.
 abbrev pub chosen : List Component → (ℕ → Rose ValueLabel → List ℕ) → Option (ℕ × Rose ValueLabel) → List ℕ
 chosen parts written None = []
 chosen parts written (Some choice) = alternative parts choice.0 ++ codes " : " ++ written choice.0 choice.1
 
--- a value of a type that stands for a simple type: no other part of it is a reference or a SEQUENCE
+-- A value of a type that represents a simple type. Such a type has no part that is a reference or a SEQUENCE.
 abbrev mutual
   pub value_notation : Rose TypeLabel → Rose ValueLabel → List ℕ
   value_notation (node l ts) v = elim l.form [
@@ -67,21 +67,21 @@ abbrev mutual
     | form.Ref to ↦ []
   ]
 
-  -- of the part with this number
+  -- A value of the part with this number.
   pub part_notation : Roses TypeLabel → ℕ → Rose ValueLabel → List ℕ
   part_notation rose.none i v = []
   part_notation (rose.more t ts) zero v = value_notation t v
   part_notation (rose.more t ts) (suc i) v = part_notation ts i v
 
--- a text that has no value is written as it is; in a module each has one
+-- A text that has no value is written as it is. In a module each has one.
 abbrev pub read_notation : Rose TypeLabel → List ℕ → Reading → List ℕ
 read_notation t text (Ok v) = value_notation t v
 read_notation t text (Err why) = quoted text
 
--- the value that the text gives, of a type that is found through references
+-- The value that the text gives, of a type that is found through references.
 abbrev pub value_of : List Assignment → Rose TypeLabel → List ℕ → List ℕ
 value_of M t text = read_notation (resolve M t) text (reads (space_at (resolve M t)) text)
 
--- what a part is where it is absent (clause 25.1)
+-- DEFAULT and the value of a part that is absent (clause 25.1).
 abbrev pub default : List Assignment → Rose TypeLabel → List ℕ → List ℕ
 default M t text = codes " DEFAULT " ++ value_of M t text

@@ -9,7 +9,7 @@ use base_texts::{Memory, Text, WhiteSpace};
 use itoa::Buffer;
 use std::alloc::{AllocError, Global};
 
-// A name, in the form that tells it from the generated one.
+// Appends a name, in the form that distinguishes it from the generated name.
 fn write_as_name(out: &mut Vec<u8>, generated: &Text, name: &Text) -> Result<(), AllocError>
     ensures { OnOk result (out.new.items ≡ out.old.items ++ as_name generated.now name.now) }
 {
@@ -47,7 +47,7 @@ fn write_white_space(out: &mut Vec<u8>, how: WhiteSpace) -> Result<(), AllocErro
     }
 }
 
-// The identifier of an item that stands for a number.
+// Returns the identifier of an item that represents a number.
 fn number_identifier(alloc: Global, n: i128) -> Result<Text, Memory>
     ensures { IfOk result (λ identifier. identifier ≡ number_identifier n) }
 {
@@ -56,7 +56,7 @@ fn number_identifier(alloc: Global, n: i128) -> Result<Text, Memory>
     Text::from_string(identifier)
 }
 
-// The text of an item with this identifier.
+// Appends the text of an item with this identifier.
 fn write_as_item(out: &mut Vec<u8>, identifier: &Text, text: &Text) -> Result<(), Memory>
     ensures { OnOk result (out.new.items ≡ out.old.items ++ as_item identifier.now text.now) }
 {
@@ -65,7 +65,7 @@ fn write_as_item(out: &mut Vec<u8>, identifier: &Text, text: &Text) -> Result<()
     Ok(())
 }
 
-// The text of the item with this number.
+// Appends the text of the item with this number.
 fn write_item(out: &mut Vec<u8>, form: &Form, item: u32, text: &Text) -> Result<(), Memory>
     ensures { OnOk result (out.new.items ≡ out.old.items ++ as_item (unwrap_or (item_identifier form.now item) []) text.now) }
 {
@@ -96,7 +96,7 @@ fn write_text(out: &mut Vec<u8>, form: &Form, item: u32, text: &Text) -> Result<
     Ok(())
 }
 
-// An instruction of a type of this form, whose part or assignment has this generated name.
+// Appends an instruction of a type of this form, whose part or assignment has this generated name.
 fn write_instruction(
     out: &mut Vec<u8>,
     generated: &Text,
@@ -122,7 +122,7 @@ fn write_instruction(
     Ok(())
 }
 
-// Where an instruction stands among others.
+// Returns the position of an instruction among others.
 fn rank(mark: &Instruction) -> u8
     ensures { result ≡ rank mark.now }
 {
@@ -144,7 +144,7 @@ fn rank(mark: &Instruction) -> u8
 
 const RANKS: [u8; 12] = [0, 1, 2, 3, 4, 5, 6, 7, 8, 9, 10, 11];
 
-// An instruction where it has this rank.
+// Appends an instruction if it has this rank.
 fn write_if_ranked(
     out: &mut Vec<u8>,
     generated: &Text,
@@ -160,7 +160,7 @@ fn write_if_ranked(
     Ok(())
 }
 
-// Those of one rank.
+// Appends the instructions of one rank.
 fn write_ranked(
     out: &mut Vec<u8>,
     generated: &Text,
@@ -176,7 +176,7 @@ fn write_ranked(
     Ok(())
 }
 
-// All, in the order of their ranks.
+// Appends all instructions, in the order of their ranks.
 pub(crate) fn write_instructions(
     out: &mut Vec<u8>,
     generated: &Text,

@@ -8,7 +8,7 @@ use itoa::Buffer;
 use simple_types::{Class, Standard};
 use std::alloc::AllocError;
 
-// The longest front without a quotation mark, and the rest.
+// Returns the longest prefix without a quotation mark, and the rest.
 fn split_plain(bytes: &[u8]) -> (&[u8], &[u8])
     ensures parts { bytes.now ≡ result.0.now ++ result.1.now }
     ensures plain { flat_map doubled result.0.now ≡ result.0.now }
@@ -21,7 +21,7 @@ fn split_plain(bytes: &[u8]) -> (&[u8], &[u8])
     (bytes, &[])
 }
 
-// With each quotation mark doubled.
+// Appends the bytes with each quotation mark doubled.
 fn write_doubled(out: &mut Vec<u8>, bytes: &[u8]) -> Result<(), AllocError>
     ensures { OnOk result (out.new.items ≡ out.old.items ++ flat_map doubled bytes.now) }
 {
@@ -55,7 +55,7 @@ pub(crate) fn write_number(out: &mut Vec<u8>, n: i128) -> Result<(), AllocError>
     out.extend_from_slice(Buffer::new().format(n).as_bytes())
 }
 
-// The end of a range: the bound, or this word where there is none.
+// Appends the end of a range: the bound, or this word if there is none.
 fn write_end(out: &mut Vec<u8>, bound: Option<i128>, open: &[u8]) -> Result<(), AllocError>
     ensures { OnOk result (out.new.items ≡ out.old.items ++ end_of open.now bound) }
 {
@@ -135,7 +135,7 @@ pub(crate) fn write_class(out: &mut Vec<u8>, class: Class) -> Result<(), AllocEr
     }
 }
 
-// A hexadecimal digit.
+// Returns a hexadecimal digit.
 fn hexadecimal_digit(number: u8) -> u8
     requires { number < 16 }
     ensures { result ≡ hexadecimal_digit number }
@@ -164,7 +164,7 @@ fn write_hexadecimal(out: &mut Vec<u8>, octets: &[u8]) -> Result<(), AllocError>
     Ok(())
 }
 
-// A fixed value, as a comment.
+// Appends a fixed value, as a comment.
 pub(crate) fn write_fixed(out: &mut Vec<u8>, standard: &Standard) -> Result<(), AllocError>
     ensures { OnOk result (out.new.items ≡ out.old.items ++ fixed_range standard.now) }
 {
@@ -179,7 +179,7 @@ pub(crate) fn write_fixed(out: &mut Vec<u8>, standard: &Standard) -> Result<(), 
     }
 }
 
-// The comma before the item with this number.
+// Appends the comma before the item with this number.
 pub(crate) fn write_comma(out: &mut Vec<u8>, i: usize) -> Result<(), AllocError>
     ensures { OnOk result (out.new.items ≡ out.old.items ++ comma i) }
 {
@@ -189,7 +189,7 @@ pub(crate) fn write_comma(out: &mut Vec<u8>, i: usize) -> Result<(), AllocError>
     Ok(())
 }
 
-// A line feed, and the indent of a line, which is four spaces for each level.
+// Appends a line feed, and the indentation of a line: four spaces for each level.
 pub(crate) fn write_new_line(out: &mut Vec<u8>, levels: usize) -> Result<(), AllocError>
     ensures { OnOk result (out.new.items ≡ out.old.items ++ new_line levels) }
 {

@@ -1,4 +1,4 @@
-//! The whole text of a module.
+//! The complete text of a module.
 ghost use Rattle.std.specs.Prelude.{◌≡◌, ◌++◌, OnOk, IfOk};
 ghost use Rattle.asn_types.specs.Modules.{AreWellFormed};
 ghost use Rattle.module_print.specs.Printed.{printed_assignment, printed};
@@ -13,7 +13,7 @@ const OPENING: &[u8] = b"Schema-Set DEFINITIONS XER INSTRUCTIONS AUTOMATIC TAGS 
 const CLOSING: &[u8] =
     b"ENCODING-CONTROL XER\n    GLOBAL-DEFAULTS MODIFIED-ENCODINGS\n    GLOBAL-DEFAULTS CONTROL-NAMESPACE \"http://www.w3.org/2001/XMLSchema-instance\" PREFIX \"xsi\"\nEND\n";
 
-// An assignment, on lines of its own.
+// Appends an assignment, on lines of its own.
 fn write_assignment(
     out: &mut Vec<u8>,
     module: &Module,
@@ -34,11 +34,11 @@ fn write_assignment(
     Ok(())
 }
 
-/// The text of the module in UTF-8. The time is linear in the length of the text.
+/// Returns the text of the module in UTF-8. The time is linear in the length of the text.
 pub fn print_module(alloc: Global, module: &Module) -> Result<Vec<u8>, Memory>
     ensures { IfOk result (λ text. text.items ≡ printed module.now) }
 {
-    // What each module keeps is known once one of its readers was called.
+    // Calling one of the module's readers makes its invariant known.
     let _ = module.count();
     let assignments = module.assignments();
     let mut out = Vec::from_slice(alloc, OPENING)?;

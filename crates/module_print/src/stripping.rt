@@ -18,8 +18,8 @@ const CLOSING: &[u8] =
 
 const PLAIN_CLOSING: &[u8] = b"END\n";
 
-/// Where a byte of a module stands: outside of an encoding instruction, there in a text in quotation marks, in an instruction, in
-/// a text in quotation marks in one, or behind one.
+/// The position of a byte of a module. It is in an encoding instruction, in a quoted text in one, after one, in a quoted text
+/// elsewhere, or outside of all these.
 #[derive(Clone, Copy, PartialEq, Eq)]
 pub(crate) enum Within {
     Module,
@@ -29,7 +29,8 @@ pub(crate) enum Within {
     Behind,
 }
 
-// Where the byte behind this one stands. A quotation mark in a text is written twice, and so leaves it and enters it again.
+// Returns the position of the byte after this one. A quotation mark in a text is written twice, so it ends the text and begins it
+// again.
 fn behind(within: Within, byte: u8) -> Within
     ensures { result ≡ next within byte }
 {
@@ -45,7 +46,7 @@ fn behind(within: Within, byte: u8) -> Within
     }
 }
 
-// Whether a byte belongs to no instruction.
+// Returns whether a byte belongs to no instruction.
 fn is_kept(within: Within, byte: u8) -> bool
     ensures { result ≡ is_kept within byte }
 {
@@ -56,7 +57,7 @@ fn is_kept(within: Within, byte: u8) -> bool
     }
 }
 
-// The text without its instructions, each with the space behind it.
+// Returns the text without its instructions and the space after each.
 fn without_instructions(alloc: Global, text: &[u8]) -> Result<Vec<u8>, AllocError>
     ensures { IfOk result (λ left. left.items ≡ stripped Within.Module text.now) }
 {
@@ -73,7 +74,7 @@ fn without_instructions(alloc: Global, text: &[u8]) -> Result<Vec<u8>, AllocErro
     Ok(left)
 }
 
-// What stands between the opening and the closing of a printed module.
+// Returns the bytes between the opening and the closing of a printed module.
 fn between(text: &[u8]) -> Option<&[u8]>
     ensures { (body : List ℕ) → text.now ≡ print.opening ++ body ++ print.closing → MatchOption result ⊥ (λ part. part.now ≡ body) }
 {
@@ -86,8 +87,8 @@ fn between(text: &[u8]) -> Option<&[u8]>
     }
 }
 
-/// The printed module without its encoding instructions and its encoding control (X.693). A text that doesn't begin and end as printed
-/// modules do comes back as it is.
+/// Returns the printed module without its encoding instructions and its encoding control (X.693). A text that doesn't begin and end
+/// as printed modules do is returned unchanged.
 pub fn plain_module(alloc: Global, text: &[u8]) -> Result<Vec<u8>, Memory>
     ensures { (M : List Assignment) → text.now ≡ print.printed M → IsNotation M → IfOk result (λ left. left.items ≡ rule.plain M) }
 {

@@ -18,7 +18,7 @@ use base_trees::Tree;
 use simple_types::{Class, Standard};
 use std::alloc::AllocError;
 
-// An item that stands for a number.
+// Appends an item that represents a number.
 fn write_numbered_item(out: &mut Vec<u8>, n: i128) -> Result<(), AllocError>
     ensures { OnOk result (out.new.items ≡ out.old.items ++ numbered_item n) }
 {
@@ -80,7 +80,7 @@ fn write_text_type(
     write_class(out, class)
 }
 
-// SEQUENCE OF without its item.
+// Appends SEQUENCE OF without its item.
 fn write_sequence_of(out: &mut Vec<u8>, least: u32, most: Option<u32>) -> Result<(), AllocError>
     ensures { OnOk result (out.new.items ≡ out.old.items ++ sequence_of least most) }
 {
@@ -89,7 +89,7 @@ fn write_sequence_of(out: &mut Vec<u8>, least: u32, most: Option<u32>) -> Result
     out.extend_from_slice(b" OF ")
 }
 
-// An identifier with a space behind it, where there is one.
+// Appends an identifier with a space after it, if there is one.
 fn write_identifier(out: &mut Vec<u8>, identifier: &Text) -> Result<(), AllocError>
     ensures { OnOk result (out.new.items ≡ out.old.items ++ labelled identifier.now) }
 {
@@ -102,7 +102,7 @@ fn write_identifier(out: &mut Vec<u8>, identifier: &Text) -> Result<(), AllocErr
     Ok(())
 }
 
-// What is said of a part that may be absent.
+// Appends the text after the type of a part that may be absent.
 fn write_ending(
     out: &mut Vec<u8>,
     module: &Module,
@@ -123,7 +123,7 @@ fn write_ending(
     Ok(())
 }
 
-// The name of the assignment with this number, if there is one.
+// Appends the name of the assignment with this number, if there is one.
 fn write_reference(out: &mut Vec<u8>, module: &Module, to: u32) -> Result<(), AllocError>
     ensures { OnOk result (out.new.items ≡ out.old.items ++ reference_at module.now to) }
 {
@@ -133,7 +133,7 @@ fn write_reference(out: &mut Vec<u8>, module: &Module, to: u32) -> Result<(), Al
     }
 }
 
-// The instructions of a part or an assignment, then those of its type.
+// Appends the instructions of a part or an assignment, then those of its type.
 fn write_prefixes(
     out: &mut Vec<u8>,
     generated: &Text,
@@ -146,7 +146,7 @@ fn write_prefixes(
     write_instructions(out, generated, &label.form, &label.marks)
 }
 
-// The brace behind the parts, on a line of its own.
+// Appends the brace after the parts, on a line of its own.
 fn write_closing_brace(out: &mut Vec<u8>, levels: usize) -> Result<(), AllocError>
     ensures { OnOk result (out.new.items ≡ out.old.items ++ (new_line levels ++ 125 ∷ [])) }
 {
@@ -155,8 +155,8 @@ fn write_closing_brace(out: &mut Vec<u8>, levels: usize) -> Result<(), AllocErro
     Ok(())
 }
 
-/// The type of a part or an assignment with this generated name and these instructions, on a line that is indented by so
-/// many levels. That indentation is in the text already, so the levels don't outgrow a number.
+/// Appends the type of a part or an assignment with this generated name and these instructions, on a line of this level of
+/// indentation. That indentation is in the text already, so the level doesn't overflow.
 #[cycle(types)]
 pub(crate) fn write_type(
     out: &mut Vec<u8>,
@@ -215,7 +215,7 @@ fn write_form(
     Ok(())
 }
 
-// The parts in braces.
+// Appends the parts in braces.
 #[cycle(types)]
 fn write_block(
     out: &mut Vec<u8>,
@@ -241,7 +241,7 @@ fn write_block(
     Ok(())
 }
 
-// The parts, each on a line of its own.
+// Appends the parts, each on a line of its own.
 #[cycle(types)]
 fn write_parts(
     out: &mut Vec<u8>,

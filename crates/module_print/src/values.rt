@@ -1,4 +1,4 @@
-//! Values behind DEFAULT.
+//! Values after DEFAULT.
 ghost use Rattle.std.specs.Prelude.{◌≡◌, ◌++◌, [], Some, None, MatchOption, OnOk, unwrap_or, map};
 ghost use Rattle.base_trees.specs.Rose.{roses_of, label_of, kids_of};
 ghost use Rattle.simple_types.specs.Answering.{AnswersReading};
@@ -35,7 +35,7 @@ fn write_whole(out: &mut Vec<u8>, label: &ValueLabel) -> Result<(), AllocError>
     }
 }
 
-// The identifier of the item of an ENUMERATED with this number, if there is one.
+// Appends the identifier of the item of an ENUMERATED with this number, if there is one.
 fn write_item_identifier(out: &mut Vec<u8>, form: &Form, item: u32) -> Result<(), AllocError>
     ensures { OnOk result (out.new.items ≡ out.old.items ++ unwrap_or (item_identifier form.now item) []) }
 {
@@ -73,7 +73,7 @@ fn write_characters(out: &mut Vec<u8>, label: &ValueLabel) -> Result<(), AllocEr
     }
 }
 
-// The identifier of the alternative with this number, if there is one.
+// Appends the identifier of the alternative with this number, if there is one.
 fn write_alternative(out: &mut Vec<u8>, parts: &[Component], i: u32) -> Result<(), AllocError>
     ensures { OnOk result (out.new.items ≡ out.old.items ++ alternative parts.now i) }
 {
@@ -83,7 +83,7 @@ fn write_alternative(out: &mut Vec<u8>, parts: &[Component], i: u32) -> Result<(
     }
 }
 
-// The alternative that a value chooses, and the value of it.
+// Returns the alternative that a value chooses, and its value.
 fn choice_of<'a>(value: &Node<'a, ValueLabel>) -> Option<(u32, Node<'a, ValueLabel>)>
     ensures { MatchOption result
         (choice_at (label_of value.now) (kids_of value.now) ≡ None)
@@ -96,7 +96,7 @@ fn choice_of<'a>(value: &Node<'a, ValueLabel>) -> Option<(u32, Node<'a, ValueLab
     Some((*i, value))
 }
 
-// A value of the part with this number, if there is one.
+// Appends a value of the part with this number, if there is one.
 #[cycle(values)]
 fn write_part(
     out: &mut Vec<u8>,
@@ -112,7 +112,7 @@ fn write_part(
     }
 }
 
-// The items in braces, of a SEQUENCE OF with these types of parts, which are one.
+// Appends the items of a SEQUENCE OF in braces. These are the types of its parts, of which there is one.
 #[cycle(values)]
 fn write_items(
     out: &mut Vec<u8>,
@@ -151,7 +151,7 @@ fn write_chosen(
     write_part(out, kids, i, &value)
 }
 
-// A value of a type that stands for a simple type.
+// Appends a value of a type that represents a simple type.
 #[cycle(values)]
 fn write_value(
     out: &mut Vec<u8>,
@@ -175,7 +175,7 @@ fn write_value(
     }
 }
 
-// What was read of a text: a value, or the text itself where there is none.
+// Appends the value read from a text, or the text itself if it has none.
 fn write_read(
     out: &mut Vec<u8>,
     tree: &Tree<TypeLabel>,
@@ -193,7 +193,7 @@ fn write_read(
     Ok(())
 }
 
-/// DEFAULT and the value that the text gives, which spells one of the type.
+/// Appends DEFAULT and the value that the text gives. The text spells a value of the type.
 pub(crate) fn write_default(
     out: &mut Vec<u8>,
     module: &Module,

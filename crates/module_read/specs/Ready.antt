@@ -1,5 +1,5 @@
--- What is asked of a plain text of which a module is made: names and texts are UTF-8, default values have their spelling, and
--- each part has its type. So it is with a text without faults.
+-- What a plain text must be so that a module can be made from it. Names and texts are UTF-8, default values have their spelling,
+-- and each part has its type. A text without faults is such a text.
 use Rattle.std.specs.Prelude.{◌≡◌, ℕ, ◌+◌, ◌<◌, ◌^◌, true, false, Option, Some, None, List, [], ◌∷◌, length, All, IsUtf8, unwrap_or}
 use Rattle.std.specs.List.{list_all}
 use Rattle.std.specs.Str.{is_utf8}
@@ -56,7 +56,7 @@ AreTypeMarksReady spot f least (m ∷ ms) = IsTypeMarkReady spot f least m.kind 
 
 -- ---- forms
 
--- There are fewer items than a number of 32 bits can name.
+-- There are fewer than 2^32 items.
 abbrev pub HasRoom : PlainForm → Type 0
 HasRoom (form.Words identifiers) = length identifiers < 2 ^ 32
 HasRoom f = Unit {0}
@@ -74,7 +74,7 @@ IsText (Some text) = IsUtf8 text
 abbrev pub spelling_of : Rose PlainLabel → Rose PlainValueLabel → Option (List ℕ)
 spelling_of t v = spelling_told (label_of t) (kids_of t) v
 
--- what the text says of the value of a part whose type, through references, is this
+-- The default or fixed value that the text gives for a part whose type, through references, is this.
 abbrev pub standard_told : Rose PlainLabel → Option PlainOctets → Absence → Standard
 standard_told t (Some octets) absence = Fixed (unwrap_or (octets_of octets.digits) [])
 standard_told t None (absence.Default v) = Default (unwrap_or (spelling_of t v) [])
@@ -90,7 +90,7 @@ IsStandardReady t None absence.Never = Unit {0}
 -- ---- types
 
 module _ (P : List PlainAssignment) where
-  -- A default value, where there is one, is one of the simple type.
+  -- A default value, if there is one, is one of the simple type.
   pub record IsPartReady (spot : Spot) (part : PlainPart) (t : Rose PlainLabel) : Type 0 where
     pub marks : ArePartMarksReady part.identifier part.marks
     pub standard : IsStandardReady (resolve P t) part.fixed part.absence
@@ -106,7 +106,7 @@ module _ (P : List PlainAssignment) where
     pub IsTypeReady : Spot → Rose PlainLabel → Type 0
     IsTypeReady spot (node l ts) = IsLabelReady spot l ts × ArePartsReady spot l 0 (parts_of l.form) ts
 
-    -- the parts from the one with number i on, with these types
+    -- The parts from the one with number i on, with these types, are ready.
     pub ArePartsReady : Spot → PlainLabel → ℕ → List PlainPart → Roses PlainLabel → Type 0
     ArePartsReady spot l i parts none = Unit {0}
     ArePartsReady spot l i parts (more t ts) =
@@ -140,7 +140,7 @@ module _ (P : List PlainAssignment) where
   components_told (part ∷ parts) none = []
   components_told (part ∷ parts) (more t ts) = component_told P part t ∷ components_told parts ts
 
-  -- what making them asks
+  -- The instructions and the default or fixed value of a part are ready.
   abbrev pub IsPartSpelled : PlainPart → Rose PlainLabel → Type 0
   IsPartSpelled part t = ArePartMarksReady part.identifier part.marks × IsStandardReady (resolve P t) part.fixed part.absence
 

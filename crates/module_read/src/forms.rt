@@ -1,4 +1,4 @@
-//! What types are, but for the types of their parts.
+//! Types without the types of their parts.
 ghost use Rattle.std.specs.Prelude.{◌≡◌, ◌<◌, ◌^◌, [], false, true, IfOk, unwrap_or, length};
 ghost use Rattle.std.specs.List.{list_all};
 ghost use Rattle.std.specs.Str.{is_utf8};
@@ -82,7 +82,7 @@ fn numbers(alloc: Global, items: &[NumberedItem]) -> Result<Form, Memory>
     Ok(Form::Numbers { numbers })
 }
 
-// The identifiers of items.
+// Returns the identifiers of items.
 fn identifiers(alloc: Global, items: &[PlainName]) -> Result<TextList, Memory>
     ensures { IfOk result (λ made. made ≡ meant.names_of items.now) }
 {
@@ -93,7 +93,7 @@ fn identifiers(alloc: Global, items: &[PlainName]) -> Result<TextList, Memory>
     TextList::of(names)
 }
 
-// The words for which items stand.
+// Returns the words that items represent.
 fn words(alloc: Global, marks: &[TypeMark], items: &[PlainName]) -> Result<TextList, Memory>
     requires { list_all is_utf8 (told.words_of marks.now items.now) ≡ true }
     ensures { IfOk result (λ made. made ≡ told.words_of marks.now items.now) }
@@ -104,7 +104,7 @@ fn words(alloc: Global, marks: &[TypeMark], items: &[PlainName]) -> Result<TextL
     }
 }
 
-// An ENUMERATED of items without numbers, which stand for the words or the parts of an order.
+// Returns an ENUMERATED of items without numbers, which represent words or the parts of an order.
 fn enumerated(
     alloc: Global,
     spot: Spot,
@@ -122,7 +122,7 @@ fn enumerated(
     Ok(Form::Words { identifiers, words })
 }
 
-// Parts with these types.
+// Returns parts with these types.
 fn components(
     alloc: Global,
     references: &References,
@@ -143,7 +143,7 @@ fn components(
     Ok(Components::of(made))
 }
 
-// The number of the assignment with this reference.
+// Returns the number of the assignment with this reference.
 fn number(references: &References, assignments: &[PlainAssignment], reference: &Text) -> u32
     requires references { Knows references.now assignments.now }
     requires count { length assignments.now < 2 ^ 32 }
@@ -155,7 +155,7 @@ fn number(references: &References, assignments: &[PlainAssignment], reference: &
     }
 }
 
-/// What a type with these instructions is that stands here, whose parts have these types.
+/// Returns the form of a type at this spot with these instructions, whose parts have these types.
 pub(crate) fn form(
     alloc: Global,
     references: &References,

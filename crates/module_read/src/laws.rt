@@ -1,10 +1,10 @@
-//! Laws of what bytes are read back to.
+//! Laws of the result of reading bytes back.
 ghost use Rattle.module_read.specs.Tells.{OneAnswer, SomeAnswer};
 
 use module_grammar::texts_are_read;
 use module_laws::{least_is_first, no_fault_is_printable};
 
-/// Bytes tell at most one module, or have at most one first fault, and never both.
+/// States that bytes state at most one module, or have at most one first fault, and never both.
 pub fn one_answer()
     ensures { OneAnswer }
 {
@@ -12,7 +12,7 @@ pub fn one_answer()
     least_is_first();
 }
 
-/// Bytes in UTF-8 tell a module or have a first fault.
+/// States that bytes in UTF-8 state a module or have a first fault.
 pub fn some_answer()
     ensures { SomeAnswer }
 {

@@ -1,4 +1,4 @@
-//! What a module has, a line for each assignment.
+//! The contents of a module, one line for each assignment.
 ghost use Rattle.std.specs.Prelude.{◌≡◌, ◌++◌, IfOk, OnOk};
 ghost use Rattle.asn_types.specs.Names.{space_told};
 ghost use Rattle.module_read.specs.Summary as told;
@@ -8,7 +8,7 @@ use base_texts::Memory;
 use itoa::Buffer;
 use std::alloc::Global;
 
-// The namespace that they tell, which has no bytes where there is none.
+// Returns the namespace that the instructions give. It is empty if there is none.
 fn space_of(marks: &Marks) -> &[u8]
     ensures { result.now ≡ space_told marks.now }
 {
@@ -18,7 +18,7 @@ fn space_of(marks: &Marks) -> &[u8]
     }
 }
 
-// The front of a line, up to the local name.
+// Appends the first part of a line, up to the local name.
 fn write_head(out: &mut Vec<u8>, assignment: &Assignment) -> Result<(), Memory>
     ensures { OnOk result (out.new.items ≡ out.old.items ++ told.head assignment.now) }
 {
@@ -41,8 +41,8 @@ fn write_line(out: &mut Vec<u8>, assignment: &Assignment) -> Result<(), Memory>
     Ok(())
 }
 
-/// Of each assignment its reference, the name for which it stands, `{namespace}local`, and how many types its type has, with
-/// itself.
+/// Returns a line for each assignment: its reference, the name that it represents as `{namespace}local`, and the number of types in
+/// its type, which is included.
 pub fn summary(alloc: Global, found: &Module) -> Result<Vec<u8>, Memory>
     ensures { IfOk result (λ text. text.items ≡ told.summary found.now) }
 {

@@ -16,7 +16,7 @@ use module_text::{
 };
 use std::alloc::Global;
 
-// The name that is told beside an identifier or a reference.
+// Returns the name that is given next to an identifier or a reference.
 fn name(alloc: Global, generated: &Text, name: &NameAs) -> Result<Text, Memory>
     requires { IsUtf8 (told.told_name generated.now name.now) }
     ensures { IfOk result (λ text. text ≡ told.told_name generated.now name.now) }
@@ -43,7 +43,7 @@ fn part_mark(alloc: Global, generated: &Text, kind: &PartMarkKind) -> Result<Ins
     }
 }
 
-/// The instructions of a part or an assignment of this name.
+/// Returns the instructions of a part or an assignment of this name.
 pub(crate) fn part_marks(
     alloc: Global,
     generated: &Text,
@@ -60,7 +60,7 @@ pub(crate) fn part_marks(
     Ok(Marks::of(entries))
 }
 
-// Where the first item with this identifier stands among those from a least place on.
+// Returns the place of the first item with this identifier, from a least place on.
 fn place_from(items: &[PlainName], least: usize, identifier: &Text) -> Option<usize>
     ensures place { result ≡ position_from (λ (i : PlainName). bytes_eq i.name identifier.now) least (drop least items.now) }
     ensures within { IfSome result (λ place. place < length items.now) }
@@ -73,7 +73,7 @@ fn place_from(items: &[PlainName], least: usize, identifier: &Text) -> Option<us
     None
 }
 
-// The number of the first item with this identifier among those from a least number on, where items stand for words.
+// Returns the number of the first item with this identifier from a least number on, if items represent words.
 fn item_number(spot: Spot, form: &PlainForm, least: u32, identifier: &Text) -> Option<u32>
     requires { ready.HasRoom form.now }
     ensures number { result ≡ may.item_number spot form.now least identifier.now }
@@ -90,7 +90,7 @@ fn item_number(spot: Spot, form: &PlainForm, least: u32, identifier: &Text) -> O
     }
 }
 
-// TEXT, and the least number that the item of a TEXT behind it may have.
+// Returns TEXT, and the least number that the item of a TEXT after it may have.
 fn text_mark(
     alloc: Global,
     spot: Spot,
@@ -113,7 +113,7 @@ fn text_mark(
     }
 }
 
-// An instruction of a type, and the least number that the item of a TEXT behind it may have.
+// Returns an instruction of a type, and the least number that the item of a TEXT after it may have.
 fn type_mark(
     alloc: Global,
     spot: Spot,
@@ -140,7 +140,7 @@ fn type_mark(
     }
 }
 
-/// The instructions of a type of this form that stands here. The time is linear in them and the items of the type.
+/// Returns the instructions of a type of this form at this spot. The time is linear in them and in the items of the type.
 pub(crate) fn type_marks(
     alloc: Global,
     spot: Spot,

@@ -51,7 +51,7 @@ fn make_ready(alloc: Global, assignments: &[PlainAssignment]) -> Result<Vec<Assi
     Ok(made)
 }
 
-/// The assignments of the module that a plain text without faults tells. The time is linear in the text.
+/// Returns the assignments of the module that a plain text without faults states. The time is linear in the text.
 pub fn make(alloc: Global, assignments: &[PlainAssignment]) -> Result<Vec<Assignment>, Memory>
     requires plain { IsPlain assignments.now }
     requires faultless { faults assignments.now ≡ [] }

@@ -22,7 +22,7 @@ use simple_types::Standard;
 use std::alloc::Global;
 use std::slice;
 
-/// The parts of a type.
+/// Returns the parts of a type.
 pub(crate) fn parts_of(form: &PlainForm) -> &[PlainPart]
     ensures { result.now ≡ parts_of form.now }
 {
@@ -34,7 +34,7 @@ pub(crate) fn parts_of(form: &PlainForm) -> &[PlainPart]
     }
 }
 
-/// Where the type of a part stands.
+/// Returns the spot of the type of a part.
 pub(crate) fn part_spot(spot: Spot, label: &PlainLabel, i: usize, part: &PlainPart) -> Spot
     requires { i < length (parts_of label.now.form) }
     ensures { result ≡ rule.part_spot spot label.now i part.now }
@@ -48,7 +48,7 @@ pub(crate) fn part_spot(spot: Spot, label: &PlainLabel, i: usize, part: &PlainPa
     }
 }
 
-// The text of a fixed value.
+// Returns the text of a fixed value.
 fn fixed_text(alloc: Global, octets: &PlainOctets) -> Result<Text, Memory>
     requires { ready.IsText (octets_of octets.now.digits) }
     ensures { IfOk result (λ text. octets_of octets.now.digits ≡ Some text) }
@@ -59,7 +59,7 @@ fn fixed_text(alloc: Global, octets: &PlainOctets) -> Result<Text, Memory>
     }
 }
 
-// The text of a value that is written at this type, which has this index if it is known.
+// Returns the text of a value that is written at this type, which has this index if it is known.
 fn value_text(
     alloc: Global,
     index: Option<&Tree<Index>>,
@@ -76,7 +76,7 @@ fn value_text(
     }
 }
 
-// The default or fixed value of a part whose type, through references, is this, with this index if it is known.
+// Returns the default or fixed value of a part whose type, through references, is this. It has this index if it is known.
 fn standard(
     alloc: Global,
     index: Option<&Tree<Index>>,
@@ -102,7 +102,7 @@ fn standard(
     }
 }
 
-/// The part with this type.
+/// Returns the part with this type.
 pub(crate) fn component(
     alloc: Global,
     references: &References,

@@ -1,4 +1,4 @@
-//! Bytes to the module of which they are the print.
+//! Reading bytes back to the module whose print they are.
 ghost use Rattle.std.specs.Prelude.{◌≡◌, ◌≤◌, [], IfOk, IsUtf8, MatchResult, length};
 ghost use Rattle.module_text.specs.Grammar.{IsTextOf};
 ghost use Rattle.module_text.specs.Texts.{text_of};
@@ -14,7 +14,7 @@ use module_parse::{Finding, parse};
 use module_text::{ModuleError, ModuleWhy, PlainAssignment};
 use std::alloc::Global;
 
-// The module that a text without a fault tells.
+// Returns the module that a text without a fault states.
 fn module_made(alloc: Global, assignments: &[PlainAssignment]) -> Result<Module, ModuleError>
     requires utf8 { IsUtf8 (text_of assignments.now) }
     requires short { length (text_of assignments.now) ≤ 16777216 }
@@ -27,7 +27,7 @@ fn module_made(alloc: Global, assignments: &[PlainAssignment]) -> Result<Module,
     Ok(Module::of(made))
 }
 
-// The module that the text of these assignments tells, or its first fault.
+// Returns the module that the text of these assignments states, or its first fault.
 fn module_of(alloc: Global, assignments: &[PlainAssignment]) -> Result<Module, ModuleError>
     requires utf8 { IsUtf8 (text_of assignments.now) }
     requires short { length (text_of assignments.now) ≤ 16777216 }
@@ -64,8 +64,8 @@ fn read_utf8(alloc: Global, bytes: &[u8]) -> Result<Module, ModuleError>
     }
 }
 
-/// The module of which these bytes are the print, where it is printable, or the first fault of the bytes. There are at most
-/// 16 MiB of them. `Memory` says that memory is missing.
+/// Returns the module whose print these bytes are, if it is printable, or else the first fault of the bytes. There are at most 16
+/// MiB of them. `Memory` means that an allocation failed.
 pub fn read_module(alloc: Global, bytes: &[u8]) -> Result<Module, ModuleError>
     requires { length bytes.now ≤ 16777216 }
     ensures answers { Answers bytes.now result }

@@ -16,7 +16,7 @@ use module_check::References;
 use module_text::{PlainAssignment, PlainLabel, PlainPart, Spot};
 use std::alloc::Global;
 
-// The types of the parts of a type that stands here.
+// Returns the types of the parts of a type at this spot.
 #[cycle(types)]
 fn part_types(
     alloc: Global,
@@ -41,7 +41,7 @@ fn part_types(
     Ok(made)
 }
 
-/// The type for which this one stands, which stands here.
+/// Returns the type that this plain type at this spot states.
 #[cycle(types)]
 pub(crate) fn type_of(
     alloc: Global,

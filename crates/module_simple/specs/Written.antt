@@ -1,4 +1,4 @@
--- What the code of values behind DEFAULT appends: the texts of `Defaults`, step by step.
+-- The texts that the code of values after DEFAULT appends: those of `Defaults`, step by step.
 use Rattle.std.specs.Prelude.{ℕ, Option, Some, None, List, codes, slice_get}
 use Rattle.std.specs.Option.{option_map}
 use Rattle.std.specs.List.{join_with_byte}
@@ -9,7 +9,7 @@ use Rattle.module_text.specs.declared.values.PlainValueLabel.{PlainValueLabel}
 use Rattle.module_text.specs.declared.types.PlainLabel.{PlainLabel}
 use Rattle.module_text.specs.Defaults.{if_bool, if_int, if_utf8, item_named, alone, spellings_told}
 
--- of a value that is neither a list nor an alternative
+-- The spelling of a value that is neither a list nor an alternative.
 abbrev pub leaf_told : PlainLabel → PlainValue → Option (List ℕ)
 leaf_told l v = elim v [
   | value.True ↦ if_bool l.form (codes "true")
@@ -24,7 +24,7 @@ leaf_told l v = elim v [
 abbrev pub list_told : Option (Rose PlainLabel) → List (Rose PlainValueLabel) → Option (List ℕ)
 list_told t vs = option_map (join_with_byte 0x20) (spellings_told t (roses_of vs))
 
--- of the one value of the alternative with this number
+-- The spelling of the one value of the alternative with this number.
 abbrev pub chosen_told : List (Rose PlainLabel) → List (Rose PlainValueLabel) → Option ℕ → Option (List ℕ)
 chosen_told ts vs None = None
 chosen_told ts vs (Some i) = alone (spellings_told (slice_get ts i) (roses_of vs))

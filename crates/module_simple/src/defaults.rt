@@ -1,4 +1,4 @@
-//! Values behind DEFAULT, and fixed values.
+//! Values after DEFAULT, and fixed values.
 ghost use Rattle.std.specs.Prelude.{◌≡◌, ◌<◌, true, false, length, Some, None, IfOk, IfSome, MatchOption, slice_get};
 ghost use Rattle.module_text.specs.Names.{is_hexadecimal_digit};
 ghost use Rattle.base_trees.specs.Rose.{roses_of, label_of, kids_of};
@@ -23,7 +23,7 @@ use simple_types::{Simple, SimpleError, ValueLabel, accept, spell};
 use std::alloc::Global;
 use std::iter::Iterator;
 
-// A hexadecimal digit as a number.
+// Returns a hexadecimal digit as a number.
 fn digit_of(byte: u8) -> Option<u8>
     ensures { MatchOption result
         (is_hexadecimal_digit byte ≡ false)
@@ -36,7 +36,7 @@ fn digit_of(byte: u8) -> Option<u8>
     }
 }
 
-// The octet of the first two digits, and the digits behind them.
+// Returns the octet of the first two digits, and the digits after them.
 #[tactic(auto, using(crate::proofs::Octets::no_low, crate::proofs::Octets::no_high_digit, crate::proofs::Octets::no_low_digit, crate::proofs::Octets::one_octet))]
 fn first_octet(digits: &[u8]) -> Option<(u8, &[u8])>
     requires { 0 < length digits.now }
@@ -60,7 +60,7 @@ fn first_octet(digits: &[u8]) -> Option<(u8, &[u8])>
     Some((16 * first + second, others))
 }
 
-/// The octets, where two digits stand for each.
+/// Returns the octets, each written as two digits.
 #[tactic(auto, using(crate::proofs::Octets::with_more))]
 pub fn octets_of(alloc: Global, digits: &[u8]) -> Result<Option<Vec<u8>>, Memory>
     ensures { IfOk result (λ found. MatchOption found
@@ -79,7 +79,7 @@ pub fn octets_of(alloc: Global, digits: &[u8]) -> Result<Option<Vec<u8>>, Memory
     Ok(Some(octets))
 }
 
-/// The value of which the text is the canonical spelling, if it is one.
+/// Returns the value whose canonical spelling is the text, if there is one.
 pub fn canonical_value(
     alloc: Global,
     simple: &Simple,
@@ -129,7 +129,7 @@ fn write_item(
     }
 }
 
-// Appends the spelling of a value, where it is neither a list nor an alternative.
+// Appends the spelling of a value, if it is neither a list nor an alternative.
 fn write_leaf(
     index: &Index,
     label: &PlainLabel,
@@ -154,7 +154,7 @@ fn write_leaf(
     Ok(true)
 }
 
-// The type with this number, behind its index.
+// Returns the type with this number, after its index.
 fn kid_at<'a>(
     indexes: &'a [Tree<Index>],
     kids: &'a [Tree<PlainLabel>],
@@ -171,7 +171,7 @@ fn kid_at<'a>(
     }
 }
 
-// Appends the spellings of values at the first of these types, each behind a space but the first.
+// Appends the spellings of values at the first of these types, with a space between each two.
 #[cycle(spelling)]
 fn write_list(
     indexes: &[Tree<Index>],
@@ -200,7 +200,7 @@ fn write_list(
     Ok(true)
 }
 
-// Appends the spelling of the value that an alternative with one of these types has.
+// Appends the spelling of the value of an alternative with one of these types.
 #[cycle(spelling)]
 #[tactic(auto, using(crate::proofs::Writing::chosen_none))]
 fn write_chosen(
@@ -265,8 +265,8 @@ fn write_spelling(
     }
 }
 
-// Appends the spelling of a value as this index of its type gives it, or makes an index where there is none. Returns
-// whether the value is of the type.
+// Appends the spelling of a value, with this index of its type or with a new one if there is none. Returns whether the value is of
+// the type.
 fn write_at(
     alloc: Global,
     index: Option<&Tree<Index>>,
@@ -286,8 +286,9 @@ fn write_at(
     }
 }
 
-/// The spelling of the value that is written at this type, if it has one: of a list the spellings of its items with one space
-/// between each two. The time is linear in the value and in what it spells; without an index of the type, in the type too.
+/// Returns the spelling of the value that is written at this type, if it has one. The spelling of a list has those of its items,
+/// with one space between each two. The time is linear in the value and in its spelling. Without an index of the type it is linear
+/// in the type, too.
 pub fn spelling_told(
     alloc: Global,
     index: Option<&Tree<Index>>,
@@ -307,7 +308,7 @@ pub fn spelling_told(
     }
 }
 
-// Whether the item of an ENUMERATED with this number has this identifier.
+// Returns whether the item of an ENUMERATED with this number has this identifier.
 fn is_item_of(form: &PlainForm, i: usize, identifier: &Text) -> bool
     ensures { result ≡ rule.is_item_of form.now i identifier.now }
 {
@@ -324,7 +325,7 @@ fn is_item_of(form: &PlainForm, i: usize, identifier: &Text) -> bool
     }
 }
 
-// Whether the alternative of a CHOICE with this number has this identifier.
+// Returns whether the alternative of a CHOICE with this number has this identifier.
 fn is_alternative_of(form: &PlainForm, i: usize, identifier: &Text) -> bool
     ensures { result ≡ rule.is_alternative_of form.now i identifier.now }
 {
@@ -397,7 +398,7 @@ fn chosen_of(label: &ValueLabel) -> Option<usize>
     }
 }
 
-// Whether the values are written so at this type.
+// Returns whether the values are printed at this type as they are written.
 #[cycle(telling)]
 fn each_told(
     kid: &Tree<PlainLabel>,
@@ -417,7 +418,7 @@ fn each_told(
     nodes.is_empty()
 }
 
-// Whether the values are written so at the type with this number.
+// Returns whether the values are printed at the type with this number as they are written.
 #[cycle(telling)]
 fn are_told(
     kids: &[Tree<PlainLabel>],
@@ -437,7 +438,7 @@ fn are_told(
     }
 }
 
-// Whether the value is written so at this type.
+// Returns whether the value is printed at this type as it is written.
 #[cycle(telling)]
 fn is_told(
     kid: &Tree<PlainLabel>,
@@ -476,7 +477,7 @@ fn is_told(
     }
 }
 
-/// The fault of a fixed value of a part whose simple type this is.
+/// Returns the fault of a fixed value of a part with this simple type.
 #[tactic(auto, unfolding(module_text::specs::Listed::first))]
 pub fn fixed_fault(
     alloc: Global,
@@ -493,7 +494,7 @@ pub fn fixed_fault(
     Ok(unless(canonical, octets.at, ModuleWhy::Spelling))
 }
 
-// Whether the octets are those of the canonical spelling of a value.
+// Returns whether the octets are those of the canonical spelling of a value.
 fn is_canonical(
     alloc: Global,
     simple: &Option<Simple>,
@@ -514,7 +515,7 @@ fn is_canonical(
     }
 }
 
-// Whether a default value with this text is the fixed one, where there is one.
+// Returns whether a default value with this text is the fixed value, if there is one.
 fn is_fixed(alloc: Global, fixed: &Option<PlainOctets>, text: &[u8]) -> Result<bool, Memory>
     ensures { IfOk result (λ b. b ≡ faulty.is_fixed fixed.now text.now) }
 {
@@ -527,8 +528,9 @@ fn is_fixed(alloc: Global, fixed: &Option<PlainOctets>, text: &[u8]) -> Result<b
     }
 }
 
-/// The text of the value that is written at a type which stands for this simple type, if it is one of it and is printed so. The
-/// time is that of `spelling_told` and of `canonical_value`, which reads the text of a union by one member behind another.
+/// Returns the text of the value that is written at a type that represents this simple type. None if it is not one of the simple
+/// type, or is not printed as it is written. The time is that of `spelling_told` and of `canonical_value`, which reads the text of
+/// a union by one member after another.
 pub fn default_told(
     alloc: Global,
     simple: &Simple,
@@ -554,7 +556,7 @@ pub fn default_told(
     Ok(Some(text))
 }
 
-// Whether the value is a default one of the part, and the fixed one where there is one.
+// Returns whether the value is a default value of the part, and equals the fixed value if there is one.
 fn is_default(
     alloc: Global,
     simple: &Option<Simple>,
@@ -576,7 +578,8 @@ fn is_default(
     }
 }
 
-/// The fault of what is said of a part where it is absent. Its type, through references, is this, with this index if it is known.
+/// Returns the fault of what follows a part that may be absent. Its type, through references, is `node`, with this index if it is
+/// known.
 #[tactic(auto, unfolding(module_text::specs::Listed::first))]
 pub fn absence_fault(
     alloc: Global,

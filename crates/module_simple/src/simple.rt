@@ -1,4 +1,4 @@
-//! The simple type for which a type stands.
+//! The simple type that a type represents.
 ghost use Rattle.std.specs.Prelude.{◌≡◌, ◌&&◌, Some, None, IfOk, MatchOption, not};
 ghost use Rattle.std.specs.List.{list_all};
 ghost use Rattle.base_trees.specs.Rose.{roses_of};
@@ -46,7 +46,7 @@ fn are_sizes(sizes: (u32, Option<u32>)) -> bool
     }
 }
 
-// Whether each number is over the one before.
+// Returns whether each number is above the previous one.
 fn ascend(numbers: &[i128]) -> bool
     ensures { result ≡ rule.ascend numbers.now }
 {
@@ -62,7 +62,7 @@ fn ascend(numbers: &[i128]) -> bool
     true
 }
 
-// Whether each text is over the one before.
+// Returns whether each text is above the previous one.
 fn texts_ascend(words: &[Text]) -> bool
     ensures { result ≡ rule.texts_ascend words.now }
 {
@@ -90,7 +90,7 @@ fn are_words(how: WhiteSpace, words: &[Text]) -> bool
     words.iter().all(|word| is_word(how, word))
 }
 
-// INTEGER with these bounds.
+// Returns INTEGER with these bounds.
 #[tactic(auto, using(crate::proofs::Sounding::bounds), unfolding(simple_types::specs::Seen::space_of))]
 fn whole_simple(range: &Option<PlainRange>) -> Option<Simple>
     ensures { Makes result (rule.whole_space (told.range_of range.now)) }
@@ -105,7 +105,7 @@ fn whole_simple(range: &Option<PlainRange>) -> Option<Simple>
     })
 }
 
-// ENUMERATED of numbers.
+// Returns ENUMERATED of numbers.
 #[tactic(auto, using(crate::proofs::Sounding::counted, crate::proofs::Sounding::numbers_ascend), unfolding(simple_types::specs::Seen::space_of))]
 fn number_simple(alloc: Global, items: &[NumberedItem]) -> Result<Option<Simple>, Memory>
     ensures { IfOk result (λ found. Makes found (rule.number_space (rule.numbers_of items.now))) }
@@ -119,7 +119,7 @@ fn number_simple(alloc: Global, items: &[NumberedItem]) -> Result<Option<Simple>
     Ok(Some(Simple::Numbers(NumberList::of(numbers)?)))
 }
 
-// ENUMERATED of words.
+// Returns ENUMERATED of words.
 #[tactic(auto, using(crate::proofs::Sounding::counted, crate::proofs::Sounding::words_ascend, crate::proofs::Sounding::are_words, crate::proofs::Sounding::no_words), unfolding(simple_types::specs::Seen::space_of))]
 fn word_simple(
     alloc: Global,
@@ -144,7 +144,7 @@ fn word_simple(
     }))
 }
 
-// UTF8String.
+// Returns UTF8String.
 #[tactic(auto, using(crate::proofs::Sounding::sizes), unfolding(simple_types::specs::Seen::space_of))]
 fn text_simple(size: &Option<PlainEnds>, class: Class, space: Option<WhiteSpace>) -> Option<Simple>
     ensures { Makes result (rule.text_space (told.sizes_of size.now) class space) }
@@ -162,7 +162,7 @@ fn text_simple(size: &Option<PlainEnds>, class: Class, space: Option<WhiteSpace>
     })
 }
 
-// Whether parts have no instructions but NAME.
+// Returns whether parts have no instructions except NAME.
 fn are_plain(parts: &[PlainPart]) -> bool
     ensures { result ≡ rule.are_plain parts.now }
 {
@@ -171,7 +171,7 @@ fn are_plain(parts: &[PlainPart]) -> bool
         .all(|part| have_names_alone(part.marks.items()))
 }
 
-// The simple types for which these types stand, none of which is a union.
+// Returns the simple types that these types represent. None if one of them represents none, or is a union.
 #[cycle(simple)]
 fn members_told(alloc: Global, kids: &[Tree<PlainLabel>]) -> Result<Option<Vec<Simple>>, Memory>
     ensures { IfOk result (λ found. MatchOption found
@@ -191,7 +191,7 @@ fn members_told(alloc: Global, kids: &[Tree<PlainLabel>]) -> Result<Option<Vec<S
     Ok(Some(members))
 }
 
-// A union of these types.
+// Returns a union of these types.
 #[cycle(simple)]
 fn union_simple(alloc: Global, kids: &[Tree<PlainLabel>]) -> Result<Option<Simple>, Memory>
     ensures { IfOk result (λ found. Makes found (rule.union_space (rule.members_told (roses_of kids.now)))) }
@@ -206,7 +206,7 @@ fn union_simple(alloc: Global, kids: &[Tree<PlainLabel>]) -> Result<Option<Simpl
     Ok(Some(Simple::Union(SimpleList::of(members))))
 }
 
-// The simple type for which the item of a type that stands here stands.
+// Returns the simple type that the item of a type represents, if it is at this spot.
 #[cycle(simple)]
 fn item_told(alloc: Global, spot: Spot, kids: &[Tree<PlainLabel>]) -> Result<Option<Simple>, Memory>
     ensures { IfOk result (λ found. Makes found (rule.item_told spot (roses_of kids.now))) }
@@ -217,7 +217,7 @@ fn item_told(alloc: Global, spot: Spot, kids: &[Tree<PlainLabel>]) -> Result<Opt
     }
 }
 
-// Whether there is a list of so many such items.
+// Returns whether there is a list of this size with such items.
 fn may_be_listed(sizes: (u32, Option<u32>), item: &Simple) -> bool
     requires { Sound (space_of item.now) }
     ensures { result ≡ (rule.are_sizes sizes && not (has_list (space_of item.now))) }
@@ -225,7 +225,7 @@ fn may_be_listed(sizes: (u32, Option<u32>), item: &Simple) -> bool
     are_sizes(sizes) && !has_list(item)
 }
 
-// A list of so many items of this type.
+// Returns a list of this size with items of this type.
 #[cycle(simple)]
 #[tactic(auto, using(crate::proofs::Making::made_none, crate::proofs::Making::list_no_sizes, crate::proofs::Making::list_no_item))]
 fn list_simple(
@@ -253,7 +253,7 @@ fn list_simple(
     }))
 }
 
-/// Where the item of a type stands that stands here.
+/// Returns the spot of the item of a type at this spot.
 pub fn item_spot(spot: Spot) -> Spot
     ensures { result ≡ rule.item_spot spot }
 {
@@ -263,14 +263,14 @@ pub fn item_spot(spot: Spot) -> Spot
     }
 }
 
-/// Whether the item of an order stands here.
+/// Returns whether this is the spot of the item of an order.
 pub fn is_order_item(spot: Spot) -> bool
     ensures { result ≡ rule.is_order_item spot }
 {
     matches!(spot, Spot::OrderItem)
 }
 
-// BOOLEAN.
+// Returns BOOLEAN.
 #[tactic(auto, unfolding(simple_types::specs::Seen::space_of))]
 fn boolean_simple(alone: Alone) -> Option<Simple>
     ensures { Makes result (rule.if_so (told.is_nothing alone) (Some Booleans)) }
@@ -281,7 +281,7 @@ fn boolean_simple(alone: Alone) -> Option<Simple>
     }
 }
 
-// INTEGER without instructions.
+// Returns INTEGER without instructions.
 fn whole_alone(alone: Alone, range: &Option<PlainRange>) -> Option<Simple>
     ensures { Makes result (rule.if_so (told.is_nothing alone) (rule.whole_space (told.range_of range.now))) }
 {
@@ -291,7 +291,7 @@ fn whole_alone(alone: Alone, range: &Option<PlainRange>) -> Option<Simple>
     }
 }
 
-// ENUMERATED with USE-NUMBER.
+// Returns ENUMERATED with USE-NUMBER.
 fn numbers_alone(
     alloc: Global,
     alone: Alone,
@@ -305,7 +305,7 @@ fn numbers_alone(
     }
 }
 
-// ENUMERATED of words that is no item of an order.
+// Returns ENUMERATED of words that is not the item of an order.
 fn words_elsewhere(
     alloc: Global,
     spot: Spot,
@@ -321,21 +321,21 @@ fn words_elsewhere(
     word_simple(alloc, marks, items, space)
 }
 
-// Whether a CHOICE has USE-UNION alone, and its parts no instructions but NAME.
+// Returns whether USE-UNION is the only instruction of a CHOICE, and its parts have none except NAME.
 fn is_plain_union(alone: Alone, parts: &[PlainPart]) -> bool
     ensures { result ≡ (told.is_union_alone alone && rule.are_plain parts.now) }
 {
     matches!(alone, Alone::UseUnion) && are_plain(parts)
 }
 
-// Whether a SEQUENCE OF has LIST alone, and its item no instructions but NAME.
+// Returns whether LIST is the only instruction of a SEQUENCE OF, and its item has none except NAME.
 fn is_plain_list(alone: Alone, part: &PlainPart) -> bool
     ensures { result ≡ (told.is_list_alone alone && told.have_names_alone part.now.marks) }
 {
     matches!(alone, Alone::List) && have_names_alone(part.marks.items())
 }
 
-/// The simple type for which a type that stands here stands, if it stands for one. The time is linear in the type.
+/// Returns the simple type that a type at this spot represents, if it represents one. The time is linear in the type.
 #[cycle(simple)]
 pub fn simple_told(
     alloc: Global,

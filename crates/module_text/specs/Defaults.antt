@@ -1,4 +1,4 @@
--- Values behind DEFAULT, and fixed values: the text for which each stands, and whether it is printed so.
+-- Values after DEFAULT, and fixed values: the text that each represents, and whether it is printed canonically.
 use Rattle.std.specs.Prelude.{ℕ, ◌+◌, ◌-◌, ◌*◌, Bool, true, false, ◌&&◌, nat_lt, Option, Some, None, Ok, Err, List, [], ◌∷◌, slice_get, position, codes, bytes_eq, option_and_then, if◌then◌else◌}
 use Rattle.std.specs.Fmt.{signed_decimal}
 use Rattle.std.specs.List.{join_with_byte}
@@ -20,7 +20,7 @@ use Rattle.module_text.specs.Told.{is_xml_text, words_of}
 
 -- ---- the text that is the spelling of the value
 
--- the number that the item with this identifier stands for, as it is written
+-- The number that the item with this identifier represents, as it is written.
 abbrev pub number_named : List NumberedItem → List ℕ → Option (List ℕ)
 number_named [] identifier = None
 number_named (item ∷ items) identifier =
@@ -63,7 +63,7 @@ is_list_form (form.SequenceOf size item) = true
 is_list_form _ = false
 
 abbrev mutual
-  -- of a value that is written at a type with this label, whose parts have these types
+  -- The spelling of a value that is written at a type with this label, whose parts have these types.
   pub spelling_told : PlainLabel → List (Rose PlainLabel) → Rose PlainValueLabel → Option (List ℕ)
   spelling_told l ts (node v vs) = elim v.value [
     | value.True ↦ if_bool l.form (codes "true")
@@ -79,7 +79,7 @@ abbrev mutual
         elim (alternative_named l.form identifier) [ None ↦ None | Some i ↦ alone (spellings_told (slice_get ts i) vs) ]
   ]
 
-  -- of values at one type
+  -- The spellings of values at one type.
   pub spellings_told : Option (Rose PlainLabel) → Roses PlainValueLabel → Option (List (List ℕ))
   spellings_told t none = Some []
   spellings_told t (more v vs) = elim t [
@@ -155,7 +155,7 @@ abbrev pub with_octet : Bool → ℕ → Option (List ℕ) → Option (List ℕ)
 with_octet true octet (Some octets) = Some (octet ∷ octets)
 with_octet _ octet _ = None
 
--- of two hexadecimal digits each
+-- The octets, each written as two hexadecimal digits.
 abbrev pub octets_of : List ℕ → Option (List ℕ)
 octets_of [] = Some []
 octets_of (high ∷ []) = None
@@ -164,7 +164,7 @@ octets_of (high ∷ low ∷ digits) =
 
 -- ---- texts that are the canonical spelling of a value
 
--- the value that the text gives, where it is spelled so
+-- The value that the text gives, if the text is its canonical spelling.
 abbrev pub own_value : Space → List ℕ → Reading → Option (Rose ValueLabel)
 own_value s text (Err why) = None
 own_value s text (Ok w) = if bytes_eq (spelled s w) text then Some w else None
@@ -172,7 +172,8 @@ own_value s text (Ok w) = if bytes_eq (spelled s w) text then Some w else None
 abbrev pub canonical_value : Space → List ℕ → Option (Rose ValueLabel)
 canonical_value s text = if is_xml_text text then own_value s text (reads s text) else None
 
--- The value that is written at a type which stands for this simple type is one of it, and is printed so. Its text.
+-- The text of the value that is written at a type that represents this simple type. There is one if the value is one of the simple
+-- type and is printed as it is written.
 abbrev pub default_told : Space → PlainLabel → List (Rose PlainLabel) → Rose PlainValueLabel → Option (List ℕ)
 default_told s l ts v = elim (spelling_told l ts v) [
   | None ↦ None

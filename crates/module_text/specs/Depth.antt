@@ -1,4 +1,4 @@
--- Types and values that stand too deep: those with 1,024 others of their kind above them, one in the other.
+-- Types and values that are nested too deep: those with 1,024 others of their kind around them.
 use Rattle.std.specs.Prelude.{ℕ, zero, suc, ◌+◌, ◌-◌, List, [], ◌∷◌, ◌++◌, length}
 use Rattle.std.specs.List.{flat_map}
 use Rattle.base_trees.specs.Rose.{Rose, node, Roses, none, more}
@@ -12,8 +12,8 @@ use Rattle.module_text.specs.declared.modules.PlainAssignment.{PlainAssignment}
 use Rattle.module_text.specs.Texts.{type_mark_text, parts_of}
 use Rattle.module_text.specs.Plain.{limit}
 
--- Where one begins, and up to where bytes tell that it does: a value or a type by its first byte, and a type with instructions
--- of its own by the first of these up to its bracket, since one of a part may begin alike.
+-- Where a node begins, and the end of the bytes that show it. A value or a type is shown by its first byte. A type with
+-- instructions of its own is shown by the first of these up to its bracket. An instruction of a part may begin with the same bytes.
 pub record Start : Type 0 where
   pub at : ℕ
   pub told : ℕ
@@ -28,7 +28,7 @@ type_start l = record { at = l.at; told = type_told l.at l.marks }
 abbrev pub value_start : PlainValueLabel → Start
 value_start l = record { at = l.at; told = l.at + 1 }
 
--- the values inside that have so many above them, in their order
+-- The nested values with this number of others around them, in their order.
 abbrev mutual
   pub deep_values : ℕ → Rose PlainValueLabel → List Start
   deep_values d (node l vs) = elim d [ zero ↦ value_start l ∷ [] | suc e ↦ deep_in_values e vs ]
@@ -42,7 +42,7 @@ deep_default absence.Never = []
 deep_default absence.Optional = []
 deep_default (absence.Default v) = deep_values limit v
 
--- the types that have so many above them, and the values of parts, in their order
+-- The types with this number of others around them, and the values of parts, in their order.
 abbrev mutual
   pub deep_types : ℕ → Rose PlainLabel → List Start
   deep_types d (node l ts) = elim d [ zero ↦ type_start l ∷ [] | suc e ↦ deep_in_parts e (parts_of l.form) ts ]

@@ -1,5 +1,5 @@
--- What is wrong with a plain text, thing by thing, in the order in which it stands, and at one thing in the order Duplicate,
--- Unresolved, LongChain, Spelling. Each thing stands at its first byte, so the first of these faults is that of the least place.
+-- The faults of a plain text, in the order of the text. At one place they are in the order Duplicate, Unresolved, LongChain,
+-- Spelling. The place of each fault is a first byte, so the first of these faults has the least place.
 use Rattle.std.specs.Prelude.{ℕ, zero, suc, ◌+◌, ◌-◌, Bool, true, false, ◌&&◌, ◌||◌, not, nat_lt, int_lt, ℤ, pos, Option, Some, None, List, [], ◌∷◌, ◌++◌, is_some, codes, bytes_eq, if◌then◌else◌}
 use Rattle.std.specs.List.{list_any}
 use Rattle.base_trees.specs.Rose.{Rose, node, Roses, none, more, label_of, list_of}
@@ -50,7 +50,7 @@ abbrev pub is_below : Option ℤ → Option ℤ → Bool
 is_below (Some y) (Some z) = int_lt y z
 is_below _ _ = false
 
--- Bounds are not crossed, and of equal ones there is one.
+-- Bounds are not crossed. Equal bounds are written as one.
 abbrev pub ends_faults : PlainEnds → List TextFault
 ends_faults (ends.One number) = number_faults number
 ends_faults (ends.Both least greatest) =
@@ -72,7 +72,7 @@ is_zero _ = false
 abbrev pub one_size_faults : PlainNumber → List TextFault
 one_size_faults n = unless (is_size n) n.at why.Spelling
 
--- Sizes have 32 bits, and nothing is said where there may be any number.
+-- Sizes have 32 bits. If any size is allowed, there is no constraint.
 abbrev pub size_faults : Option PlainEnds → List TextFault
 size_faults None = []
 size_faults (Some (ends.One number)) = one_size_faults number
@@ -82,16 +82,16 @@ size_faults (Some (ends.From least max_at)) = one_size_faults least ++ unless (n
 
 -- ---- items of an ENUMERATED
 
--- above the number before, where there is one
+-- The number is above the previous one, if there is one.
 abbrev pub is_above : Option ℤ → Option ℤ → Bool
 is_above None z = true
 is_above (Some y) z = is_below (Some y) z
 
--- the identifier is `int` and the number
+-- The identifier is `int` and the number.
 abbrev pub is_numbered_so : NumberedItem → Bool
 is_numbered_so item = bytes_eq item.identifier.name (codes "int" ++ item.number.written)
 
--- of an item behind one with this number
+-- The faults of an item after one with this number.
 abbrev pub item_faults : Option ℤ → NumberedItem → List TextFault
 item_faults last item =
     unless (is_numbered_so item) item.identifier.at why.Spelling
@@ -108,7 +108,7 @@ abbrev pub is_word_above : Option (List ℕ) → List ℕ → Bool
 is_word_above None word = true
 is_word_above (Some before) word = text_lt before word
 
--- The words ascend. The identifiers of an order stand in any order.
+-- The words ascend. The identifiers of an order may be in any order.
 abbrev pub word_faults : Bool → List (List ℕ) → Option (List ℕ) → List PlainName → List (List ℕ) → List TextFault
 word_faults order before last (i ∷ is) (word ∷ words) =
     unless (not (has_text before i.name)) i.at why.Duplicate
@@ -131,7 +131,7 @@ module _ (P : List PlainAssignment) where
       unless (stands_once before (rank_of_type_mark m.kind) && type_mark_may P spot l ts least m.kind) m.at why.Spelling
       ++ type_mark_faults spot l ts (Some (rank_of_type_mark m.kind)) (next_item spot l.form least m.kind) ms
 
--- ---- default and fixed values: of a part whose simple type this is, where the part has ATTRIBUTE
+-- ---- default and fixed values: of a part with this simple type, if the part has ATTRIBUTE
 
 abbrev pub is_canonical : Option Space → Option (List ℕ) → Bool
 is_canonical (Some s) (Some text) = is_some (canonical_value s text)
@@ -141,7 +141,7 @@ abbrev pub fixed_faults : Option Space → Option PlainOctets → List TextFault
 fixed_faults space None = []
 fixed_faults space (Some octets) = unless (is_canonical space (octets_of octets.digits)) octets.at why.Spelling
 
--- a default value is the fixed one, where there is one
+-- A default value is the fixed value, if there is one.
 abbrev pub is_fixed : Option PlainOctets → List ℕ → Bool
 is_fixed None text = true
 is_fixed (Some octets) text = elim (octets_of octets.digits) [ None ↦ false | Some fixed ↦ bytes_eq fixed text ]
@@ -153,7 +153,7 @@ is_default (Some s) fixed (node l ts) v = elim (default_told s l (list_of ts) v)
 abbrev pub value_at : Rose PlainValueLabel → ℕ
 value_at (node l vs) = l.at
 
--- the type, through references, is this
+-- The type, through references, is this.
 abbrev pub absence_faults : Option Space → Option PlainOctets → Rose PlainLabel → Absence → List TextFault
 absence_faults space fixed t absence.Never = []
 absence_faults space fixed t absence.Optional = []
@@ -161,7 +161,8 @@ absence_faults space fixed t (absence.Default v) = unless (is_default space fixe
 
 -- ---- parts
 
--- how many parts at the front are the texts of EMBED-VALUES and the order of USE-ORDER, whose items have no identifier
+-- The number of the first parts that are the texts of EMBED-VALUES and the order of USE-ORDER. The items of these have no
+-- identifier.
 abbrev pub one_if : Bool → ℕ
 one_if true = 1
 one_if false = 0
@@ -172,7 +173,7 @@ nameless_parts marks = one_if (has_embed_values marks) + one_if (has_use_order m
 abbrev pub is_listed : List (List ℕ) → List ℕ → Bool
 is_listed before identifier = not (is_empty identifier) && has_text before identifier
 
--- The part of a SEQUENCE OF has no identifier exactly where it is the item of a LIST, such a text or an item of the order.
+-- The part of a SEQUENCE OF has no identifier if and only if it is an item: of a LIST, of such texts, or of an order.
 abbrev pub are_alike : Bool → Bool → Bool
 are_alike true b = b
 are_alike false b = not b
@@ -185,11 +186,11 @@ abbrev pub has_no : {A : Type 0} → List A → Bool
 has_no [] = true
 has_no (x ∷ xs) = false
 
--- a part that is a reference and nothing else begins where this does
+-- The part is only a reference, so it begins where the reference begins.
 abbrev pub is_bare : PlainPart → PlainLabel → Bool
 is_bare part l = is_empty part.identifier && has_no part.marks && has_no l.marks
 
--- where the type of a part stands
+-- The spot of the type of a part.
 abbrev pub part_spot : Spot → PlainLabel → ℕ → PlainPart → Spot
 part_spot spot l i part =
     if is_sequence_of l.form then item_spot spot else (if is_order (role_of l i part) then Order else Elsewhere)
@@ -212,23 +213,23 @@ form_faults P spot marks (form.SequenceOf size item) = size_faults size
 form_faults P spot marks (form.Ref reference) = reference_faults P (form.Ref reference)
 
 module _ (P : List PlainAssignment) where
-  -- the simple type for which a type that stands here stands, through references
+  -- The simple type that a type at this spot represents, through references.
   abbrev pub space_through : Spot → Rose PlainLabel → Option Space
   space_through spot t = elim (label_of t).form [ form.Ref reference ↦ simple_told Elsewhere (resolve P t) | _ ↦ simple_told spot t ]
 
-  -- where it is that of an attribute
+  -- The simple type, if the part has ATTRIBUTE.
   abbrev pub space_at : Spot → List PartMark → Rose PlainLabel → Option Space
   space_at spot marks t = if has_attribute marks then space_through spot t else None
 
   unfoldable mutual
-    -- Of a type that stands here. Nameless: it is that of such texts or of such an order.
+    -- The faults of a type at this spot. If `nameless` is true, the type is that of such texts or of such an order.
     pub type_faults : Spot → Bool → Rose PlainLabel → List TextFault
     type_faults spot nameless (node l ts) =
         type_mark_faults P spot l ts None 0 l.marks
         ++ form_faults P spot l.marks l.form
         ++ part_faults spot (has_list l.marks || nameless) l 0 [] (nameless_parts l.marks) (parts_of l.form) ts
 
-    -- Of the parts from the one with number i on, with these types, behind those with these identifiers.
+    -- The faults of the parts from the one with number i on, with these types, after parts with these identifiers.
     pub part_faults : Spot → Bool → PlainLabel → ℕ → List (List ℕ) → ℕ → List PlainPart → Roses PlainLabel → List TextFault
     part_faults spot nameless l i before front parts none = []
     part_faults spot nameless l i before front parts (more t ts) =
@@ -254,7 +255,7 @@ module _ (P : List PlainAssignment) where
       ++ part_mark_faults (is_some (space_at Elsewhere a.marks a.body)) a.reference None a.marks
       ++ type_faults Elsewhere false a.body
 
-  -- of those behind assignments with these references
+  -- The faults of assignments after those with these references.
   abbrev pub faults_from : List (List ℕ) → List PlainAssignment → List TextFault
   faults_from before [] = []
   faults_from before (a ∷ others) = assignment_faults before a ++ faults_from (before ++ a.reference ∷ []) others

@@ -1,4 +1,4 @@
--- The plain grammar as a language: the texts of plain trees. What is said of bytes that are none of them.
+-- The plain grammar as a language: the texts of plain trees, and the faults of bytes that are not such a text.
 use Rattle.std.specs.Prelude.{◌≡◌, ℕ, ◌≤◌, List, [], ◌∷◌, ◌++◌, length}
 use Rattle.module_text.specs.declared.modules.PlainAssignment.{PlainAssignment}
 use Rattle.module_text.specs.Texts.{text_of}
@@ -6,14 +6,14 @@ use Rattle.module_text.specs.Plain.{IsPlain}
 use Rattle.module_text.specs.Places.{placed}
 use Rattle.module_text.specs.Depth.{Start, too_deep}
 
--- The bytes are the text of these assignments, each thing standing where it is said to stand, and none too deep.
+-- The bytes are the text of these assignments, each thing has the place where it is in the text, and none is nested too deep.
 pub record IsTextOf (bytes : List ℕ) (assignments : List PlainAssignment) : Type 0 where
   pub plain : IsPlain assignments
   pub text : text_of assignments ≡ bytes
   pub places : placed assignments ≡ assignments
   pub shallow : too_deep assignments ≡ []
 
--- So many bytes at the front of these begin a text of the grammar.
+-- The first n of these bytes begin a text of the grammar.
 pub record Begins (bytes : List ℕ) (n : ℕ) : Type 0 where
   pub front : List ℕ
   pub rest : List ℕ
@@ -24,12 +24,13 @@ pub record Begins (bytes : List ℕ) (n : ℕ) : Type 0 where
   pub plain : IsPlain assignments
   pub begins : text_of assignments ≡ front ++ more
 
--- and no more of them do
+-- The first n of these bytes begin a text of the grammar, and no more of them do.
 pub record IsLongest (bytes : List ℕ) (n : ℕ) : Type 0 where
   pub begins : Begins bytes n
   pub most : (m : ℕ) → Begins bytes m → m ≤ n
 
--- In a text that begins as the bytes do this is the first that is too deep, and the bytes go on alike up to where they tell it.
+-- Some text of the grammar begins as the bytes do, and in it this is the first node that is nested too deep. The bytes agree with
+-- the text up to where the node is shown.
 pub record Sinks (bytes : List ℕ) (at : ℕ) : Type 0 where
   pub front : List ℕ
   pub rest : List ℕ
@@ -44,8 +45,8 @@ pub record Sinks (bytes : List ℕ) (at : ℕ) : Type 0 where
   pub told : start.told ≤ length front
   pub place : start.at ≡ at
 
--- Syntax: the bytes are no text, and nothing in them is too deep before that shows. They stop being one behind their longest
--- front that begins one.
+-- Syntax: the bytes are not a text, and nothing in them is nested too deep before that shows. The fault is after their longest
+-- prefix that begins a text.
 pub record IsBroken (bytes : List ℕ) (at : ℕ) : Type 0 where
   pub longest : IsLongest bytes at
   pub no_text : (assignments : List PlainAssignment) → IsPlain assignments → text_of assignments ≡ bytes → ⊥

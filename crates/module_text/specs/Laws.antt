@@ -4,6 +4,6 @@ use Rattle.module_text.specs.declared.modules.PlainAssignment.{PlainAssignment}
 use Rattle.module_text.specs.Texts.{text_of}
 use Rattle.module_text.specs.Places.{placed}
 
--- Places count for nothing in a text.
+-- Places make no difference to a text.
 abbrev pub PlacesAreNoText : Type 0
 PlacesAreNoText = (assignments : List PlainAssignment) → text_of (placed assignments) ≡ text_of assignments

@@ -1,4 +1,4 @@
--- Faults, how lists of them are made, and which of them is the first.
+-- Lists of faults, and the first of them.
 use Rattle.std.specs.Prelude.{◌≡◌, ℕ, ◌<◌, ◌≤◌, ◌⊎◌, Bool, Option, Some, None, List, [], ◌∷◌, All, if◌then◌else◌}
 use Rattle.module_text.specs.declared.reasons.ModuleWhy.{ModuleWhy}
 use Rattle.module_text.specs.declared.reasons.ModuleWhy.TheVariants as why
@@ -7,7 +7,7 @@ use Rattle.module_text.specs.declared.reasons.TextFault.{TextFault}
 abbrev pub fault : ℕ → ModuleWhy → TextFault
 fault at reason = record { at = at; why = reason }
 
--- a fault here, for this reason, unless it is so
+-- A fault at this place, for this reason, unless the condition holds.
 abbrev pub unless : Bool → ℕ → ModuleWhy → List TextFault
 unless b at reason = if b then [] else fault at reason ∷ []
 
@@ -15,12 +15,12 @@ unfoldable pub first : List TextFault → Option TextFault
 first [] = None
 first (f ∷ fs) = Some f
 
--- one of them is so
+-- P holds of one of the faults.
 abbrev pub SomeFault : (TextFault → Type 0) → List TextFault → Type 0
 SomeFault P [] = ⊥
 SomeFault P (f ∷ fs) = P f ⊎ SomeFault P fs
 
--- ---- the first fault: that of the least place, and of those there the first in the order of the reasons
+-- ---- the first fault: that of the least place, and at one place the first in the order of the reasons
 
 abbrev pub order : ModuleWhy → ℕ
 order why.NotUtf8 = 0

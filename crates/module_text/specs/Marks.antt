@@ -1,4 +1,4 @@
--- Whether an encoding instruction may stand where it does: each stands once but TEXT, and each has what it asks of its type.
+-- Whether an encoding instruction may appear at its place. Each appears once, except TEXT, and each requires a form of its type.
 use Rattle.std.specs.Prelude.{ℕ, suc, ◌+◌, ◌==◌, Bool, true, false, ◌&&◌, ◌||◌, not, Option, Some, None, List, [], ◌∷◌, position, drop, is_some, bytes_eq, if◌then◌else◌}
 use Rattle.std.specs.Option.{option_map}
 use Rattle.base_trees.specs.Rose.{node, Roses}
@@ -20,7 +20,7 @@ use Rattle.module_text.specs.Told.{is_told_so, is_xml_text}
 use Rattle.module_text.specs.Simple.{is_simple, is_order_item}
 use Rattle.module_text.specs.Orders.{has_texts, has_content, has_order_part, is_sequence_of, is_choice}
 
--- ---- of a part or an assignment with this name, whose type stands for a simple type or not
+-- ---- of a part or an assignment with this name, whose type represents a simple type or not
 
 abbrev pub may_name : List ℕ → NameAs → Bool
 may_name generated name = has_bytes generated && is_told_so generated name
@@ -35,13 +35,13 @@ abbrev pub is_rank : Option ℕ → ℕ → Bool
 is_rank None rank = false
 is_rank (Some other) rank = other == rank
 
--- Instructions stand in their order, so that one that stands twice stands behind its like.
+-- Instructions appear in their order. So an instruction that appears twice follows one of its rank.
 abbrev pub part_mark_stands : Bool → List ℕ → Option ℕ → PartMark → Bool
 part_mark_stands simple generated before m = not (is_rank before (rank_of_part_mark m.kind)) && part_mark_may simple generated m.kind
 
 -- ---- of a type
 
--- the number of the first item with this identifier among those from a least number on, where items stand for words
+-- The number of the first item with this identifier, from a least number on, if items represent words.
 abbrev pub item_number : Spot → PlainForm → ℕ → List ℕ → Option ℕ
 item_number spot (form.Words identifiers) least identifier =
     if is_order_item spot then None
@@ -67,7 +67,7 @@ is_text_rank rank = rank == 11
 abbrev pub stands_once : Option ℕ → ℕ → Bool
 stands_once before rank = is_text_rank rank || not (is_rank before rank)
 
--- the least number that the item of a TEXT behind this one may have
+-- The least number that the item of a TEXT after this one may have.
 abbrev pub next_item : Spot → PlainForm → ℕ → TypeMarkKind → ℕ
 next_item spot f least (type_mark.Text identifier text) = elim (item_number spot f least identifier) [ None ↦ least | Some i ↦ suc i ]
 next_item spot f least _ = least

@@ -1,4 +1,4 @@
--- The module that a plain text tells. It is one where the text has no fault.
+-- The assignments that a plain text states. They are a module if the text has no fault.
 use Rattle.std.specs.Prelude.{ℕ, ◌+◌, Bool, true, false, Option, Some, None, List, [], ◌∷◌, map, unwrap_or}
 use Rattle.base_trees.specs.Rose.{Rose, node, Roses, none, more, list_of}
 use Rattle.base_texts.specs.declared.white_space.WhiteSpace.TheVariants as white
@@ -104,7 +104,7 @@ module _ (P : List PlainAssignment) where
     marks = part_marks_meant part.identifier part.marks;
   }
 
-  -- the parts from the one with number i on, with these types
+  -- The parts from the one with number i on, with these types.
   abbrev pub components_meant : Spot → PlainLabel → ℕ → List PlainPart → Roses PlainLabel → List Component
   components_meant spot l i [] ts = []
   components_meant spot l i (part ∷ parts) none = []

@@ -1,4 +1,4 @@
--- What EMBED-VALUES, USE-NIL and USE-ORDER ask of a type (X.693).
+-- What EMBED-VALUES, USE-NIL and USE-ORDER require of a type (X.693).
 use Rattle.std.specs.Prelude.{ℕ, ◌+◌, ◌-◌, Bool, true, false, ◌&&◌, not, Option, Some, None, List, [], ◌∷◌, length, map, slice_get, bytes_eq, if◌then◌else◌}
 use Rattle.std.specs.Option.{option_map}
 use Rattle.base_trees.specs.Rose.{Rose, node, Roses, none, more, label_of, list_of}
@@ -39,12 +39,12 @@ abbrev pub may_be_absent : Absence → Bool
 may_be_absent absence.Never = false
 may_be_absent _ = true
 
--- UTF8String without constraints
+-- UTF8String without constraints.
 abbrev pub is_any_text : PlainForm → Bool
 is_any_text (form.Utf8 None class) = is_any class
 is_any_text _ = false
 
--- SEQUENCE OF without a size
+-- SEQUENCE OF without a size.
 abbrev pub is_any_list : PlainForm → Bool
 is_any_list (form.SequenceOf None item) = true
 is_any_list _ = false
@@ -57,12 +57,12 @@ abbrev pub is_text_list : Rose PlainLabel → Bool
 is_text_list (node l none) = false
 is_text_list (node l (more t ts)) = is_any_list l.form && is_any_text (label_of t).form
 
--- EMBED-VALUES: a SEQUENCE whose first part is a list of texts
+-- EMBED-VALUES: the type is a SEQUENCE whose first part is a list of texts.
 abbrev pub has_texts : PlainForm → Roses PlainLabel → Bool
 has_texts f none = false
 has_texts f (more t ts) = is_sequence f && is_text_list t
 
--- USE-NIL: a SEQUENCE whose last part may be absent
+-- USE-NIL: the type is a SEQUENCE whose last part may be absent.
 abbrev pub has_content : PlainForm → Bool
 has_content (form.Sequence parts) = elim (slice_get parts (length parts - 1)) [ None ↦ false | Some part ↦ may_be_absent part.absence ]
 has_content _ = false
@@ -77,7 +77,7 @@ abbrev pub is_order : Role → Bool
 is_order Order = true
 is_order _ = false
 
--- the parts from the one with number i on that have the role, in their order
+-- The parts from the one with number i on that have the role, in their order.
 abbrev pub parts_from : PlainLabel → (Role → Bool) → ℕ → List PlainPart → List PlainPart
 parts_from l is i [] = []
 parts_from l is i (part ∷ parts) = if is (role_of l i part) then part ∷ parts_from l is (i + 1) parts else parts_from l is (i + 1) parts
@@ -92,7 +92,7 @@ has_no_group l = are_none (parts_from l is_group 0 (parts_of l.form))
 abbrev pub element_identifiers : PlainLabel → List (List ℕ)
 element_identifiers l = map (λ (part : PlainPart). part.identifier) (parts_from l is_element 0 (parts_of l.form))
 
--- the type whose elements are in an order: of a USE-NIL type its content, of each other type the type itself
+-- The type whose elements are in an order: the content of a USE-NIL type, and each other type itself.
 abbrev pub ordered : List PlainAssignment → PlainLabel → Roses PlainLabel → Option PlainLabel
 ordered P l ts =
     if has_use_nil l.marks
@@ -109,7 +109,7 @@ abbrev pub are_identifiers : List (List ℕ) → PlainForm → Bool
 are_identifiers identifiers (form.Words names) = are_equal identifiers (map (λ (i : PlainName). i.name) names)
 are_identifiers identifiers _ = false
 
--- a SEQUENCE OF the ENUMERATED of these identifiers, without a size
+-- The type is a SEQUENCE OF the ENUMERATED of these identifiers, without a size.
 abbrev pub is_order_of : List (List ℕ) → Rose PlainLabel → Bool
 is_order_of identifiers (node l none) = false
 is_order_of identifiers (node l (more t ts)) = is_any_list l.form && are_identifiers identifiers (label_of t).form
@@ -125,7 +125,7 @@ is_order_part l ts inner = elim (slice_get (parts_of l.form) (order_place l.mark
   ]
 ]
 
--- nothing of its own that USE-NIL, EMBED-VALUES or USE-ORDER gives
+-- The type itself has none of USE-NIL, EMBED-VALUES and USE-ORDER.
 abbrev pub stands_alone : PlainLabel → Bool
 stands_alone l = not (has_use_nil l.marks) && not (has_embed_values l.marks) && not (has_use_order l.marks)
 
@@ -134,6 +134,7 @@ is_ordered l None ts = false
 is_ordered l (Some inner) ts =
     is_sequence inner.form && has_no_group inner && (if has_use_nil l.marks then stands_alone inner else true) && is_order_part l ts inner
 
--- USE-ORDER: a SEQUENCE with a part that has the order of its elements, or of those of its content; no part has UNTAGGED
+-- USE-ORDER: the type is a SEQUENCE with a part that has the order of its elements, or of those of its content. No part has
+-- UNTAGGED.
 abbrev pub has_order_part : List PlainAssignment → PlainLabel → Roses PlainLabel → Bool
 has_order_part P l ts = is_sequence l.form && has_no_group l && is_ordered l (ordered P l ts) ts

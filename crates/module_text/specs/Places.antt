@@ -1,4 +1,4 @@
--- Where the things of a text stand, each at its first byte.
+-- The place of each thing in a text: its first byte.
 use Rattle.std.specs.Prelude.{◌≡◌, ℕ, zero, suc, ◌+◌, Option, List, [], ◌∷◌, ◌++◌, length, codes}
 use Rattle.std.specs.Option.{option_map}
 use Rattle.base_trees.specs.Rose.{Rose, node, Roses, none, more}
@@ -26,7 +26,7 @@ use Rattle.module_text.specs.declared.types.PlainLabel.{PlainLabel}
 use Rattle.module_text.specs.declared.modules.PlainAssignment.{PlainAssignment}
 use Rattle.module_text.specs.Texts.{part_mark_text, type_mark_text, part_marks_text, type_marks_text, value_text, fixed_text, item_text, parts_of, level_of_parts, form_text, part_text, type_text, assignment_text}
 
--- behind these bytes
+-- The place after these bytes.
 abbrev pub behind : List ℕ → ℕ → ℕ
 behind text at = at + length text
 
@@ -44,7 +44,7 @@ abbrev pub placed_range : ℕ → PlainRange → PlainRange
 placed_range at (range.Ends e) = range.Ends (placed_ends at e)
 placed_range at (range.To greatest) = range.To (placed_number (behind (codes "MIN..") at) greatest)
 
--- behind the word INTEGER, and behind UTF8String or SEQUENCE
+-- The constraint after the word INTEGER, and the one after UTF8String or SEQUENCE.
 abbrev pub placed_number_range : ℕ → Option PlainRange → Option PlainRange
 placed_number_range at r = option_map (placed_range (behind (codes " (") at)) r
 
@@ -63,7 +63,7 @@ placed_type_marks at (m ∷ ms) = record m { at = at } ∷ placed_type_marks (be
 
 -- ---- values
 
--- where the values inside begin: behind `{ `, or behind the alternative and ` : `
+-- The place where the nested values begin: after `{ `, or after the alternative and ` : `.
 abbrev pub inside : ℕ → PlainValue → ℕ
 inside at (value.Chosen identifier) = behind (identifier ++ codes " : ") at
 inside at _ = behind (codes "{ ") at
@@ -72,12 +72,12 @@ abbrev mutual
   pub placed_value : ℕ → Rose PlainValueLabel → Rose PlainValueLabel
   placed_value at (node l vs) = node (record l { at = at }) (placed_values (inside at l.value) vs)
 
-  -- with `, ` between two
+  -- Values with `, ` between each two.
   pub placed_values : ℕ → Roses PlainValueLabel → Roses PlainValueLabel
   placed_values at none = none
   placed_values at (more v vs) = more (placed_value at v) (placed_values (behind (value_text v ++ codes ", ") at) vs)
 
--- behind the type of a part
+-- The fixed value after the type of a part.
 abbrev pub placed_fixed : ℕ → Option PlainOctets → Option PlainOctets
 placed_fixed at fixed = option_map (λ (octets : PlainOctets). record octets { at = behind (codes " (CONSTRAINED BY {/* fixed ") at }) fixed
 
@@ -95,7 +95,7 @@ abbrev pub placed_item : ℕ → NumberedItem → NumberedItem
 placed_item at item =
     record { identifier = placed_name at item.identifier; number = placed_number (behind (item.identifier.name ++ codes "(") at) item.number }
 
--- with `, ` between two
+-- Items with `, ` between each two.
 abbrev pub placed_items : ℕ → List NumberedItem → List NumberedItem
 placed_items at [] = []
 placed_items at (item ∷ items) = placed_item at item ∷ placed_items (behind (item_text item ++ codes ", ") at) items
@@ -104,7 +104,8 @@ abbrev pub placed_names : ℕ → List PlainName → List PlainName
 placed_names at [] = []
 placed_names at (i ∷ is) = placed_name at i ∷ placed_names (behind (i.name ++ codes ", ") at) is
 
--- A part that begins here has its type behind its identifier and its instructions, and then what is said of it.
+-- The place of the type of a part that begins here: after its identifier and its instructions. The fixed value and the absence
+-- follow the type.
 abbrev pub type_at : ℕ → PlainPart → ℕ
 type_at at part = behind (part_marks_text part.marks) (behind (labelled part.identifier) at)
 
@@ -117,18 +118,19 @@ placed_part at part type = record {
   absence = placed_absence (behind (fixed_text part.fixed) (behind type (type_at at part))) part.absence;
 }
 
--- A type's form begins behind its instructions, and its first part behind the opening brace and a new line, or behind ` OF `.
+-- The place of the first part of a form that begins here: after the opening brace and a new line, or after ` OF `. The form of a
+-- type begins after its instructions.
 abbrev pub parts_at : ℕ → ℕ → PlainForm → ℕ
 parts_at levels at (form.Sequence components) = behind (codes "SEQUENCE {" ++ new_line (suc levels)) at
 parts_at levels at (form.Choice alternatives) = behind (codes "CHOICE {" ++ new_line (suc levels)) at
 parts_at levels at (form.SequenceOf size item) = behind (form_text levels (form.SequenceOf size item) []) at
 parts_at levels at _ = at
 
--- where the next part begins: behind the part, a comma and a new line
+-- The place of the next part: after the part, a comma and a new line.
 abbrev pub next_at : ℕ → ℕ → List ℕ → ℕ
 next_at levels at part = behind (part ++ codes "," ++ new_line levels) at
 
--- the parts, with the texts of their types
+-- The parts, with the texts of their types.
 abbrev pub placed_parts : ℕ → ℕ → List PlainPart → List (List ℕ) → List PlainPart
 placed_parts levels at [] types = []
 placed_parts levels at (part ∷ parts) [] = part ∷ parts
@@ -140,7 +142,7 @@ abbrev pub type_texts : ℕ → Roses PlainLabel → List (List ℕ)
 type_texts levels none = []
 type_texts levels (more t ts) = type_text levels t ∷ type_texts levels ts
 
--- the form, which begins here, of a type on a line that is indented by so many levels; the texts of the types of its parts
+-- The form, which begins here, of a type on a line of this level of indentation. `types` has the texts of the types of its parts.
 abbrev pub placed_form : ℕ → ℕ → PlainForm → List (List ℕ) → PlainForm
 placed_form levels at form.Bool types = form.Bool
 placed_form levels at (form.Int r) types = form.Int (placed_number_range (behind (codes "INTEGER") at) r)
@@ -161,7 +163,7 @@ placed_form levels at (form.SequenceOf size item) types =
 placed_form levels at (form.Ref reference) types = form.Ref (placed_name at reference)
 
 abbrev mutual
-  -- a type that begins here with its own instructions
+  -- A type that begins here, with its own instructions.
   pub placed_type : ℕ → ℕ → Rose PlainLabel → Rose PlainLabel
   placed_type levels at (node l ts) =
       node
@@ -176,7 +178,7 @@ abbrev mutual
       (parts_of l.form)
       ts)
 
-  -- the types of parts, of which the first begins here
+  -- The types of parts, the first of which begins here.
   pub placed_types : ℕ → ℕ → List PlainPart → Roses PlainLabel → Roses PlainLabel
   placed_types levels at parts none = none
   placed_types levels at parts (more t ts) =
@@ -202,10 +204,10 @@ abbrev pub placed_from : ℕ → List PlainAssignment → List PlainAssignment
 placed_from at [] = []
 placed_from at (a ∷ others) = placed_assignment at a ∷ placed_from (behind (assignment_text a) at) others
 
--- the first line is the opening
+-- The first line is the opening.
 abbrev pub placed : List PlainAssignment → List PlainAssignment
 placed assignments = placed_from (length opening) assignments
 
--- Each thing stands where it is said to stand.
+-- Each thing has the place where it is in the text.
 abbrev pub IsPlaced : List PlainAssignment → Type 0
 IsPlaced assignments = placed assignments ≡ assignments

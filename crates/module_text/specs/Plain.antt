@@ -1,5 +1,6 @@
--- Which trees have a text in the plain grammar: names and numbers have their form, encoding instructions stand in order, and
--- what the layout can't tell isn't there. Whether a name, a number or an instruction may be what it is, is another question.
+-- The trees that have a text in the plain grammar. Their names and numbers are well formed, their encoding instructions are in
+-- order, and they have nothing that the layout can't show. Whether a name, a number or an instruction is allowed is not tested
+-- here.
 use Rattle.std.specs.Prelude.{◌≡◌, ℕ, ◌≤◌, Bool, true, false, Option, Some, None, List, [], ◌∷◌, length, All, ◌⊎◌}
 use Rattle.base_trees.specs.Rose.{Rose, node, Roses, none, more, length_all, height}
 use Rattle.module_text.specs.declared.bounds.PlainNumber.{PlainNumber}
@@ -50,7 +51,7 @@ abbrev pub IsSize : Option PlainEnds → Type 0
 IsSize None = Unit {0}
 IsSize (Some e) = AreEnds e
 
--- ---- encoding instructions: in the order of their ranks, each as often as it likes
+-- ---- encoding instructions: in the order of their ranks, each any number of times
 
 abbrev pub ArePartMarks : List PartMark → Type 0
 ArePartMarks marks = part_marks_from 0 marks ≡ true
@@ -84,7 +85,7 @@ abbrev pub IsFixed : Option PlainOctets → Type 0
 IsFixed None = Unit {0}
 IsFixed (Some octets) = are_octets octets.digits ≡ true
 
--- OPTIONAL stands where there is no fixed value.
+-- OPTIONAL appears only without a fixed value.
 abbrev pub IsAbsence : Option PlainOctets → Absence → Type 0
 IsAbsence fixed absence.Never = Unit {0}
 IsAbsence fixed absence.Optional = fixed ≡ None
@@ -98,7 +99,7 @@ pub record IsComponent (part : PlainPart) : Type 0 where
   pub fixed : IsFixed part.fixed
   pub absence : IsAbsence part.fixed part.absence
 
--- nothing stands behind the type of an alternative or an item
+-- Nothing follows the type of an alternative or an item.
 abbrev pub IsBare : PlainPart → Type 0
 IsBare part = (part.fixed ≡ None) × (part.absence ≡ absence.Never)
 
@@ -151,7 +152,7 @@ IsPlain assignments = All IsAssignment assignments
 
 -- ---- depth
 
--- how many types, and how many values, stand in one another at most
+-- The greatest nesting depth of types, and that of values.
 abbrev pub limit : ℕ
 limit = 1024
 

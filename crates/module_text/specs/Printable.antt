@@ -1,4 +1,4 @@
--- The modules that can be read back from their print: what is printed of each tells all of it.
+-- The modules that can be read back from their print, because the print shows all of the module.
 use Rattle.std.specs.Prelude.{◌≡◌, ◌≢◌, ℕ, ◌+◌, ◌≤◌, Bool, true, false, ◌&&◌, not, nat_lt, None, List, [], ◌∷◌, map, filter, chars, bytes_eq, All, if◌then◌else◌}
 use Rattle.std.specs.List.{list_all, Contains, IsDistinct}
 use Rattle.base_trees.specs.Rose.{Rose, node, Roses, none, more, height}
@@ -27,7 +27,7 @@ use Rattle.module_text.specs.declared.spots.Spot.TheVariants as spot_
 
 -- ---- encoding instructions
 
--- in the order in which they are printed, each once but TEXT, whose items ascend
+-- The instructions are in the order in which they are printed. Each appears once, except TEXT, whose items ascend.
 abbrev pub comes_before : Instruction → Instruction → Bool
 comes_before (mark.Text item text) (mark.Text other word) = nat_lt item other
 comes_before m n = nat_lt (rank m) (rank n)
@@ -37,15 +37,15 @@ are_in_order [] = true
 are_in_order (m ∷ []) = true
 are_in_order (m ∷ n ∷ marks) = comes_before m n && are_in_order (n ∷ marks)
 
--- ATTRIBUTE, UNTAGGED, NAME and NAMESPACE stand on components and assignments alone, the others on types alone.
+-- ATTRIBUTE, UNTAGGED, NAME and NAMESPACE appear only on components and assignments, the others only on types.
 abbrev pub is_of_part : Instruction → Bool
 is_of_part m = nat_lt (rank m) 4
 
--- quoted texts have XML characters alone
+-- Quoted texts have only XML characters.
 abbrev pub IsXmlText : List ℕ → Type 0
 IsXmlText text = list_all is_xml_char (chars text) ≡ true
 
--- what a part or an assignment with this name may have
+-- A part or an assignment with this name may have the instruction.
 abbrev pub MayHave : List ℕ → Instruction → Type 0
 MayHave generated (mark.Name name) = (generated ≢ []) × (form_of generated name ≢ None) × IsXmlText name
 MayHave generated (mark.Namespace space) = IsXmlText space
@@ -56,7 +56,7 @@ pub record HasPartMarks (generated : List ℕ) (marks : List Instruction) : Type
   pub part : list_all is_of_part marks ≡ true
   pub names : All (MayHave generated) marks
 
--- TEXT stands just for the words that differ from their identifiers.
+-- TEXT appears exactly for the words that differ from their identifiers.
 abbrev pub text_marks : ℕ → List (List ℕ) → List (List ℕ) → List Instruction
 text_marks i (identifier ∷ identifiers) (word ∷ words) =
     if bytes_eq identifier word then text_marks (i + 1) identifiers words else mark.Text i word ∷ text_marks (i + 1) identifiers words
@@ -86,7 +86,7 @@ pub record HasTypeMarks (l : TypeLabel) : Type 0 where
 abbrev pub IsIdentifier : List ℕ → Type 0
 IsIdentifier name = is_identifier name ≡ true
 
--- of the items of an ENUMERATED, but for those that stand for numbers
+-- The identifiers of the items of an ENUMERATED, except those that represent numbers.
 abbrev pub identifiers_of : Form → List (List ℕ)
 identifiers_of (form.Words identifiers words) = identifiers
 identifiers_of (form.Order identifiers) = identifiers
@@ -108,7 +108,7 @@ HasNames (form.Choice parts) = AreIdentifiers (part_names (form.Choice parts)) �
 HasNames (form.SequenceOf part least most) = (part.identifier ≢ [] → IsIdentifier part.identifier) × IsPresent part
 HasNames f = AreIdentifiers (identifiers_of f)
 
--- ---- where the ENUMERATED of an order stands
+-- ---- where the ENUMERATED of an order appears
 
 abbrev pub IsInSpot : Spot → Form → Type 0
 IsInSpot spot_.OrderItem (form.Words identifiers words) = ⊥
@@ -161,7 +161,7 @@ pub record IsPrintableAssignment (a : Assignment) : Type 0 where
   pub types : ArePrintable spot_.Elsewhere a.body
   pub depth : height a.body ≤ limit
 
--- Numbers and words ascend, no CHOICE and no ENUMERATED is empty, no bounds are crossed: so it is in each module.
+-- In each module numbers and words ascend, no CHOICE and no ENUMERATED is empty, and no bounds are crossed.
 pub record IsPrintable (M : List Assignment) : Type 0 where
   pub sound : IsModule M
   pub bounded : IsBounded M

@@ -1,4 +1,4 @@
--- The order of encoding instructions: those of a part or an assignment before those of its type.
+-- The order of encoding instructions: those of a part or an assignment precede those of its type.
 use Rattle.std.specs.Prelude.{ℕ, Bool, true, ◌&&◌, nat_le, List, [], ◌∷◌}
 use Rattle.module_text.specs.declared.marks.PartMarkKind.{PartMarkKind}
 use Rattle.module_text.specs.declared.marks.PartMarkKind.TheVariants as part_mark
@@ -24,7 +24,7 @@ rank_of_type_mark type_mark.Replace = 10
 rank_of_type_mark type_mark.Collapse = 10
 rank_of_type_mark (type_mark.Text identifier text) = 11
 
--- Each has a rank that is no less than those before it, and no less than the least.
+-- The ranks never decrease, and none is less than `least`.
 abbrev pub part_marks_from : ℕ → List PartMark → Bool
 part_marks_from least [] = true
 part_marks_from least (m ∷ ms) = nat_le least (rank_of_part_mark m.kind) && part_marks_from (rank_of_part_mark m.kind) ms

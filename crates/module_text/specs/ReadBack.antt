@@ -1,4 +1,4 @@
--- What bytes are read back to: the module of which they are the print, or the first fault.
+-- The result of reading bytes back: the module whose print they are, or the first fault.
 use Rattle.std.specs.Prelude.{◌≡◌, ℕ, Result, List, IsUtf8, MatchResult}
 use Rattle.std.specs.Str.{IsValidUpTo}
 use Rattle.asn_types.specs.declared.modules.Assignment.{Assignment}
@@ -13,18 +13,18 @@ use Rattle.module_text.specs.Listed.{fault, IsLeast}
 use Rattle.module_text.specs.Faults.{faults}
 use Rattle.module_text.specs.Printable.{IsPrintable}
 
--- the bytes are the print of this module, which is printable
+-- The bytes are the print of this module, which is printable.
 pub record IsReadBack (bytes : List ℕ) (M : List Assignment) : Type 0 where
   pub printable : IsPrintable M
   pub text : printed M ≡ bytes
 
--- a text of the plain grammar, whose first fault this is
+-- The bytes are a text of the plain grammar, and this is its first fault.
 pub record HasFault (bytes : List ℕ) (at : ℕ) (reason : ModuleWhy) : Type 0 where
   pub assignments : List PlainAssignment
   pub is : IsTextOf bytes assignments
   pub first : IsLeast (faults assignments) (fault at reason)
 
--- Bytes that are no text of the plain grammar have one of the first three reasons.
+-- If the bytes are not a text of the plain grammar, the reason is one of the first three.
 abbrev pub IsBadAt : List ℕ → ℕ → ModuleWhy → Type 0
 IsBadAt bytes at why.NotUtf8 = (IsUtf8 bytes → ⊥) × IsValidUpTo bytes at
 IsBadAt bytes at why.Syntax = IsUtf8 bytes × IsBroken bytes at
@@ -35,6 +35,6 @@ abbrev pub IsErrorOf : List ℕ → ModuleError → Type 0
 IsErrorOf bytes (error.Bad at reason) = IsBadAt bytes at reason
 IsErrorOf bytes error.Memory = Unit {0}
 
--- what is answered to these bytes
+-- The result is the module or the fault that these bytes require, or a failed allocation.
 abbrev pub Answers : List ℕ → Result (List Assignment) ModuleError → Type 0
 Answers bytes result = MatchResult result (IsReadBack bytes) (IsErrorOf bytes)

@@ -3,7 +3,7 @@ use Rattle.std.specs.Prelude.{ℕ, List, codes}
 use Rattle.module_text.specs.declared.reasons.ModuleWhy.{ModuleWhy}
 use Rattle.module_text.specs.declared.reasons.ModuleWhy.TheVariants as module_why
 
--- the name of a reason against a printed module
+-- The name of a reason for rejecting a printed module.
 abbrev pub module_reason : ModuleWhy → List ℕ
 module_reason module_why.NotUtf8 = codes "NotUtf8"
 module_reason module_why.Syntax = codes "Syntax"

@@ -24,7 +24,7 @@ abbrev pub is_item : PlainForm → PlainPart → Bool
 is_item (form.SequenceOf size item) part = is_empty part.identifier
 is_item _ part = false
 
--- the role of the part with number i
+-- The role of the part with number i.
 abbrev pub role_of : PlainLabel → ℕ → PlainPart → Role
 role_of l i part =
     if has_attribute part.marks then Attribute
@@ -43,7 +43,7 @@ reference_of (form.Ref reference) = Some reference.name
 reference_of _ = None
 
 module _ (P : List PlainAssignment) where
-  -- the number of the first assignment with this reference
+  -- The number of the first assignment with this reference.
   abbrev pub number_of : List ℕ → Option ℕ
   number_of reference = position (λ (a : PlainAssignment). bytes_eq a.reference reference) P
 
@@ -53,26 +53,26 @@ module _ (P : List PlainAssignment) where
   abbrev pub body_of : List ℕ → Option (Rose PlainLabel)
   body_of reference = option_and_then body_at (number_of reference)
 
-  -- the type to which one reference leads
+  -- The type that one reference reaches.
   abbrev pub next : Rose PlainLabel → Option (Rose PlainLabel)
   next t = option_and_then body_of (reference_of (label_of t).form)
 
-  -- the type to which at most so many references lead
+  -- The type that at most n references reach.
   unfoldable pub follow : ℕ → Rose PlainLabel → Rose PlainLabel
   follow zero t = t
   follow (suc n) t = elim (next t) [ None ↦ t | Some u ↦ follow n u ]
 
-  -- the type that is meant
+  -- The type that at most four references reach.
   abbrev pub resolve : Rose PlainLabel → Rose PlainLabel
   resolve t = follow 4 t
 
--- a reference, if the type is one, of which this is so
+-- If the type is a reference, the condition holds of it.
 abbrev pub if_reference : (List ℕ → Bool) → PlainForm → Bool
 if_reference is (form.Ref reference) = is reference.name
 if_reference is _ = true
 
 module _ (is : List ℕ → Bool) where
-  -- it is so of each reference that is reached from the type without passing a part with the role of an element
+  -- The condition holds of each reference that the type reaches without passing a part with the role of an element.
   unfoldable mutual
     pub near_references : Rose PlainLabel → Bool
     near_references (node l ts) = if_reference is l.form && near_references_of l 0 (parts_of l.form) ts
@@ -85,7 +85,7 @@ module _ (is : List ℕ → Bool) where
           | part ∷ others ↦ (if is_element (role_of l i part) then true else near_references t) && near_references_of l (i + 1) others ts
         ]
 
-  -- of each reference that stands in the type
+  -- The condition holds of each reference in the type.
   unfoldable mutual
     pub all_references : Rose PlainLabel → Bool
     all_references (node l ts) = if_reference is l.form && all_references_in ts
@@ -95,12 +95,12 @@ module _ (is : List ℕ → Bool) where
     all_references_in (more t ts) = all_references t && all_references_in ts
 
 module _ (P : List PlainAssignment) where
-  -- no more than so many references follow one another from the type without passing a part with the role of an element; one
-  -- without an assignment leads no further
+  -- At most n references follow one another from the type without passing a part with the role of an element. A reference without
+  -- an assignment leads no further.
   unfoldable pub chains_within : ℕ → Rose PlainLabel → Bool
   chains_within zero t = near_references (λ reference. false) t
   chains_within (suc n) t = near_references (λ reference. elim (body_of P reference) [ None ↦ true | Some u ↦ chains_within n u ]) t
 
-  -- each reference in the type leads on through three others at most
+  -- Each reference in the type is followed by at most three others.
   abbrev pub chains_end : Rose PlainLabel → Bool
   chains_end t = all_references (λ reference. elim (body_of P reference) [ None ↦ true | Some u ↦ chains_within 3 u ]) t

@@ -1,5 +1,5 @@
--- The simple type for which a plain type stands, if it stands for one (X.694, clauses 11 to 13): its form, its instructions but
--- for TEXT, and its parts are as such a type is mapped, and what it is made of is sound.
+-- The simple type that a plain type represents, if it represents one (X.694, clauses 11 to 13). The form, the instructions except
+-- TEXT, and the parts must be those to which a simple type is mapped. What the simple type is made of must be sound.
 use Rattle.std.specs.Prelude.{ℕ, ◌^◌, Bool, true, false, ◌&&◌, not, nat_lt, nat_le, int_le, int_lt, is_some, bytes_eq, ℤ, Option, Some, None, List, [], ◌∷◌, length, if◌then◌else◌}
 use Rattle.std.specs.List.{list_all}
 use Rattle.std.specs.Ordering.{is_lt, nat_cmp}
@@ -24,7 +24,7 @@ if_so b found = if b then found else None
 
 -- ---- what is sound
 
--- as many as a number of 32 bits can name, and at least one
+-- The count fits in 32 bits and is at least one.
 abbrev pub is_counted : ℕ → Bool
 is_counted n = nat_lt 0 n && nat_lt n (2 ^ 32)
 
@@ -36,7 +36,7 @@ abbrev pub are_sizes : Sizes → Bool
 are_sizes (least, Some most) = nat_le least most
 are_sizes (least, None) = true
 
--- each number is over the one before, the first over this one
+-- Each number is above the previous one. The first is above this one, if there is one.
 abbrev pub ascend_behind : Option ℤ → List ℤ → Bool
 ascend_behind last [] = true
 ascend_behind None (z ∷ zs) = ascend_behind (Some z) zs
@@ -45,7 +45,7 @@ ascend_behind (Some y) (z ∷ zs) = int_lt y z && ascend_behind (Some z) zs
 abbrev pub ascend : List ℤ → Bool
 ascend numbers = ascend_behind None numbers
 
--- in the order of their bytes
+-- The first text precedes the second in the order of their bytes.
 abbrev pub text_lt : List ℕ → List ℕ → Bool
 text_lt first second = is_lt (slice_cmp nat_cmp first second)
 
@@ -57,13 +57,13 @@ texts_behind (Some before) (word ∷ words) = text_lt before word && texts_behin
 abbrev pub texts_ascend : List (List ℕ) → Bool
 texts_ascend words = texts_behind None words
 
--- XML characters alone, and unchanged by its treatment
+-- The word has only XML characters, and its treatment leaves it unchanged.
 abbrev pub is_word : WhiteSpace → List ℕ → Bool
 is_word how word = is_xml_text word && bytes_eq (treated how word) word
 
 -- ---- what is listed
 
--- the numbers, where each has 128 bits
+-- The numbers, if each has 128 bits.
 abbrev pub with_number : Option ℤ → Option (List ℤ) → Option (List ℤ)
 with_number (Some z) (Some zs) = Some (z ∷ zs)
 with_number _ _ = None
@@ -91,7 +91,7 @@ abbrev pub text_space : Option Sizes → Class → Option WhiteSpace → Option 
 text_space (Some sizes) class (Some how) = if_so (are_sizes sizes) (Some (Characters how sizes.0 sizes.1 class))
 text_space _ class _ = None
 
--- no list has a list in it
+-- The list of this item. There is none if the item has a list in it.
 abbrev pub list_space : Option Sizes → Option Space → Option Space
 list_space (Some sizes) (Some item) = if_so (are_sizes sizes && not (has_list item)) (Some (ListOf item sizes.0 sizes.1))
 list_space _ _ = None
@@ -100,7 +100,7 @@ abbrev pub union_space : Option Spaces → Option Space
 union_space None = None
 union_space (Some members) = if_so (is_counted (count_members members)) (Some (UnionOf members))
 
--- no member is a union
+-- These members after this one. There are none if this one is a union.
 abbrev pub with_member : Option Space → Option Spaces → Option Spaces
 with_member (Some s) (Some ss) = if_so (not (is_union s)) (Some (more s ss))
 with_member _ _ = None
@@ -108,7 +108,7 @@ with_member _ _ = None
 abbrev pub are_plain : List PlainPart → Bool
 are_plain parts = list_all (λ (part : PlainPart). have_names_alone part.marks) parts
 
--- where the item of a type stands that stands here
+-- The spot of the item of a type at this spot.
 abbrev pub item_spot : Spot → Spot
 item_spot Order = OrderItem
 item_spot _ = Elsewhere
@@ -117,7 +117,7 @@ abbrev pub is_order_item : Spot → Bool
 is_order_item OrderItem = true
 is_order_item _ = false
 
--- An item of an order stands for no simple type.
+-- The simple type that a type at this spot represents. An item of an order represents none.
 unfoldable mutual
   pub simple_told : Spot → Rose PlainLabel → Option Space
   simple_told spot (node l ts) = elim l.form [

@@ -1,5 +1,5 @@
--- The text that a tree tells, in the layout of the printed module: the plain grammar is the language of these texts. Places
--- count for nothing in it.
+-- The text of a tree, in the layout of the printed module. The plain grammar is the language of these texts. Places make no
+-- difference to a text.
 use Rattle.std.specs.Prelude.{ℕ, suc, Option, Some, None, List, [], ◌∷◌, ◌++◌, map, codes}
 use Rattle.std.specs.List.{flat_map}
 use Rattle.base_trees.specs.Rose.{Rose, node, Roses, none, more}
@@ -81,7 +81,7 @@ part_marks_text marks = flat_map (λ m. part_mark_text m.kind) marks
 abbrev pub type_marks_text : List TypeMark → List ℕ
 type_marks_text marks = flat_map (λ m. type_mark_text m.kind) marks
 
--- ---- values behind DEFAULT, and fixed values
+-- ---- values after DEFAULT, and fixed values
 
 abbrev pub all_of : List (List ℕ) → List ℕ
 all_of texts = flat_map (λ text. text) texts
@@ -116,19 +116,19 @@ absence_text (absence.Default v) = codes " DEFAULT " ++ value_text v
 abbrev pub item_text : NumberedItem → List ℕ
 item_text item = item.identifier.name ++ codes "(" ++ item.number.written ++ codes ")"
 
--- the parts of a type: the components of a SEQUENCE, the alternatives of a CHOICE, the item of a SEQUENCE OF
+-- The parts of a type: the components of a SEQUENCE, the alternatives of a CHOICE, or the item of a SEQUENCE OF.
 abbrev pub parts_of : PlainForm → List PlainPart
 parts_of (form.Sequence parts) = parts
 parts_of (form.Choice parts) = parts
 parts_of (form.SequenceOf size part) = part ∷ []
 parts_of _ = []
 
--- Where the parts of a type stand: on lines of their own, or on that of the type.
+-- The level of the parts of a type. They are on lines of their own, or on the line of the type.
 abbrev pub level_of_parts : ℕ → PlainForm → ℕ
 level_of_parts levels (form.SequenceOf size part) = levels
 level_of_parts levels _ = suc levels
 
--- on a line that is indented by so many levels, with its parts
+-- The form with its parts, on a line of this level of indentation.
 abbrev pub form_text : ℕ → PlainForm → List (List ℕ) → List ℕ
 form_text levels form.Bool parts = codes "BOOLEAN"
 form_text levels (form.Int r) parts = codes "INTEGER" ++ number_range_text r
@@ -140,16 +140,16 @@ form_text levels (form.Choice alternatives) parts = codes "CHOICE " ++ block lev
 form_text levels (form.SequenceOf size item) parts = codes "SEQUENCE" ++ size_text size ++ codes " OF " ++ all_of parts
 form_text levels (form.Ref reference) parts = reference.name
 
--- a part whose instructions and type have this text
+-- A part whose instructions and type have this text.
 abbrev pub part_text : PlainPart → List ℕ → List ℕ
 part_text part type = labelled part.identifier ++ type ++ fixed_text part.fixed ++ absence_text part.absence
 
 abbrev mutual
-  -- with the instructions of the type
+  -- The type with its instructions.
   pub type_text : ℕ → Rose PlainLabel → List ℕ
   type_text levels (node l ts) = type_marks_text l.marks ++ form_text levels l.form (part_texts (level_of_parts levels l.form) (parts_of l.form) ts)
 
-  -- the parts with these types
+  -- The parts with these types.
   pub part_texts : ℕ → List PlainPart → Roses PlainLabel → List (List ℕ)
   part_texts levels parts none = []
   part_texts levels parts (more t ts) =

@@ -1,4 +1,4 @@
--- What the pieces of a plain text say: numbers, names beside an identifier, bounds, words, encoding instructions.
+-- The meaning of the pieces of a plain text: numbers, names next to an identifier, bounds, words, encoding instructions.
 use Rattle.std.specs.Prelude.{ℕ, ◌^◌, Bool, true, false, ◌&&◌, nat_lt, ℤ, pos, Option, Some, None, List, [], ◌∷◌, bytes_eq, chars, if◌then◌else◌}
 use Rattle.std.specs.List.{list_all, list_any, filter_map}
 use Rattle.std.specs.Str.{is_utf8}
@@ -32,11 +32,11 @@ abbrev pub if_128_bits : Option ℤ → Option ℤ
 if_128_bits None = None
 if_128_bits (Some z) = if is_128_bits z then Some z else None
 
--- the number, where it has 128 bits
+-- The number, if it has 128 bits.
 abbrev pub whole_of : PlainNumber → Option ℤ
 whole_of n = if_128_bits (whole_number n.written)
 
--- It is printed so: without a zero in front, and zero without a sign.
+-- The number is written as it is printed: without leading zeros, and zero without a sign.
 abbrev pub is_printed : Option ℤ → List ℕ → Bool
 is_printed None written = false
 is_printed (Some z) written = bytes_eq (signed_decimal z) written
@@ -44,7 +44,7 @@ is_printed (Some z) written = bytes_eq (signed_decimal z) written
 abbrev pub is_printed_number : PlainNumber → Bool
 is_printed_number n = is_printed (whole_of n) n.written
 
--- ---- bounds: a least one, where there is one, and a greatest one; none of a number that is too wide
+-- ---- bounds: a least one, if there is one, and a greatest one; none if a number has more than 128 bits
 
 abbrev pub Bounds : Type 0
 Bounds = Option ℤ × Option ℤ
@@ -70,7 +70,7 @@ bounds_of (ends.One number) = just (whole_of number)
 bounds_of (ends.Both least greatest) = from_to (whole_of least) (whole_of greatest)
 bounds_of (ends.From least max_at) = least_alone (whole_of least)
 
--- those of an INTEGER: none where nothing is said
+-- The bounds of an INTEGER. Without a constraint there are no bounds.
 abbrev pub range_of : Option PlainRange → Option Bounds
 range_of None = Some (None, None)
 range_of (Some (range.Ends e)) = bounds_of e
@@ -91,7 +91,7 @@ abbrev pub sizes_to : Option ℕ → Option ℕ → Option Sizes
 sizes_to (Some m) (Some n) = Some (m, Some n)
 sizes_to _ _ = None
 
--- those of characters or items, of 32 bits: any number where nothing is said
+-- The number of characters or items, in 32 bits. Without a constraint it is any number.
 abbrev pub sizes_of : Option PlainEnds → Option Sizes
 sizes_of None = Some (0, None)
 sizes_of (Some (ends.One number)) = sizes_to (size_of (whole_of number)) (size_of (whole_of number))
@@ -100,11 +100,11 @@ sizes_of (Some (ends.From least max_at)) = sizes_from (size_of (whole_of least))
 
 -- ---- names
 
--- UTF-8 of XML characters alone
+-- The bytes are UTF-8 of XML characters only.
 abbrev pub is_xml_text : List ℕ → Bool
 is_xml_text text = is_utf8 text && list_all is_xml_char (chars text)
 
--- what is told beside an identifier or a reference
+-- The name that is given next to an identifier or a reference.
 abbrev pub told_name : List ℕ → NameAs → List ℕ
 told_name generated as_.Capitalized = capitalized generated
 told_name generated as_.Uncapitalized = uncapitalized generated
@@ -120,7 +120,7 @@ abbrev pub has_xml_characters : NameAs → Bool
 has_xml_characters (as_.Quoted name) = is_xml_text name
 has_xml_characters _ = true
 
--- told in the form that tells it back, with XML characters alone; a name that is the same isn't told
+-- The name is written in the form that restores it, with XML characters only. A name that equals the generated name isn't written.
 abbrev pub is_told_so : List ℕ → NameAs → Bool
 is_told_so generated name = is_form name (form_of generated (told_name generated name)) && has_xml_characters name
 
@@ -141,7 +141,7 @@ has_attribute marks = list_any is_attribute marks
 abbrev pub has_untagged : List PartMark → Bool
 has_untagged marks = list_any is_untagged marks
 
--- An item or an alternative of a simple type has none but NAME.
+-- An item or an alternative of a simple type has only NAME.
 abbrev pub have_names_alone : List PartMark → Bool
 have_names_alone marks = list_all is_name marks
 
@@ -178,7 +178,7 @@ has_list marks = list_any is_list marks
 abbrev pub has_use_union : List TypeMark → Bool
 has_use_union marks = list_any is_use_union marks
 
--- ---- what they say of a simple type
+-- ---- what they state of a simple type
 
 abbrev pub alone_as : TypeMarkKind → Alone
 alone_as type_mark.UseNumber = alone.UseNumber
@@ -195,7 +195,7 @@ beside seen kind = alone.Other
 abbrev pub with_mark : Alone → TypeMark → Alone
 with_mark seen m = if is_no_text m then beside seen m.kind else seen
 
--- behind others, which say this
+-- What the instructions state after others that state this.
 abbrev pub alone_behind : Alone → List TypeMark → Alone
 alone_behind seen [] = seen
 alone_behind seen (m ∷ marks) = alone_behind (with_mark seen m) marks
@@ -219,7 +219,7 @@ abbrev pub is_union_alone : Alone → Bool
 is_union_alone alone.UseUnion = true
 is_union_alone _ = false
 
--- what is done to white space, where they say nothing else
+-- The treatment of white space, if the instructions state nothing else.
 abbrev pub white_space_alone : Alone → Option WhiteSpace
 white_space_alone alone.Nothing = Some Preserve
 white_space_alone (alone.WhiteSpace how) = Some how
@@ -227,7 +227,7 @@ white_space_alone _ = None
 
 -- ---- words
 
--- what TEXT says of the item with an identifier
+-- What TEXT states of the item with an identifier.
 pub record Said : Type 0 where
   pub identifier : List ℕ
   pub text : NameAs
@@ -235,7 +235,8 @@ pub record Said : Type 0 where
 abbrev pub said : TypeMark → Option Said
 said m = elim m.kind [ type_mark.Text identifier text ↦ Some (record { identifier = identifier; text = text }) | _ ↦ None ]
 
--- The texts for which items with these identifiers stand: what the next TEXT says where it is of this item, or the identifier.
+-- The texts that items with these identifiers represent. For each item it is the text of the next TEXT if that is for this item, or
+-- else the identifier.
 abbrev pub words_said : List Said → List PlainName → List (List ℕ)
 words_said texts [] = []
 words_said texts (i ∷ is) = elim texts [

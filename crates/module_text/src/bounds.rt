@@ -1,10 +1,10 @@
 //! Numbers and the bounds of numbers and sizes.
 use crate::written::Written;
 
-/// A number: decimal digits, with `-` before them or without.
+/// A number: decimal digits, with or without a `-` at the beginning.
 #[derive(Drop)]
 pub struct PlainNumber {
-    /// Its first byte.
+    /// The offset of its first byte.
     pub at: u64,
     pub written: Written,
 }

@@ -4,7 +4,7 @@ ghost use Rattle.std.specs.Prelude.{◌≡◌, IfOk};
 use std::alloc::{AllocError, Global};
 use std::marker::Model;
 
-/// A value on the heap, seen as just this.
+/// A value on the heap, seen as that value.
 #[derive(Drop)]
 pub struct Boxed<T> {
     inner: Box<T>,

@@ -3,7 +3,7 @@ ghost use Rattle.std.specs.Prelude.{◌≡◌, []};
 ghost use Rattle.module_text.specs.Faults.{faults};
 ghost use Rattle.module_text.specs.Meaning.{module_meant};
 
-/// A text without assignments has no fault, and tells a module without assignments.
+/// States that a text without assignments has no fault, and that its module has no assignments.
 pub fn no_assignments()
     ensures faults { faults [] ≡ [] }
     ensures module { module_meant [] ≡ [] }

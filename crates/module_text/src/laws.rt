@@ -1,7 +1,7 @@
-//! Laws of texts, each for all trees.
+//! Laws of texts. Each is proved for all trees.
 ghost use Rattle.module_text.specs.Laws.{PlacesAreNoText};
 
-/// Places count for nothing in a text.
+/// States that places make no difference to a text.
 pub fn places_are_no_text()
     ensures { PlacesAreNoText }
 {}

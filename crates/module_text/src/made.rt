@@ -1,4 +1,4 @@
-//! Parts and types, made of what is read of them.
+//! Parts and types, made from what is read.
 ghost use Rattle.std.specs.Prelude.{◌≡◌, ◌++◌, ◌∷◌, [], IfOk};
 ghost use Rattle.module_text.specs.Made.{part_of, formed, typed_as};
 
@@ -21,7 +21,7 @@ pub struct PartHead {
 }
 
 impl PartHead {
-    /// The part, with what is said of it behind its type.
+    /// Returns the part, with the fixed value and the absence that follow its type.
     pub fn ended(
         self,
         alloc: Global,
@@ -43,7 +43,7 @@ impl PartHead {
     }
 }
 
-/// Parts, and their types in the same order.
+/// Parts, and their types in the order of the parts.
 #[derive(Drop)]
 pub struct Parts {
     pub parts: Vec<PlainPart>,
@@ -51,7 +51,7 @@ pub struct Parts {
 }
 
 impl Parts {
-    /// No parts. It takes no memory.
+    /// Returns no parts. It allocates nothing.
     pub fn new(alloc: Global) -> Parts
         ensures { (result.parts.items ≡ []) × (result.types.items ≡ []) }
     {
@@ -61,7 +61,7 @@ impl Parts {
         }
     }
 
-    /// These, and a part with its type behind them.
+    /// Returns these parts and, after them, one more with its type.
     pub fn with(
         self,
         part: Boxed<PlainPart>,
@@ -77,10 +77,10 @@ impl Parts {
     }
 }
 
-/// What a type is, but for the types of its parts.
+/// A type without the types of its parts.
 #[derive(Drop)]
 pub enum BoxedForm {
-    /// It has no parts.
+    /// A type without parts.
     Simple {
         form: Boxed<PlainForm>,
     },
@@ -117,7 +117,7 @@ impl BoxedForm {
     }
 }
 
-/// A type with the types of its parts.
+/// Returns a type with the types of its parts.
 pub fn join(
     alloc: Global,
     at: u64,

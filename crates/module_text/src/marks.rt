@@ -2,14 +2,14 @@
 use crate::written::Written;
 use base_texts::Text;
 
-/// How a name or a text is told beside the identifier or the reference.
+/// How a name or a text is given next to the identifier or the reference.
 #[derive(Drop)]
 pub enum NameAs {
     /// CAPITALIZED.
     Capitalized,
     /// UNCAPITALIZED.
     Uncapitalized,
-    /// In quotation marks. Those inside are not doubled here.
+    /// In quotation marks. Quotation marks inside are not doubled here.
     Quoted { name: Written },
 }
 
@@ -22,10 +22,10 @@ pub enum PartMarkKind {
     Namespace { space: Written },
 }
 
-/// An instruction of a part or of an assignment, where it stands.
+/// An instruction of a part or of an assignment, with its place.
 #[derive(Drop)]
 pub struct PartMark {
-    /// Its opening bracket.
+    /// The offset of its opening bracket.
     pub at: u64,
     pub kind: PartMarkKind,
 }
@@ -47,10 +47,10 @@ pub enum TypeMarkKind {
     Text { identifier: Text, text: NameAs },
 }
 
-/// An instruction of a type, where it stands.
+/// An instruction of a type, with its place.
 #[derive(Drop)]
 pub struct TypeMark {
-    /// Its opening bracket.
+    /// The offset of its opening bracket.
     pub at: u64,
     pub kind: TypeMarkKind,
 }

@@ -5,10 +5,10 @@ use crate::written::PlainList;
 use base_texts::Text;
 use base_trees::Tree;
 
-/// A type with a name. What a whole text tells is a list of these.
+/// A type with a name. A complete text is a list of these.
 #[derive(Drop)]
 pub struct PlainAssignment {
-    /// Its first byte.
+    /// The offset of its first byte.
     pub at: u64,
     pub reference: Text,
     pub marks: PlainList<PartMark>,

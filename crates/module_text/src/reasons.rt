@@ -1,4 +1,4 @@
-//! Why bytes are no printed module.
+//! Why bytes are not a printed module.
 ghost use Rattle.std.specs.Prelude.{◌≡◌};
 ghost use Rattle.module_text.specs.Reasons.{module_reason};
 ghost use Rattle.module_text.specs.declared.reasons.ModuleError.TheVariants.{Memory as NoMemory};
@@ -7,22 +7,22 @@ use base_texts::{Memory, Reason};
 use std::fmt;
 use thiserror::Error;
 
-/// Why bytes are no printed module.
+/// Why bytes are not a printed module.
 #[derive(Clone, Copy, Debug, PartialEq, Eq)]
 pub enum ModuleWhy {
     /// The bytes aren't UTF-8.
     NotUtf8,
-    /// Nothing of the form of a printed module begins so.
+    /// No printed module begins with these bytes.
     Syntax,
-    /// 1,024 types, or as many values, stand round this one.
+    /// 1,024 types, or 1,024 values, are around this one.
     TooDeep,
-    /// A reference or an identifier that stood before, or a reference that is a reserved word.
+    /// A reference or an identifier that appeared before, or a reference that is a reserved word.
     Duplicate,
     /// A reference without an assignment.
     Unresolved,
     /// More than four references in a row.
     LongChain,
-    /// What no printed module has here.
+    /// Something that no printed module has at this place.
     Spelling,
 }
 
@@ -79,10 +79,10 @@ impl fmt::Display for ModuleWhy {
 
 impl std::error::Error for ModuleWhy {}
 
-/// What is wrong with a text, and where.
+/// A fault of a text, and its place.
 #[derive(Clone, Copy)]
 pub struct TextFault {
-    /// The first byte of what is wrong.
+    /// The offset of the first byte of the fault.
     pub at: u64,
     pub why: ModuleWhy,
 }
@@ -90,7 +90,7 @@ pub struct TextFault {
 /// Why a module isn't read.
 #[derive(Clone, Copy, Debug, PartialEq, Eq, Error)]
 pub enum ModuleError {
-    /// The first fault, and its first byte, from 0.
+    /// The first fault, and the offset of its first byte, from 0.
     #[error("byte {at}: {why}")]
     Bad { at: u64, why: ModuleWhy },
     #[error("out of memory")]

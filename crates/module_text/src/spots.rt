@@ -1,20 +1,20 @@
-//! Where a type stands, and what its instructions say of a simple type.
+//! The spot of a type, and what its instructions state of a simple type.
 
 use base_texts::WhiteSpace;
 
-/// What a type is to an order of child elements: the items of an ENUMERATED without numbers stand for words, and in an order for
-/// components.
+/// How a type is related to an order of child elements. The items of an ENUMERATED without numbers represent words, and in an order
+/// they represent components.
 #[derive(Clone, Copy)]
 pub enum Spot {
-    /// Nothing.
+    /// It is in no order.
     Elsewhere,
-    /// The type of the part that has the order.
+    /// It is the type of the part that has the order.
     Order,
-    /// The item of this type.
+    /// It is the item of that type.
     OrderItem,
 }
 
-/// What stands among the instructions of a type but for TEXT, which says nothing of a simple type.
+/// The instructions of a type except TEXT, which states nothing of a simple type.
 #[derive(Clone, Copy)]
 pub enum Alone {
     Nothing,

@@ -6,10 +6,10 @@ use crate::written::PlainList;
 use base_texts::Text;
 use simple_types::Class;
 
-/// An identifier or a reference, where it stands.
+/// An identifier or a reference, with its place.
 #[derive(Drop)]
 pub struct PlainName {
-    /// Its first byte.
+    /// The offset of its first byte.
     pub at: u64,
     pub name: Text,
 }
@@ -21,21 +21,21 @@ pub struct NumberedItem {
     pub number: PlainNumber,
 }
 
-/// A component of a SEQUENCE, an alternative of a CHOICE or the item of a SEQUENCE OF, but for its type.
+/// A component of a SEQUENCE, an alternative of a CHOICE or the item of a SEQUENCE OF, without its type.
 #[derive(Drop)]
 pub struct PlainPart {
-    /// Its first byte.
+    /// The offset of its first byte.
     pub at: u64,
-    /// Empty where there is none.
+    /// Empty if there is none.
     pub identifier: Text,
     pub marks: PlainList<PartMark>,
-    /// A fixed value, in a component alone.
+    /// A fixed value, only in a component.
     pub fixed: Option<PlainOctets>,
-    /// `Never` but in a component.
+    /// `Never` except in a component.
     pub absence: Absence,
 }
 
-/// What a type is, but for the types of its parts.
+/// A type without the types of its parts.
 #[derive(Drop)]
 pub enum PlainForm {
     /// BOOLEAN.
@@ -76,10 +76,10 @@ pub enum PlainForm {
     },
 }
 
-/// A type with its encoding instructions, but for the types of its parts, which are the kids.
+/// A type with its encoding instructions, without the types of its parts, which are its children.
 #[derive(Drop)]
 pub struct PlainLabel {
-    /// Its first byte: that of its first instruction, or else of its word.
+    /// The offset of its first byte: that of its first instruction, or else of its word.
     pub at: u64,
     pub marks: PlainList<TypeMark>,
     pub form: PlainForm,

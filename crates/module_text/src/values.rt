@@ -1,20 +1,20 @@
-//! Values behind DEFAULT, and fixed values.
+//! Values after DEFAULT, and fixed values.
 use crate::written::Written;
 use base_texts::Text;
 use base_trees::Tree;
 
-/// A value, but for the values inside it.
+/// A value without the values nested in it.
 #[derive(Drop)]
 pub enum PlainValue {
     /// TRUE.
     True,
     /// FALSE.
     False,
-    /// A number: decimal digits, with `-` before them or without.
+    /// A number: decimal digits, with or without a `-` at the beginning.
     Number { written: Written },
     /// The identifier of an item.
     Item { identifier: Text },
-    /// A text in quotation marks. Those inside are not doubled here.
+    /// A text in quotation marks. Quotation marks inside are not doubled here.
     Quoted { text: Written },
     /// Values in braces.
     List,
@@ -22,23 +22,23 @@ pub enum PlainValue {
     Chosen { identifier: Text },
 }
 
-/// The label of a value, whose kids are the values inside it.
+/// The label of a value, whose children are the values nested in it.
 #[derive(Drop)]
 pub struct PlainValueLabel {
-    /// Its first byte.
+    /// The offset of its first byte.
     pub at: u64,
     pub value: PlainValue,
 }
 
-/// The octets of a fixed value, in two hexadecimal digits each.
+/// The octets of a fixed value, each written as two hexadecimal digits.
 #[derive(Drop)]
 pub struct PlainOctets {
-    /// The first digit, or what stands where it would.
+    /// The offset of the first digit, or of what is in its place.
     pub at: u64,
     pub digits: Written,
 }
 
-/// What is said of a part where it is absent.
+/// What follows the type of a part, for when the part is absent.
 #[derive(Drop)]
 pub enum Absence {
     /// Nothing: it is never absent.

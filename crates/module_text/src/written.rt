@@ -3,7 +3,7 @@ ghost use Rattle.std.specs.Prelude.{◌≡◌};
 
 use std::marker::Model;
 
-/// Bytes as they are written, seen as just these.
+/// Bytes as they are written, seen as the list of them.
 #[derive(Drop)]
 pub struct Written {
     bytes: Vec<u8>,
@@ -31,7 +31,7 @@ impl Written {
     }
 }
 
-/// Things in their order, seen as just these.
+/// Things in their order, seen as the list of them.
 #[derive(Drop)]
 pub struct PlainList<T> {
     entries: Vec<T>,

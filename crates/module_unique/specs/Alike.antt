@@ -1,4 +1,4 @@
--- Printable modules that print alike are one.
+-- Printable modules with equal prints are equal.
 use Rattle.std.specs.Prelude.{◌≡◌, ◌<◌, List, All}
 use Rattle.base_trees.specs.Rose.{Rose, node, Roses, none, more}
 use Rattle.simple_types.specs.declared.standards.Standard.{Standard}
@@ -10,7 +10,7 @@ use Rattle.asn_types.specs.Parts.{parts_of}
 use Rattle.module_print.specs.Printed.{printed}
 use Rattle.module_text.specs.Printable.{IsPrintable}
 
--- A fixed value has octets, as each text has; two hexadecimal digits tell one.
+-- A fixed value consists of octets, as each text does. Two hexadecimal digits give one octet.
 abbrev pub HasOctets : Standard → Type 0
 HasOctets Free = Unit {0}
 HasOctets (Default text) = Unit {0}

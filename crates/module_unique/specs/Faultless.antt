@@ -1,4 +1,4 @@
--- The print of a printable module whose texts are UTF-8 is a text without a fault, and what it tells is the module.
+-- The print of a printable module whose texts are UTF-8 is a text without a fault. The module that it states is that module.
 use Rattle.std.specs.Prelude.{◌≡◌, ◌<◌, ◌^◌, List, [], length}
 use Rattle.asn_types.specs.declared.modules.Assignment.{Assignment}
 use Rattle.module_print.specs.Printed.{printed}
@@ -9,7 +9,7 @@ use Rattle.module_text.specs.Meaning.{module_meant}
 use Rattle.module_text.specs.Printable.{IsPrintable}
 use Rattle.module_unique.specs.Utf8Texts.{HasTexts}
 
--- What the print tells has no fault. It means the module, where its bytes are as many as a number of 32 bits counts.
+-- The print has no fault. It states the module, if it has fewer than 2^32 bytes.
 pub record IsFaultless (M : List Assignment) : Type 0 where
   pub assignments : List PlainAssignment
   pub text : IsTextOf (printed M) assignments

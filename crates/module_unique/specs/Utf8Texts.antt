@@ -45,7 +45,7 @@ abbrev mutual
   TypesAreUtf8 none = Unit {0}
   TypesAreUtf8 (more t ts) = TypeIsUtf8 t × TypesAreUtf8 ts
 
--- So it is with each module that the program has, since a name, a word or a value of it is a `Text`.
+-- Each module of the program has such texts, because its names, words and values are of the type `Text`.
 pub record HasTexts (M : List Assignment) : Type 0 where
   pub marks : All (λ (a : Assignment). All MarkIsUtf8 a.marks) M
   pub bodies : All (λ (a : Assignment). TypeIsUtf8 a.body) M

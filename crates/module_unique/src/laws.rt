@@ -1,4 +1,4 @@
-//! Laws, for all modules.
+//! Laws. Each is proved for all modules.
 ghost use Rattle.module_unique.specs.Alike.{PrintsDiffer};
 ghost use Rattle.module_unique.specs.Faultless.{PrintableHasNoFault};
 ghost use Rattle.module_unique.specs.ToldExactly.{ToldExactly};
@@ -7,14 +7,14 @@ use module_grammar::texts_are_read;
 use module_laws::no_fault_is_printable;
 use module_read::one_answer;
 
-/// No two printable modules have one print.
+/// States that different printable modules have different prints.
 pub fn prints_differ()
     ensures { PrintsDiffer }
 {
     texts_are_read();
 }
 
-/// The print of a printable module whose texts are UTF-8 is a text without a fault, and tells the module.
+/// States that the print of a printable module whose texts are UTF-8 is a text without a fault, and that it states the module.
 pub fn printable_has_no_fault()
     ensures { PrintableHasNoFault }
 {
@@ -22,7 +22,7 @@ pub fn printable_has_no_fault()
     no_fault_is_printable();
 }
 
-/// Bytes are read to a module exactly where they are the print of it, and it is printable and its texts are UTF-8.
+/// States that bytes are read back to a module if and only if they are its print, it is printable, and its texts are UTF-8.
 pub fn told_exactly()
     ensures { ToldExactly }
 {

@@ -1,4 +1,4 @@
-mod Wholes
+mod Told
 mod Ends
 mod Feeds
 mod Gathered

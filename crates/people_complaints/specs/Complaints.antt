@@ -1,48 +1,91 @@
--- What is told of an outcome.
-use Rattle.std.specs.Prelude.{◌≡◌, ◌⊎◌, ◌≤◌, ℕ, List, [], ◌++◌, length, codes, decimal, Option, Some, None, MatchOption}
+-- WHAT A COMPLAINT SAYS of an outcome.
+use Rattle.std.specs.Prelude.{◌≡◌, ◌⊎◌, ℕ, ◌<◌, ◌≤◌, List, [], ◌++◌, length, codes, decimal, Option}
 use Rattle.base_trees.specs.Rose.{Rose}
+use Rattle.base_texts.specs.Faults.{HasRisen}
+use Rattle.base_texts.specs.Bytes.{AppendsFront}
+use Rattle.std.specs.Io.KnownBytes.{Appends}
 use Rattle.xml_items.specs.declared.label.ItemLabel.{ItemLabel}
 use Rattle.xml_read.specs.Documents.{DocOf}
 use Rattle.transcode_words.specs.declared.outcome.Outcome.{Outcome}
-use Rattle.transcode_words.specs.declared.outcome.Outcome.TheVariants.{Done, Usage, SchemaSyntax, SchemaFault, LinkFault, UnknownRoot, DocSyntax, Invalid, PerFault, RecordFault, DerFault, ModuleFault, Trailing, TooLong, TooManyNodes, LoadFault, ReadFault, WriteFault, OutOfMemory}
-use Rattle.transcode_words.specs.Lines as lines
+use Rattle.transcode_words.specs.declared.outcome.Outcome.TheVariants.{Done, Usage, SchemaSyntax, SchemaFault, LinkFault, UnknownRoot, DocSyntax, Invalid, PerFault, RecordFault, DerFault, ModuleFault, Trailing}
+use Rattle.transcode_words.specs.Lines.{line}
 pub use Rattle.transcode_words.specs.Status.{IsNamed}
 use Rattle.people_complaints.specs.Paths.{IsPath}
-use Rattle.people_complaints.specs.Telling.{IsPlaced, explained}
+use Rattle.people_complaints.specs.Places.{IsPlaced}
 
--- the byte of a text at which an outcome stands
-abbrev pub byte_of : Outcome → Option ℕ
-byte_of (SchemaSyntax k at why) = Some at
-byte_of (SchemaFault k at why) = Some at
-byte_of (LinkFault k at why) = Some at
-byte_of (DocSyntax at why) = Some at
-byte_of (Invalid at why) = Some at
-byte_of (ModuleFault at why) = Some at
-byte_of _ = None
+-- ---- the place
 
--- the reason, its meaning and its remedy are told at this byte
-abbrev pub IsTold : Outcome → List ℕ → List ℕ → List ℕ → ℕ → List ℕ → Type 0
-IsTold o name contents within at told =
-    (reason means remedy : List ℕ) × IsNamed o reason × IsPlaced name contents at within reason means remedy told
+-- the number of something in what has no lines, after these words, and no excerpt
+abbrev pub IsUnit : List ℕ → ℕ → List ℕ → List ℕ → Type 0
+IsUnit words number place excerpt = (place ≡ words ++ decimal number) × (excerpt ≡ [])
 
--- they are told of a whole
-abbrev pub IsToldWhole : Outcome → List ℕ → List ℕ → Type 0
-IsToldWhole o name told = (reason means remedy : List ℕ) × IsNamed o reason × (told ≡ name ++ explained reason means remedy [] [])
+-- A byte of a text with these contents: its line, its column and its excerpt. If the contents don't reach to it, its number.
+abbrev pub IsByte : List ℕ → ℕ → List ℕ → List ℕ → Type 0
+IsByte contents at place excerpt =
+    ((at ≤ length contents) × IsPlaced contents at place excerpt) ⊎ ((length contents < at) × IsUnit (codes ": byte ") at place excerpt)
 
--- The complaint of an outcome about the text of this name with these contents: one at a byte of them tells its line and its column, one at a
--- bit, also of a record, or an octet tells this, and the others are of the whole.
-abbrev pub IsComplaint : Outcome → List ℕ → List ℕ → List ℕ → List ℕ → Type 0
-IsComplaint (PerFault bit why) name contents within told =
-    (means remedy : List ℕ) × (told ≡ name ++ codes ": bit " ++ decimal bit ++ explained (lines.per_reason why) means remedy [] [])
-IsComplaint (RecordFault number bit why) name contents within told =
-    (means remedy : List ℕ)
-    × (told ≡ name ++ codes ": record " ++ decimal number ++ codes ", bit " ++ decimal bit ++ explained (lines.per_reason why) means remedy [] [])
-IsComplaint (DerFault at why) name contents within told =
-    (means remedy : List ℕ) × (told ≡ name ++ codes ": octet " ++ decimal at ++ explained (lines.der_reason why) means remedy [] [])
-IsComplaint (Trailing at) name contents within told =
-    (means remedy : List ℕ) × (told ≡ name ++ codes ": octet " ++ decimal at ++ explained (codes "Trailing") means remedy [] [])
-IsComplaint o name contents within told = MatchOption (byte_of o) (IsToldWhole o name told) (λ at. at ≤ length contents → IsTold o name contents within at told)
+-- The place of an outcome in a text with these contents, as it follows the text's name, and the excerpt that shows it: a byte; a bit, of a
+-- record too; an octet; or none.
+abbrev pub IsPlaceOf : Outcome → List ℕ → List ℕ → List ℕ → Type 0
+IsPlaceOf (SchemaSyntax k at why) contents = IsByte contents at
+IsPlaceOf (SchemaFault k at why) contents = IsByte contents at
+IsPlaceOf (LinkFault k at why) contents = IsByte contents at
+IsPlaceOf (DocSyntax at why) contents = IsByte contents at
+IsPlaceOf (Invalid at why) contents = IsByte contents at
+IsPlaceOf (ModuleFault at why) contents = IsByte contents at
+IsPlaceOf (PerFault bit why) contents = IsUnit (codes ": bit ") bit
+IsPlaceOf (RecordFault number bit why) contents = IsUnit (codes ": record " ++ decimal number ++ codes ", bit ") bit
+IsPlaceOf (DerFault at why) contents = IsUnit (codes ": octet ") at
+IsPlaceOf (Trailing at) contents = IsUnit (codes ": octet ") at
+IsPlaceOf o contents = λ place excerpt. (place ≡ []) × (excerpt ≡ [])
 
--- nothing, or the path to the innermost element that stands round the byte of the document in the text
+-- ---- the element
+
+-- nothing, or the path to the innermost element round the byte of the document in the text
 abbrev pub IsPathIn : List ℕ → ℕ → List ℕ → Type 0
 IsPathIn text at path = (path ≡ []) ⊎ ((items : Rose ItemLabel) × DocOf text items × IsPath at items path)
+
+-- nothing, or the words before the meaning of the reason, with the path to the element of a document that isn't valid
+abbrev pub IsWithin : Outcome → List ℕ → List ℕ → Type 0
+IsWithin (Invalid at why) contents within = (within ≡ []) ⊎ ((path : List ℕ) × IsPathIn contents at path × (within ≡ codes "in " ++ path ++ codes ": "))
+IsWithin o contents within = within ≡ []
+
+-- ---- the complaint
+
+-- what follows a place: the reason, its meaning, the excerpt and the remedy
+abbrev pub explained : List ℕ → List ℕ → List ℕ → List ℕ → List ℕ → List ℕ
+explained reason within means excerpt remedy =
+    (codes ": " ++ reason ++ codes ": ") ++ (within ++ means ++ codes "\n") ++ (excerpt ++ codes "help: " ++ remedy) ++ codes "\n"
+
+-- lines after the complaint: names of roots, where no global element is the root
+abbrev pub MayList : Outcome → List ℕ → Type 0
+MayList UnknownRoot more = Unit {0}
+MayList o more = more ≡ []
+
+-- A complaint begins with the name of the text that the outcome is about, the place and the reason.
+pub record IsComplaint (o : Outcome) (name contents complaint : List ℕ) : Type 0 where
+  pub place : List ℕ
+  pub reason : List ℕ
+  pub within : List ℕ
+  pub means : List ℕ
+  pub excerpt : List ℕ
+  pub remedy : List ℕ
+  pub more : List ℕ
+  pub placed : IsPlaceOf o contents place excerpt
+  pub named : IsNamed o reason
+  pub element : IsWithin o contents within
+  pub list : MayList o more
+  pub text : complaint ≡ name ++ place ++ explained reason within means excerpt remedy ++ more
+
+-- The text for an outcome: the complaint about a text with some name and some contents. Without memory for it, it is the line of the program
+-- for scripts. For `Usage` it is in the form of the library that reads words.
+abbrev pub IsText : Outcome → List ℕ → Type 0
+IsText Usage text = Unit {0}
+IsText o text = ((name contents : List ℕ) × IsComplaint o name contents text) ⊎ (text ≡ line o)
+
+-- Standard error received the text for an outcome, or a prefix of it and its count of failures rose. The text of a rejection isn't empty.
+pub record Complains (o : Outcome) (old new : Option (List ℕ)) (faults faults_now : ℕ) : Type 0 where
+  pub text : List ℕ
+  pub is : IsText o text
+  pub some : (o ≡ Done → ⊥) → text ≡ [] → ⊥
+  pub written : Appends old new text ⊎ (HasRisen faults faults_now × AppendsFront old new text)

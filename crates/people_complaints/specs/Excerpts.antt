@@ -6,15 +6,15 @@ use Rattle.std.specs.Str.{chars, encode_utf8_all}
 abbrev pub is_steering : ℕ → Bool
 is_steering c = (nat_le c 8) || (nat_le 10 c && nat_le c 31) || (nat_le 127 c && nat_le c 159) || (nat_le 8234 c && nat_le c 8238) || (nat_le 8294 c && nat_le c 8297)
 
--- what stands for a character in a line that is shown
+-- the character that is shown for a character
 abbrev pub shown_char : ℕ → ℕ
 shown_char c = if is_steering c then 63 else c
 
--- what stands beneath a character that is before the mark
+-- the character beneath one that precedes the mark
 abbrev pub beneath_char : ℕ → ℕ
 beneath_char c = if c == 9 then 9 else 32
 
--- how many bytes of a line are shown before the place, and behind it
+-- the greatest number of bytes of a line that are shown before the place, and after it
 abbrev pub room : ℕ
 room = 120
 
@@ -27,7 +27,7 @@ spelled other text = encode_utf8_all (map other (chars text))
 abbrev pub marked : List ℕ → List ℕ → List ℕ
 marked left right = spelled shown_char left ++ spelled shown_char right ++ codes "\n" ++ spelled beneath_char left ++ codes "^\n"
 
--- what is shown of a line with these bytes before a place and these behind it
+-- the excerpt of a line with these bytes before a place and these after it
 pub record IsExcerpt (before after excerpt : List ℕ) : Type 0 where
   pub left : List ℕ
   pub right : List ℕ

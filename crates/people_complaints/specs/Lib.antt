@@ -1,5 +1,5 @@
 pub mod Complaints
 pub mod Lines
 pub mod Excerpts
-pub mod Telling
+pub mod Places
 pub mod Paths

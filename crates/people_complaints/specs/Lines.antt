@@ -6,12 +6,12 @@ use Rattle.std.specs.List.{list_all}
 abbrev pub is_line : List ℕ → Bool
 is_line bytes = list_all (λ b. not (b == 10)) bytes
 
--- lines, each with its line feed, and what stands behind them
+-- lines, each with its line feed, and what follows them
 abbrev pub lined : List (List ℕ) → List ℕ → List ℕ
 lined [] here = here
 lined (line ∷ lines) here = line ++ 10 ∷ lined lines here
 
--- what a front of a text ends in: the line of this number, from 1, with these bytes of it
+-- the end of a prefix of a text: the line with this number, from 1, and these bytes of it
 pub record EndsInLine (front : List ℕ) (number : ℕ) (here : List ℕ) : Type 0 where
   pub before : List (List ℕ)
   pub lines : list_all is_line before ≡ true
@@ -23,7 +23,7 @@ pub record EndsInLine (front : List ℕ) (number : ℕ) (here : List ℕ) : Type
 abbrev pub WithoutReturn : List ℕ → List ℕ → Type 0
 WithoutReturn line shown = (line ≡ shown ++ 13 ∷ []) ⊎ ((line ≡ shown) × ((front : List ℕ) → line ≡ front ++ 13 ∷ [] → ⊥))
 
--- what stands of the line at the head of a text, without the line's end
+-- the first line of a text, without the line's end
 pub record BeginsInLine (rest after : List ℕ) : Type 0 where
   pub line : List ℕ
   pub behind : List ℕ

@@ -38,11 +38,11 @@ step name number of = codes "/" ++ name.local ++ place number of
 abbrev pub BeginsBy : ℕ → Rose ItemLabel → Type 0
 BeginsBy at kid = item_place (label_of kid) ≤ at
 
--- none of these items, or the first begins behind the byte
+-- there are none of these items, or the first begins after the byte
 abbrev pub NoneBy : ℕ → List (Rose ItemLabel) → Type 0
 NoneBy at kids = (kids ≡ []) ⊎ ((kid : Rose ItemLabel) × (others : List (Rose ItemLabel)) × (kids ≡ kid ∷ others) × (at < item_place (label_of kid)))
 
--- the last of the first items that begin by the byte, with those before it and those behind it
+-- the last of the first items that begin by the byte, with those before it and those after it
 pub record IsLastBy (at : ℕ) (kids before : List (Rose ItemLabel)) (kid : Rose ItemLabel) (behind : List (Rose ItemLabel)) : Type 0 where
   pub split : kids ≡ before ++ kid ∷ behind
   pub earlier : All (BeginsBy at) before
@@ -67,7 +67,7 @@ Ends at tree =
     NoneBy at (kids_of tree)
     ⊎ ((before behind : List (Rose ItemLabel)) × (kid : Rose ItemLabel) × IsLastBy at (kids_of tree) before kid behind × IsText (label_of kid))
 
--- the steps from an element, down by these, to the innermost that stands round the byte
+-- the steps from an element, down by these, to the innermost round the byte
 abbrev pub PathTo : ℕ → Rose ItemLabel → List (Rose ItemLabel) → List ℕ → Type 0
 PathTo at tree [] steps = Ends at tree × (steps ≡ [])
 PathTo at tree (kid ∷ kids) steps = (text later : List ℕ) × IsStep at tree kid text × PathTo at kid kids later × (steps ≡ text ++ later)
@@ -77,7 +77,7 @@ abbrev pub root_step : ItemLabel → List ℕ
 root_step (Element name attributes declares at) = step name 1 1
 root_step (Text text at) = []
 
--- the path to the innermost element that stands round the byte
+-- the path to the innermost element round the byte
 pub record IsPath (at : ℕ) (items : Rose ItemLabel) (path : List ℕ) : Type 0 where
   pub elements : List (Rose ItemLabel)
   pub steps : List ℕ

@@ -8,10 +8,10 @@ use base_texts::Memory;
 use std::alloc::{AllocError, Global};
 use std::str;
 
-// How many bytes are shown at most before the place, and behind it.
+// The greatest number of bytes that are shown before the place, and after it.
 const ROOM: usize = 120;
 
-// What stands for a character in a line that is shown.
+// Returns what replaces a character in a line that is shown.
 #[tactic(auto, unfolding(crate::specs::Excerpts::is_steering))]
 fn shown_char(c: char) -> char
     ensures { result ≡ rule.shown_char c }
@@ -30,7 +30,7 @@ fn beneath_char(c: char) -> char
     if c == '\t' { '\t' } else { ' ' }
 }
 
-// The end of the text, of at most 120 bytes: the longest that is UTF-8, of those that are at most three bytes shorter.
+// Returns a suffix of the text of at most 120 bytes: the longest that is UTF-8, or at most three bytes shorter.
 fn last_part(text: &[u8]) -> &str
     ensures part { (n : ℕ) × (result.now ≡ drop n text.now) }
     ensures short { length result.now ≤ 120 }
@@ -46,7 +46,7 @@ fn last_part(text: &[u8]) -> &str
     ""
 }
 
-// The head of the text, likewise.
+// Returns a prefix of the text of at most 120 bytes: the longest that is UTF-8, or at most three bytes shorter.
 fn first_part(text: &[u8]) -> &str
     ensures part { (n : ℕ) × (result.now ≡ take n text.now) }
     ensures short { length result.now ≤ 120 }
@@ -62,22 +62,22 @@ fn first_part(text: &[u8]) -> &str
     ""
 }
 
-// The text as it is shown.
+// Returns the text as it is shown.
 fn shown(alloc: Global, text: &str) -> Result<String, AllocError>
     ensures { IfOk result (λ shown. string_bytes shown ≡ rule.spelled rule.shown_char text.now) }
 {
     text.chars().map(shown_char).collect(alloc)
 }
 
-// What stands beneath the text.
+// Returns what is beneath the text.
 fn beneath(alloc: Global, text: &str) -> Result<String, AllocError>
     ensures { IfOk result (λ beneath. string_bytes beneath ≡ rule.spelled rule.beneath_char text.now) }
 {
     text.chars().map(beneath_char).collect(alloc)
 }
 
-/// The line of the place, with a mark beneath the character that stands behind it. Of a long line the 120 bytes about the
-/// place are shown, and characters that would steer a terminal as `?`.
+/// Returns the line of the place, with a mark beneath the character that follows it. Of a long line the 120 bytes on each side of the
+/// place are shown. Characters that would steer a terminal are shown as `?`.
 pub fn excerpt(alloc: Global, spot: Spot<'_>) -> Result<String, Memory>
     ensures { IfOk result (λ text. IsExcerpt spot.entry.before.now spot.entry.after.now (string_bytes text)) }
 {

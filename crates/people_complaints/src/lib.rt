@@ -1,24 +1,19 @@
-//! Explains a fault to people: file, line and column, the line itself, the reason and its remedy.
+//! Explains an outcome to people: file, line and column, the line itself, the reason and its remedy.
 //!
-//! Read first: `specs/Complaints`, then `src/telling.rt`; `specs/Lines`, `specs/Excerpts` and `specs/Paths`, then
-//! `src/text_telling.rt`.
+//! Read first: `specs/Complaints` and `specs/Places`, then `src/composing.rt`; `specs/Lines`, `specs/Excerpts` and `specs/Paths`,
+//! then `src/places.rt`.
 #![tactic(auto)]
 
+mod complaining;
+mod composing;
 mod excerpts;
 mod lines;
 mod paths;
+mod places;
 mod roots;
-mod telling;
+mod subjects;
 mod text_paths;
-mod text_telling;
-mod words;
 
-pub use base_texts::Reason;
-pub use excerpts::excerpt;
-pub use lines::{Spot, spot_at};
-pub use paths::path_at;
-pub use roots::global_names;
-pub use telling::complaint;
-pub use text_paths::path_of;
-pub use text_telling::{NamedText, tell_place, tell_unit, tell_whole};
-pub use words::{NOTE, READ, ROOT, SEVERAL_ROOTS, STAMP};
+pub use complaining::{complain, complain_usage};
+pub use composing::{NamedText, complaint, root_complaint};
+pub use subjects::Subjects;

@@ -2,7 +2,7 @@
 ghost use Rattle.std.specs.Prelude.{◌≡◌, ◌+◌, ◌≤◌, ◌==◌, ◌∷◌, ◌++◌, not, length, take, drop, true, MatchOption};
 ghost use Rattle.std.specs.List.{prefix_len};
 ghost use Rattle.std.specs.Str.{chars};
-ghost use Rattle.people_complaints.specs.Telling.{IsColumn};
+ghost use Rattle.people_complaints.specs.Places.{IsColumn};
 ghost use Rattle.people_complaints.specs.Lines.{is_line, EndsInLine, BeginsInLine, WithoutReturn};
 
 use std::str;
@@ -19,14 +19,14 @@ fn char_count(text: &str) -> usize
 pub struct Spot<'a> {
     /// The number of its line, from 1. A line ends with a line feed, or with the text.
     pub line: u64,
-    /// The bytes of its line before it.
+    /// The bytes of its line that precede it.
     pub before: &'a [u8],
-    /// The bytes of its line behind it, without the line feed and a carriage return that stands before this.
+    /// The bytes of its line that follow it, without the line feed and a carriage return that precedes this.
     pub after: &'a [u8],
 }
 
 impl<'a> Spot<'a> {
-    /// The column of the place, from 1, counted in code points; in bytes where those before it in its line aren't UTF-8.
+    /// Returns the column of the place, from 1, counted in code points; in bytes if those that precede it in its line aren't UTF-8.
     pub fn column(&self) -> u64
         ensures { IsColumn self.now.before.now result }
     {
@@ -45,7 +45,7 @@ fn line_len(bytes: &[u8]) -> usize
     bytes.iter().take_while(|b| **b != b'\n').count()
 }
 
-// The first line, and what stands behind its line feed, where it has one.
+// Returns the first line, and what follows its line feed, if it has one.
 fn split_line(bytes: &[u8]) -> Option<(&[u8], &[u8])>
     ensures { MatchOption result (is_line bytes.now ≡ true) (λ parts. (is_line parts.0.now ≡ true) × (bytes.now ≡ parts.0.now ++ 10 ∷ parts.1.now)) }
 {
@@ -56,7 +56,7 @@ fn split_line(bytes: &[u8]) -> Option<(&[u8], &[u8])>
     }
 }
 
-// The number of the last line, and what stands of it.
+// Returns the number of the last line, and its bytes.
 fn last_line(front: &[u8]) -> (u64, &[u8])
     ensures { EndsInLine front.now result.0 result.1.now }
 {
@@ -78,7 +78,7 @@ fn without_return(line: &[u8]) -> &[u8]
     }
 }
 
-// What stands of the first line, without its end.
+// Returns the first line without its end.
 fn first_line(rest: &[u8]) -> &[u8]
     ensures { BeginsInLine rest.now result.now }
 {
@@ -88,7 +88,7 @@ fn first_line(rest: &[u8]) -> &[u8]
     }
 }
 
-/// The place before the byte of this number, from 0. Behind the last byte is one too.
+/// Returns the place before the byte of this number, from 0. After the last byte is one too.
 pub fn spot_at(text: &[u8], at: usize) -> Spot<'_>
     requires { at ≤ length text.now }
     ensures before { EndsInLine (take at text.now) result.line result.before.now }

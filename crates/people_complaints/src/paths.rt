@@ -10,8 +10,8 @@ use xml_read::read_document;
 // The greatest length of a document in bytes.
 const LIMIT: usize = 16_777_216;
 
-/// The path to the element at the byte of the document in the text. It is empty where the text is no document, is too long for one, or
-/// memory is missing.
+/// Returns the path to the element at the byte of the document in the text. It is empty if the text is no document, is too long for
+/// one, or memory is missing.
 pub fn path_at(alloc: Global, text: &[u8], at: u64) -> Result<String, Memory>
     ensures { IfOk result (λ path. IsPathIn text.now at (string_bytes path)) }
 {

@@ -1,16 +1,16 @@
-//! The global elements of schema documents, of which one is the root of a document.
+//! The global elements of schema documents, each of which may be the root of a document.
 ghost use Rattle.std.specs.Prelude.{◌≤◌, length};
 
-use base_texts::{Library, Memory, Name, Text};
+use base_texts::{Memory, Name};
 use schema_components::RawDoc;
 use schema_read::read_schema;
 use std::alloc::Global;
 use xml_read::read_document;
 
 // The greatest length of a file in bytes.
-const LIMIT: u64 = 16_777_216;
+const LIMIT: usize = 16_777_216;
 
-// The schema document in the bytes, if they are one.
+// Returns the schema document in the bytes, if they are one.
 fn document_of(alloc: Global, bytes: &[u8]) -> Option<RawDoc>
     requires { length bytes.now ≤ 16777216 }
 {
@@ -18,7 +18,7 @@ fn document_of(alloc: Global, bytes: &[u8]) -> Option<RawDoc>
     read_schema(alloc, &items, 1).ok()
 }
 
-// Adds the names of the global elements of the document.
+// Appends the names of the global elements of the document.
 fn add_names(alloc: Global, names: &mut Vec<Name>, document: &RawDoc) -> Result<(), Memory> {
     for element in document.elements() {
         names.push(element.name.copy(alloc)?)?;
@@ -26,14 +26,16 @@ fn add_names(alloc: Global, names: &mut Vec<Name>, document: &RawDoc) -> Result<
     Ok(())
 }
 
-/// The names of the global elements of these files, in their order. None where a file isn't a schema document, can't be loaded, or memory is
-/// missing.
-pub fn global_names<F: Library>(alloc: Global, files: &mut F, names: &[Text]) -> Option<Vec<Name>> {
-    let mut all = Vec::new(alloc);
-    for name in names {
-        let bytes = files.load(alloc, name, LIMIT).ok()?;
-        let document = document_of(alloc, &bytes)?;
-        add_names(alloc, &mut all, &document).ok()?;
+/// Returns the names of the global elements of the schema documents with these contents, in their order. It skips what is no schema document.
+pub fn global_names(alloc: Global, files: &[Vec<u8>]) -> Result<Vec<Name>, Memory> {
+    let mut names = Vec::new(alloc);
+    for bytes in files {
+        if bytes.len() > LIMIT {
+            continue;
+        }
+        if let Some(document) = document_of(alloc, bytes) {
+            add_names(alloc, &mut names, &document)?;
+        }
     }
-    Some(all)
+    Ok(names)
 }

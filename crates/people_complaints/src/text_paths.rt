@@ -12,7 +12,7 @@ use std::alloc::{AllocError, Global};
 use std::iter::Iterator;
 use xml_items::{ItemKids, ItemNode, ItemRef};
 
-// Whether the item is an element of the name.
+// Returns whether the item is an element with the name.
 fn is_named(item: ItemRef<'_>, name: &Name) -> bool
     ensures { result ≡ rule.is_named name.now (item_seen item.entry) }
 {
@@ -22,7 +22,7 @@ fn is_named(item: ItemRef<'_>, name: &Name) -> bool
     }
 }
 
-// How many of the nodes are elements of the name.
+// Counts the nodes that are elements with the name.
 fn alike(mut kids: ItemKids<'_>, name: &Name) -> usize
     ensures { result ≡ count_by (rule.is_kid_named name.now) kids.entry }
 {
@@ -36,7 +36,7 @@ fn alike(mut kids: ItemKids<'_>, name: &Name) -> usize
     count
 }
 
-// Puts the number of an element among those of its name, where there are several.
+// Appends the number of an element among those with its name, if there are several.
 fn put_place(path: &mut String, number: usize, of: usize) -> Result<(), AllocError>
     ensures { OnOk result (string_bytes path.new ≡ string_bytes path.old ++ rule.place number of) }
 {
@@ -49,7 +49,7 @@ fn put_place(path: &mut String, number: usize, of: usize) -> Result<(), AllocErr
     path.push_str("]")
 }
 
-// Puts the step to an element of the name.
+// Appends the step to an element with the name.
 fn put_step(path: &mut String, name: &Name, number: usize, of: usize) -> Result<(), AllocError>
     ensures { OnOk result (string_bytes path.new ≡ string_bytes path.old ++ rule.step name.now number of) }
 {
@@ -58,7 +58,7 @@ fn put_step(path: &mut String, name: &Name, number: usize, of: usize) -> Result<
     put_place(path, number, of)
 }
 
-// The last of the nodes that begin by the byte, the first ones, and those behind it.
+// Returns the last of the nodes that begin by the byte, and those that follow it.
 fn last_by<'a>(mut kids: ItemKids<'a>, at: u64) -> Option<(ItemNode<'a>, ItemKids<'a>)>
     ensures { MatchOption result (NoneBy at kids.entry) (λ found. (before : List (Rose Label)) × IsLastBy at kids.entry before found.0 found.1) }
 {
@@ -72,7 +72,7 @@ fn last_by<'a>(mut kids: ItemKids<'a>, at: u64) -> Option<(ItemNode<'a>, ItemKid
     found
 }
 
-// Puts the step to the root.
+// Appends the step to the root.
 fn put_root(path: &mut String, root: ItemRef<'_>) -> Result<(), AllocError>
     ensures { OnOk result (string_bytes path.new ≡ string_bytes path.old ++ rule.root_step (item_seen root.entry)) }
 {
@@ -82,7 +82,7 @@ fn put_root(path: &mut String, root: ItemRef<'_>) -> Result<(), AllocError>
     }
 }
 
-/// The path, from the root of a document, of the element that stands at the byte or in which the text does that begins there, as
+/// Returns the path from the root of a document to the element at the byte, or to the element with the text that begins there, as
 /// XPath writes it with local names: `/order/line[3]/qty`.
 pub fn path_of(alloc: Global, root: ItemNode<'_>, at: u64) -> Result<String, Memory>
     ensures { IfOk result (λ path. IsPath at root.entry (string_bytes path)) }

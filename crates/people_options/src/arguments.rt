@@ -1,60 +1,45 @@
 //! The words of the command line, with options.
 use crate::mistakes::mistake;
-use crate::syntaxes::{SyntaxOption, syntax_named, wrong_syntax};
+use crate::options::{Action, Options};
+use crate::syntaxes::{syntax_named, wrong_syntax};
+use base_texts::{Memory, Text};
 use clap::error::ErrorKind;
 use clap::{Arg, ArgAction, ArgMatches, Command, Error};
 use std::alloc::{AllocError, Global};
 use std::convert::AsStr;
+use transcode_words::Syntax;
 
-/// What a command does.
-#[derive(Clone, Copy, PartialEq, Eq)]
-pub enum Action {
-    Show,
-    Check,
-    ToPer,
-    ToXml,
-    Trial,
-    Manual,
-}
-
-/// What the words ask for.
+/// A command with its options, and the files that replace the standard streams.
 #[derive(Drop)]
-pub struct Asked<'a> {
-    pub task: Action,
-    /// The root element, where it is told.
-    pub root: Option<&'a str>,
-    /// The schema files; of `trial` the number.
-    pub files: Vec<&'a str>,
-    /// The file to read in place of the standard input.
+pub struct Call<'a> {
+    pub options: Options,
+    /// The file to read instead of the standard input.
     pub input: Option<&'a str>,
-    /// The file to write in place of the standard output.
+    /// The file to write instead of the standard output.
     pub output: Option<&'a str>,
-    /// How values become octets.
-    pub syntax: SyntaxOption,
-    /// Whether the module is written without what X.693 adds to it.
-    pub plain: bool,
-    /// Whether the stamp of the schemas stands before the octets.
-    pub stamp: bool,
 }
 
-/// What becomes of the words.
+/// The meaning of the words.
 #[derive(Drop)]
 pub enum Parsed<'a> {
-    /// What they ask for.
-    Asked(Asked<'a>),
-    /// The help or the version that they ask for.
+    Call(Call<'a>),
+    /// The manual page is requested.
+    Manual,
+    /// The help or the version is requested.
     Help(String),
-    /// What is wrong with them.
+    /// The words are no command, for the reason in this text.
     Mistake(String),
 }
 
-// How an argument is given, with what the help calls its value.
+// How an argument is given, with the name of its value in the help.
 enum Form {
-    // One word or more, with no option before them.
+    // One word without an option.
+    Word(&'static str),
+    // One word or more without an option.
     Words(&'static str),
-    // A value behind a letter.
+    // A value after a letter.
     Short(char, &'static str),
-    // A value behind the argument's name.
+    // A value after the argument's name.
     Long(&'static str),
     // The argument's name alone.
     Flag,
@@ -71,6 +56,7 @@ impl Argument {
     fn arg<'a>(&self, alloc: Global) -> Arg<'a> {
         let arg = Arg::new(alloc, self.id).help(self.help);
         match self.form {
+            Form::Word(name) => arg.value_name(name).required(true),
             Form::Words(name) => arg.value_name(name).required(true).num_args(1..),
             Form::Short(letter, name) => arg.short(letter).value_name(name),
             Form::Long(name) => arg.long(self.id).value_name(name),
@@ -79,7 +65,7 @@ impl Argument {
     }
 }
 
-// A command behind the program's name, with its arguments in the order of the help.
+// A command, with its arguments in the order of the help.
 struct Subcommand {
     name: &'static str,
     about: &'static str,
@@ -102,13 +88,13 @@ impl Subcommand {
 const ROOT_AND_FILES: Argument = Argument {
     id: "words",
     form: Form::Words("WORD"),
-    help: "ROOT, which may be left out before one FILE or a .xsd; then 1 to 64 FILEs",
+    help: "ROOT, which may be omitted before one FILE or a .xsd; then 1 to 64 FILEs",
 };
 
 const ROOT: Argument = Argument {
     id: "root",
     form: Form::Long("NAME"),
-    help: "The root element: all words are files then",
+    help: "The root element; then all words are FILEs",
 };
 
 const DOCUMENT: Argument = Argument {
@@ -117,22 +103,28 @@ const DOCUMENT: Argument = Argument {
     help: "Read the document from this file",
 };
 
+const OCTETS: Argument = Argument {
+    id: "input",
+    form: Form::Short('i', "FILE"),
+    help: "Read the octets from this file",
+};
+
 const OUTPUT: Argument = Argument {
     id: "output",
     form: Form::Short('o', "FILE"),
-    help: "Write to this file, whole or not at all",
+    help: "Write to this file, complete or not at all",
 };
 
 const SYNTAX: Argument = Argument {
     id: "syntax",
     form: Form::Short('t', "SYNTAX"),
-    help: "How values are encoded: per, aligned, if none is told, uper, unaligned, or der",
+    help: "The transfer syntax: per (aligned, the default), uper (unaligned) or der",
 };
 
 const SUBCOMMANDS: &[Subcommand] = &[
     Subcommand {
         name: "show",
-        about: "Writes the ASN.1 module that the schema files stand for together",
+        about: "Writes the ASN.1 module of the schema files",
         example: "Example:\n  ruvkhiska show examples/order.xsd",
         arguments: &[
             Argument {
@@ -143,7 +135,7 @@ const SUBCOMMANDS: &[Subcommand] = &[
             Argument {
                 id: "plain",
                 form: Form::Flag,
-                help: "Leave out what X.693 adds, for other ASN.1 compilers",
+                help: "Omit what X.693 adds, for other ASN.1 compilers",
             },
             Argument {
                 id: "stamp",
@@ -155,7 +147,7 @@ const SUBCOMMANDS: &[Subcommand] = &[
     },
     Subcommand {
         name: "check",
-        about: "Says by its status whether a document is valid, and its first fault",
+        about: "Checks whether a document is valid, and reports its first fault",
         example: "Example:\n  ruvkhiska check '{urn:po}order' examples/order.xsd -i examples/order.xml",
         arguments: &[ROOT_AND_FILES, ROOT, DOCUMENT],
     },
@@ -183,28 +175,52 @@ const SUBCOMMANDS: &[Subcommand] = &[
         arguments: &[
             ROOT_AND_FILES,
             ROOT,
-            Argument {
-                id: "input",
-                form: Form::Short('i', "FILE"),
-                help: "Read the octets from this file",
-            },
+            OCTETS,
             OUTPUT,
             Argument {
                 id: "stamp",
                 form: Form::Flag,
-                help: "Take octets only behind the stamp of the schemas",
+                help: "Accept octets only after the stamp of the schemas",
             },
             SYNTAX,
         ],
     },
     Subcommand {
+        name: "each-to-xml",
+        about: "Writes the document of each of the encodings that follow one another",
+        example: "Example:\n  ruvkhiska each-to-xml '{urn:po}order' examples/order.xsd -i orders.per",
+        arguments: &[
+            ROOT_AND_FILES,
+            ROOT,
+            OCTETS,
+            Argument {
+                id: "output",
+                form: Form::Short('o', "FILE"),
+                help: "Write to this file, each document as it comes",
+            },
+        ],
+    },
+    Subcommand {
+        name: "show-back",
+        about: "Writes a line for each assignment of a module that show wrote",
+        example: "Example:\n  ruvkhiska show-back examples/order.asn1",
+        arguments: &[
+            Argument {
+                id: "words",
+                form: Form::Word("FILE"),
+                help: "The module",
+            },
+            OUTPUT,
+        ],
+    },
+    Subcommand {
         name: "trial",
-        about: "Tells how long the encoding of an order of N lines is",
+        about: "Writes the sizes of an order of N lines and of its encoding",
         example: "Example:\n  ruvkhiska trial 1000",
         arguments: &[Argument {
             id: "words",
-            form: Form::Words("N"),
-            help: "How many lines, 1 to 100000",
+            form: Form::Word("N"),
+            help: "The number of lines, 1 to 100000",
         }],
     },
 ];
@@ -232,61 +248,57 @@ fn command<'a>(alloc: Global) -> Result<Command<'a>, AllocError> {
     command.subcommand(manual(alloc))
 }
 
-/// What the words match, of which the first is the program's name.
+/// Returns what the words match. The first is the program's name.
 pub fn matches_of<'a, S: AsStr>(alloc: Global, words: &'a [S]) -> Result<ArgMatches<'a>, Error> {
     command(alloc)?.try_get_matches_from(words)
 }
 
-fn task_of(name: &str) -> Action {
+// Returns the action of the command with this name, and `None` for the manual.
+fn action_of(name: &str) -> Option<Action> {
     match name {
-        "show" => Action::Show,
-        "check" => Action::Check,
-        "to-per" => Action::ToPer,
-        "to-xml" => Action::ToXml,
-        "trial" => Action::Trial,
-        _ => Action::Manual,
+        "show" => Some(Action::Show),
+        "show-back" => Some(Action::ShowBack),
+        "check" => Some(Action::Check),
+        "to-per" => Some(Action::ToPer),
+        "to-xml" => Some(Action::ToXml),
+        "each-to-xml" => Some(Action::EachToXml),
+        "trial" => Some(Action::Trial),
+        _ => None,
     }
 }
 
-fn has_root(task: Action) -> bool {
-    matches!(task, Action::Check | Action::ToPer | Action::ToXml)
+fn texts(alloc: Global, words: &[&str]) -> Result<Vec<Text>, Memory> {
+    let mut texts = Vec::new(alloc);
+    for word in words {
+        texts.push(Text::from_str(alloc, word)?)?;
+    }
+    Ok(texts)
 }
 
-// The root and the files. Where a task has a root and no option tells it, the first of several words is it, unless it ends in `.xsd`.
-fn rooted<'a, 'b>(
-    task: Action,
-    option: Option<&'a str>,
-    words: &'b [&'a str],
-) -> (Option<&'a str>, &'b [&'a str]) {
-    match (option, words) {
-        (None, [first, _, ..]) if has_root(task) && !first.ends_with(".xsd") => {
-            (Some(*first), &words[1..])
-        }
-        _ => (option, words),
+fn text_if(alloc: Global, word: Option<&str>) -> Result<Option<Text>, Memory> {
+    match word {
+        Some(word) => Ok(Some(Text::from_str(alloc, word)?)),
+        None => Ok(None),
     }
 }
 
-fn asked_of<'a>(
+fn options_of(
     alloc: Global,
-    task: Action,
-    syntax: SyntaxOption,
-    matches: &ArgMatches<'a>,
-) -> Result<Asked<'a>, Error> {
-    let words = matches.get_strs("words").unwrap_or(&[]);
-    let (root, files) = rooted(task, matches.get_str("root"), words);
-    Ok(Asked {
-        task,
-        root,
-        files: Vec::from_slice(alloc, files)?,
-        input: matches.get_str("input"),
-        output: matches.get_str("output"),
+    action: Action,
+    syntax: Syntax,
+    matches: &ArgMatches<'_>,
+) -> Result<Options, Memory> {
+    Ok(Options {
+        action,
+        root: text_if(alloc, matches.get_str("root"))?,
+        words: texts(alloc, matches.get_strs("words").unwrap_or(&[]))?,
         syntax,
         plain: matches.get_flag("plain"),
         stamp: matches.get_flag("stamp"),
     })
 }
 
-// The mistake of a value, told by this message.
+// Returns an error about a value, with this message.
 fn value_error(alloc: Global, message: &str) -> Result<Error, AllocError> {
     command(alloc)?.error(ErrorKind::InvalidValue, message)
 }
@@ -296,25 +308,35 @@ fn syntax_error(alloc: Global, name: &str) -> Result<Error, AllocError> {
     value_error(alloc, message.as_str())
 }
 
-// What the words behind a command ask for.
-fn matched<'a>(alloc: Global, name: &str, matches: &ArgMatches<'a>) -> Result<Asked<'a>, Error> {
-    let told = matches.get_str("syntax");
-    match syntax_named(told) {
-        Some(syntax) => asked_of(alloc, task_of(name), syntax, matches),
-        None => Err(syntax_error(alloc, told.unwrap_or(""))?),
+// Returns the command with its options.
+fn call_of<'a>(alloc: Global, action: Action, matches: &ArgMatches<'a>) -> Result<Call<'a>, Error> {
+    let name = matches.get_str("syntax");
+    let Some(syntax) = syntax_named(name) else {
+        return Err(syntax_error(alloc, name.unwrap_or(""))?);
+    };
+    match options_of(alloc, action, syntax, matches) {
+        Ok(options) => Ok(Call {
+            options,
+            input: matches.get_str("input"),
+            output: matches.get_str("output"),
+        }),
+        Err(Memory) => Err(Error::from(AllocError)),
     }
 }
 
-fn tried<'a>(alloc: Global, words: &'a [String]) -> Result<Asked<'a>, Error> {
+fn tried<'a>(alloc: Global, words: &'a [String]) -> Result<Parsed<'a>, Error> {
     let matches = matches_of(alloc, words)?;
     let (name, found) = matches.subcommand().unwrap_or(("manual", &matches));
-    matched(alloc, name, found)
+    match action_of(name) {
+        Some(action) => Ok(Parsed::Call(call_of(alloc, action, found)?)),
+        None => Ok(Parsed::Manual),
+    }
 }
 
-/// What the words ask for, of which the first is the program's name; or the text that tells of a mistake, the help or the version.
+/// Returns the meaning of the words. The first is the program's name.
 pub fn parse_words<'a>(alloc: Global, words: &'a [String]) -> Result<Parsed<'a>, Error> {
     match tried(alloc, words) {
-        Ok(asked) => Ok(Parsed::Asked(asked)),
+        Ok(parsed) => Ok(parsed),
         Err(error) if error.kind() == ErrorKind::OutOfMemory => Err(error),
         Err(error) if error.use_stderr() => {
             let text = mistake(alloc, &error, words)?;
@@ -322,4 +344,24 @@ pub fn parse_words<'a>(alloc: Global, words: &'a [String]) -> Result<Parsed<'a>,
         }
         Err(error) => Ok(Parsed::Help(error.to_string(alloc)?)),
     }
+}
+
+// Returns what a command requires that makes no request.
+fn requirement(action: Action) -> &'static str {
+    match action {
+        Action::Show => {
+            "show requires 1 to 64 FILEs, and accepts at most one of --plain and --stamp"
+        }
+        Action::ShowBack => "show-back requires one FILE",
+        Action::Trial => "N is a number from 1 to 100000",
+        Action::Check | Action::ToPer | Action::ToXml | Action::EachToXml => {
+            "ROOT is name or {namespace}name, and there are 1 to 64 FILEs"
+        }
+    }
+}
+
+/// Returns the message about options that make no request.
+pub fn no_request(alloc: Global, action: Action, words: &[String]) -> Result<String, Error> {
+    let error = value_error(alloc, requirement(action))?;
+    Ok(mistake(alloc, &error, words)?)
 }

@@ -21,19 +21,21 @@ const TAIL: &[&str] = &[
     " 6  no global element is the root",
     " 7  the text of the document is broken",
     " 8  the document isn't valid",
-    " 9  the octets are no encoding, or have another stamp",
-    "10  something stands behind the encoding",
+    " 9  the octets are no encoding, or don't begin with the stamp",
+    "10  bytes follow the encoding",
     "11  a file or the input is too long",
     "12  the value has too many nodes",
     "13  the octets are no encoding in DER",
+    "14  the file is no printed module",
+    "15  a record is no encoding",
     "20  a schema file can't be read",
     "21  the input can't be read",
     "22  the output can't be written",
-    "30  memory is missing",
+    "30  out of memory",
     ".fi",
 ];
 
-// Puts lines that are in the language already.
+// Appends lines that are in the language already.
 fn put_lines(page: &mut String, lines: &[&str]) -> Result<(), AllocError> {
     for line in lines {
         page.push_str(line)?;
@@ -42,7 +44,7 @@ fn put_lines(page: &mut String, lines: &[&str]) -> Result<(), AllocError> {
     Ok(())
 }
 
-// Puts a line as it stands, with what roff would read as its own spelled out.
+// Appends a line, with what roff would interpret escaped.
 fn put_line(page: &mut String, line: &str) -> Result<(), AllocError> {
     if line.starts_with('.') || line.starts_with('\'') {
         page.push_str("\\&")?;
@@ -57,7 +59,7 @@ fn put_line(page: &mut String, line: &str) -> Result<(), AllocError> {
     page.push('\n')
 }
 
-// Puts the help of a command, or of the program.
+// Appends the help of a command, or of the program.
 fn put_help(alloc: Global, page: &mut String, name: Option<&str>) -> Result<(), AllocError> {
     if let Some(name) = name {
         page.push_str(".SS ")?;
@@ -71,7 +73,7 @@ fn put_help(alloc: Global, page: &mut String, name: Option<&str>) -> Result<(), 
     page.push_str(".fi\n")
 }
 
-/// The page.
+/// Returns the page.
 pub fn manual_page(alloc: Global) -> Result<String, Error> {
     let mut page = String::new(alloc);
     put_lines(&mut page, HEAD)?;

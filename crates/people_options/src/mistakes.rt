@@ -1,4 +1,4 @@
-//! What is told of words that aren't taken.
+//! Messages about words that are no command.
 use crate::arguments::matches_of;
 use clap::Error;
 use clap::error::ErrorKind;
@@ -6,10 +6,18 @@ use std::alloc::{AllocError, Global};
 use strsim::osa_distance;
 
 /// The commands.
-pub const COMMANDS: &[&str] = &["show", "check", "to-per", "to-xml", "trial"];
+pub const COMMANDS: &[&str] = &[
+    "show",
+    "check",
+    "to-per",
+    "to-xml",
+    "each-to-xml",
+    "show-back",
+    "trial",
+];
 
-// The number of the command whose word is nearest to this one, by the least number of characters that are put in, left out, changed or
-// swapped.
+// Returns the number of the command whose name is nearest to this word, by the least number of characters that are inserted, deleted,
+// changed or swapped.
 fn nearest_at(alloc: Global, word: &str) -> Result<usize, AllocError> {
     let mut least = usize::MAX;
     let mut found = 0;
@@ -23,7 +31,7 @@ fn nearest_at(alloc: Global, word: &str) -> Result<usize, AllocError> {
     Ok(found)
 }
 
-// That command.
+// Returns the name of that command.
 fn nearest(alloc: Global, word: &str) -> Result<&'static str, AllocError> {
     match COMMANDS.get(nearest_at(alloc, word)?) {
         Some(name) => Ok(*name),
@@ -31,26 +39,26 @@ fn nearest(alloc: Global, word: &str) -> Result<&'static str, AllocError> {
     }
 }
 
-/// The help of a command, or of the program where no name is told.
+/// Returns the help of a command; without a name, of the program.
 pub fn help_of(alloc: Global, name: Option<&str>) -> Result<String, AllocError> {
     match name {
-        Some(name) => told_of(alloc, &["ruvkhiska", name, "--help"]),
-        None => told_of(alloc, &["ruvkhiska", "--help"]),
+        Some(name) => reply_to(alloc, &["ruvkhiska", name, "--help"]),
+        None => reply_to(alloc, &["ruvkhiska", "--help"]),
     }
 }
 
-// What is told in place of doing what the words ask for.
-fn told_of(alloc: Global, words: &[&str]) -> Result<String, AllocError> {
+// Returns the text with which words are replied to that make no call.
+fn reply_to(alloc: Global, words: &[&str]) -> Result<String, AllocError> {
     match matches_of(alloc, words) {
         Ok(_) => Ok(String::new(alloc)),
-        Err(told) => match told.kind() {
+        Err(reply) => match reply.kind() {
             ErrorKind::OutOfMemory => Err(AllocError),
-            _ => told.to_string(alloc),
+            _ => reply.to_string(alloc),
         },
     }
 }
 
-// The line of a command's help that tells how it is used.
+// Returns the line of a command's help that shows how it is used.
 fn usage_in(help: &str) -> &str {
     for line in help.lines() {
         if line.starts_with("Usage:") {
@@ -60,22 +68,22 @@ fn usage_in(help: &str) -> &str {
     ""
 }
 
-// The text with another line in place of the one that tells how the program is used.
+// Replaces the line of the text that shows how the program is used.
 fn with_usage(alloc: Global, text: &str, usage: &str) -> Result<String, AllocError> {
-    let mut told = String::new(alloc);
+    let mut replaced = String::new(alloc);
     for line in text.lines() {
         let line = if line.starts_with("Usage:") {
             usage
         } else {
             line
         };
-        told.push_str(line)?;
-        told.push_str("\n")?;
+        replaced.push_str(line)?;
+        replaced.push_str("\n")?;
     }
-    Ok(told)
+    Ok(replaced)
 }
 
-/// What is told of a mistake in these words. Where the first is no command, the usage is that of the nearest.
+/// Returns the message about a mistake in these words. Its usage is that of the command whose name is nearest to the first word.
 pub fn mistake(alloc: Global, error: &Error, words: &[String]) -> Result<String, AllocError> {
     let text = error.to_string(alloc)?;
     let is_of_command = matches!(

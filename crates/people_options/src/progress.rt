@@ -5,28 +5,28 @@ use std::cell::Cell;
 use std::io::{self, Print, Read, Stderr};
 use std::time::{Clock, Instant};
 
-// How many milliseconds of work pass before it is told, and before it is told again.
+// The milliseconds of work before the line appears, and between its updates.
 const FIRST: u128 = 1_000;
 
 const AGAIN: u128 = 100;
 
-/// The bytes that were read, which are told once over a second of work has passed, in a line that is written anew at most ten times
-/// a second, until it is wiped.
+/// The number of bytes that were read. A line shows it once over a second of work has passed, and is updated at most ten times a
+/// second, until it is erased.
 #[derive(Drop)]
 pub struct Progress<'a, C> {
     clock: &'a C,
     to: Stderr,
     words: &'static str,
-    // When the work began. None where nothing is to be told.
+    // When the work began. None where no line is shown.
     began: Option<Instant>,
     read: Cell<u64>,
-    // The milliseconds of work behind which it is told next.
+    // The milliseconds of work after which the line is updated next.
     next: Cell<u128>,
-    stands: Cell<bool>,
+    is_shown: Cell<bool>,
 }
 
 impl<'a, C: Clock> Progress<'a, C> {
-    /// The work begins: nothing is read yet. The words stand behind the number of bytes. Nothing is told where `speaks` is false.
+    /// Begins the work: nothing is read yet. The words follow the number of bytes. No line is shown if `speaks` is false.
     pub fn new(clock: &'a C, to: Stderr, words: &'static str, speaks: bool) -> Progress<'a, C> {
         let began = if speaks {
             Instant::now(clock).ok()
@@ -40,11 +40,11 @@ impl<'a, C: Clock> Progress<'a, C> {
             began,
             read: Cell::new(0),
             next: Cell::new(FIRST),
-            stands: Cell::new(false),
+            is_shown: Cell::new(false),
         }
     }
 
-    // The milliseconds since the work began, if they are wanted and the clock tells them.
+    // Returns the milliseconds since the work began, if they are needed and the clock gives them.
     fn passed(&self) -> Option<u128> {
         let began = self.began?;
         match began.elapsed(self.clock) {
@@ -53,25 +53,25 @@ impl<'a, C: Clock> Progress<'a, C> {
         }
     }
 
-    /// So many more bytes were read.
+    /// Counts this number of bytes more.
     pub fn add(&self, count: usize) {
         let read = self.read.get().saturating_add(count as u64);
         self.read.set(read);
         match self.passed() {
             Some(passed) if passed > self.next.get() => {
                 self.next.set(passed.saturating_add(AGAIN));
-                self.stands.set(true);
-                // Whatever becomes of the line, the work goes on.
+                self.is_shown.set(true);
+                // The work goes on even if the line can't be written.
                 let _ = print!(self.to; "\rruvkhiska: {read} {}", self.words);
             }
             _ => {}
         }
     }
 
-    /// The line is wiped, if it stands, and none is written any more.
+    /// Erases the line, if it is shown. No further line is written.
     pub fn end(&self) {
         self.next.set(u128::MAX);
-        if self.stands.replace(false) {
+        if self.is_shown.replace(false) {
             let _ = print!(self.to; "\r{:40}\r", "");
         }
     }

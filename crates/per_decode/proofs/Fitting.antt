@@ -2,7 +2,7 @@
 use Rattle.std.proofs.Common.{◌≡◌, ℕ, ◌+◌, ◌<◌, ◌≤◌, Bool, true, cond, List, [], ◌∷◌, ◌++◌, length, refl, sym, ap, ◌∙◌, subst, arith, Option, Some, None, Result, Ok, Err}
 use Rattle.std.specs.Prelude.{slice_get, replicate, ℤ, ◌&&◌, IfOk}
 use Rattle.std.proofs.lemmas.Bool.{lt-ltb, le-leb}
-use Rattle.base_trees.specs.Rose.{Rose, node, none, more, list_of, roses_of, label_of, kids_of, node_count, count_all}
+use Rattle.base_trees.specs.Rose.{Rose, node, none, list_of, roses_of, label_of, kids_of, node_count, count_all}
 use Rattle.simple_types.specs.declared.labels.ValueLabel.{ValueLabel}
 use Rattle.simple_types.specs.declared.labels.ValueLabel.TheVariants as value
 use Rattle.simple_types.specs.declared.standards.Standard.TheVariants.{Free}

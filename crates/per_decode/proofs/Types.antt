@@ -1,5 +1,5 @@
 -- Types of a module, as reading goes down them.
-use Rattle.std.proofs.Common.{◌≡◌, ℕ, suc, ◌+◌, ◌-◌, ◌*◌, ◌<◌, ◌≤◌, List, [], ◌∷◌, refl, ap, subst, arith, Option, Some, None, inl, inr}
+use Rattle.std.proofs.Common.{◌≡◌, ℕ, suc, ◌+◌, ◌-◌, ◌*◌, ◌<◌, ◌≤◌, List, [], ◌∷◌, refl, ap, sym, subst, arith, Option, Some, None, inl, inr}
 use Rattle.std.specs.Prelude.{slice_get, option_and_then}
 use Rattle.base_trees.specs.Rose.{Rose, node, Roses, none, more, label_of, kids_of, height, depth_all}
 use Rattle.asn_types.specs.declared.modules.Assignment.{Assignment}
@@ -11,11 +11,17 @@ use Rattle.asn_types.specs.Parts.{parts_of}
 use Rattle.asn_types.specs.Refs.{target, body_at, resolve, StandsIn, StandsInSome, IsOf}
 use Rattle.asn_types.specs.Roles.{role_of}
 use Rattle.asn_values.specs.Values.{below, place_at}
-use Rattle.asn_types.proofs.Chaining.{well-formed, has-four, no-reference}
+use Rattle.asn_types.proofs.Chaining.{resolved-of-module, well-formed, has-four, no-reference}
 use Rattle.asn_types.proofs.Following.{follow-stops}
 use Rattle.per_fields.specs.Levels.{tallest, levels_needed}
 use Rattle.per_fields.proofs.Levels.{kid-each, kids-need, levels-follow, NeedsFewer, IfPlace, EachKid}
+use Rattle.per_decode.specs.declared.places.Place.{Place}
+use Rattle.per_decode.specs.Private.Places.{IsPlace}
 use Rattle.per_decode.specs.Private.Bodies.{IsKnown, HasFields}
+
+-- what the type of a place resolves to is of the module
+pub found_of : {deepest : ℕ} (place : Place) → IsPlace deepest place → IsOf place.module.now place.found.now
+found_of place is = subst (IsOf place.module.now) (sym is.resolved) (resolved-of-module place.module.now place.node.now is.of)
 
 -- a type that stands in another is no taller
 mutual

@@ -5,3 +5,5 @@ pub mod Pieces
 pub mod Visible
 pub mod Newest
 pub mod Kept
+pub mod Reads
+pub mod Places

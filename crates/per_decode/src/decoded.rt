@@ -1,8 +1,8 @@
-//! What decoding gives.
+//! The result of decoding.
 
 use simple_types::Value;
 
-/// A value, and how many octets its complete encoding has: just so many were taken.
+/// A value, and the number of octets of its complete encoding. Exactly these octets were read.
 #[derive(Drop)]
 pub struct Decoded {
     pub value: Value,

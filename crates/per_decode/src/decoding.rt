@@ -1,20 +1,19 @@
-//! A value from a source of octets.
+//! Decodes a value from a source of octets.
 ghost use Rattle.std.specs.Prelude.{◌≡◌, ℕ, ◌+◌, ◌*◌, ◌%◌, ◌^◌, ◌<◌, ◌≤◌, List, Some, IfOk, OnOk, IsErrOf, IsTrue, length};
-ghost use Rattle.base_codecs.specs.Cursors.{IsInStep};
-ghost use Rattle.base_texts.specs.Faults.{Counts, HasRisen};
+ghost use Rattle.base_texts.specs.Faults.{Counts};
 ghost use Rattle.base_trees.specs.Rose.{node_count};
 ghost use Rattle.asn_types.specs.Refs.{IsOf};
 ghost use Rattle.asn_values.specs.Values.{FitsAt, In};
 ghost use Rattle.per_fields.specs.Nodes.{last_at};
 ghost use Rattle.per_decode.specs.Answers.{Answers, AnswersBy};
-ghost use Rattle.per_decode.specs.Private.Standing.{GoesOn};
-ghost use Rattle.per_decode.specs.Private.Giving.{Gives, Ended, spot, halt_of, error_of};
+ghost use Rattle.per_decode.specs.Private.Reads.{InStep, Reads, Gives};
+ghost use Rattle.per_decode.specs.Private.Giving.{Ended, halt_of, error_of};
 ghost use Rattle.per_decode.specs.Private.Bodies.{IsKnown, complete_at};
 
 use crate::decoded::Decoded;
 use crate::errors::DecodeError;
 use crate::faults::PerEnd;
-use crate::nodes::node;
+use crate::places::Place;
 use crate::run::{Origin, Run};
 use asn_types::{Module, TypeLabel, resolve};
 use base_codecs::BitSource;
@@ -26,17 +25,14 @@ use simple_types::ValueLabel;
 use std::alloc::Global;
 use std::marker::{Brand, PhantomData};
 
-// What pads the last octet, or stands for no bits.
+// Reads the padding of the last octet, or the octet of an encoding without bits.
 #[tactic(auto, unfolding(per_fields::specs::Nodes::last_at))]
 fn last<S: Source, K: Origin, V: Variant>(run: &mut Run<S, K, V>) -> Result<(), PerEnd>
-    requires in_step { IsInStep run.old.bits.position run.old.bits.taken }
-    ensures same_reference { run.new.bits.source.ghost_name ≡ run.old.bits.source.ghost_name }
-    ensures on { OnOk result (GoesOn run.old.bits.position run.new.bits.position run.new.bits.taken) }
+    requires in_step { InStep run.old }
+    ensures reads { Reads run.old run.new result }
     ensures nodes { run.new.nodes ≡ run.old.nodes }
     ensures whole { OnOk result (run.new.bits.position % 8 ≡ 0) }
-    ensures gives { IsTrue K.told → Gives K.limit K.whole (λ x. 0) result (spot run.new.bits.position run.new.nodes) run.new.stop run.new.bits.taken
-        (last_at) (spot run.old.bits.position run.old.nodes) }
-    ensures failed { IsErrOf result PerEnd.Failed → HasRisen K.faults (S.faults run.new.bits.source.now) }
+    ensures gives { Gives (λ x. 0) result run.old run.new (last_at) }
 {
     if run.position() == 0 {
         let octet = run.take_bits(0, 8)?;
@@ -48,7 +44,7 @@ fn last<S: Source, K: Origin, V: Variant>(run: &mut Run<S, K, V>) -> Result<(), 
     run.align()
 }
 
-// A value and the end of its encoding, and how many octets this has.
+// Reads a value and the end of its encoding. Returns the value and the number of octets of the encoding.
 fn complete<S: Source, K: Origin, V: Variant>(
     alloc: Global,
     module: &Module,
@@ -57,24 +53,27 @@ fn complete<S: Source, K: Origin, V: Variant>(
 ) -> Result<(Flat<ValueLabel>, u64), PerEnd>
     requires known { IsKnown module.now }
     requires of { IsOf module.now body.now }
-    requires in_step { IsInStep run.old.bits.position run.old.bits.taken }
-    ensures same_reference { run.new.bits.source.ghost_name ≡ run.old.bits.source.ghost_name }
-    ensures on { OnOk result (GoesOn run.old.bits.position run.new.bits.position run.new.bits.taken) }
+    requires in_step { InStep run.old }
+    ensures reads { Reads run.old run.new result }
     ensures count { IfOk result (λ found. run.new.nodes ≡ run.old.nodes + node_count found.0) }
     ensures fits { IfOk result (λ found. FitsAt module.now 1 body.now found.0) }
     ensures octets { IfOk result (λ found. (run.new.bits.position ≡ 8 * run.new.bits.taken) × (found.1 ≡ run.new.bits.taken)) }
-    ensures gives { IsTrue K.told → Gives K.limit K.whole (λ found. found.0) result (spot run.new.bits.position run.new.nodes) run.new.stop run.new.bits.taken
-        (complete_at V.ALIGNED module.now body.now) (spot run.old.bits.position run.old.nodes) }
-    ensures failed { IsErrOf result PerEnd.Failed → HasRisen K.faults (S.faults run.new.bits.source.now) }
+    ensures gives { Gives (λ found. found.0) result run.old run.new (complete_at V.ALIGNED module.now body.now) }
 {
     let mut values = Builder::new(alloc);
-    let found = resolve(module, body);
-    node(alloc, module, run, 1, body, found, &mut values)?;
+    let place = Place {
+        alloc,
+        module,
+        depth: 1,
+        node: body,
+        found: resolve(module, body),
+    };
+    run.node(place, &mut values)?;
     last(run)?;
     Ok((values.finish_one(), run.position() / 8))
 }
 
-// What a fault is to the caller.
+// Returns the error that the caller gets for a fault.
 fn told(fault: PerEnd, stop: Stop) -> DecodeError
     ensures { result ≡ error_of (halt_of fault stop) }
 {
@@ -93,7 +92,7 @@ fn told(fault: PerEnd, stop: Stop) -> DecodeError
     }
 }
 
-// Decoding from what a source has left: the value, and how many octets were taken.
+// Decodes from what a source has left. Returns the value and the number of octets that were read.
 fn decode_from<S: Source, K: Origin, V: Variant>(
     alloc: Global,
     module: &Module,
@@ -129,14 +128,14 @@ fn decode_from<S: Source, K: Origin, V: Variant>(
     }
 }
 
-/// The value of the type of the assignment with this number, by the complete encoding (X.691, canonical PER in one of the two
-/// variants) with which the octets left in the source begin, and how many octets that encoding has. At most `limit` of them
-/// are taken, and none before a bit of it is needed, so what stands behind the encoding is left in the source.
+/// Decodes a value of the type of the assignment with this number (X.691, canonical PER in one of the two variants). The octets
+/// left in the source must begin with its complete encoding. Returns the value and the number of octets of that encoding. At most
+/// `limit` octets are read, and none before one of its bits is needed. So what follows the encoding is left in the source.
 ///
 /// # Errors
 ///
-/// `Bad` tells the first fault of the octets, and `TooLong` that their first `limit` end inside a field. After `Failed`
-/// the octets that were taken may be the front of an encoding.
+/// `Bad` gives the first fault of the octets. `TooLong` means that their first `limit` end inside a field. After `Failed` the
+/// octets that were read may be a prefix of an encoding.
 pub fn decode_by<S: Source, V: Variant>(
     alloc: Global,
     module: &Module,
@@ -151,7 +150,7 @@ pub fn decode_by<S: Source, V: Variant>(
     ensures answer { (left : List ℕ) → S.left source.old ≡ Some left → AnswersBy V.ALIGNED module.now t limit left (S.left source.new) result }
     ensures cause { Counts (S.faults source.old) (S.faults source.new) (IsErrOf result DecodeError.Failed) }
 {
-    // What each module keeps is known once one of its readers was called.
+    // Calling one of the module's readers makes its invariant known.
     let _ = module.count();
     let body = module.assignment(t).body.root();
     let found = decode_from::<S, Brand, V>(alloc, module, body, source, limit)?;
@@ -161,14 +160,14 @@ pub fn decode_by<S: Source, V: Variant>(
     })
 }
 
-/// The value of the type of the assignment with this number, by the complete encoding (X.691, canonical aligned PER)
-/// with which the octets left in the source begin, and how many octets that encoding has. At most `limit` of them are
-/// taken, and none before a bit of it is needed, so what stands behind the encoding is left in the source.
+/// Decodes a value of the type of the assignment with this number (X.691, canonical aligned PER). The octets left in the source
+/// must begin with its complete encoding. Returns the value and the number of octets of that encoding. At most `limit` octets are
+/// read, and none before one of its bits is needed. So what follows the encoding is left in the source.
 ///
 /// # Errors
 ///
-/// `Bad` tells the first fault of the octets, and `TooLong` that their first `limit` end inside a field. After `Failed`
-/// the octets that were taken may be the front of an encoding.
+/// `Bad` gives the first fault of the octets. `TooLong` means that their first `limit` end inside a field. After `Failed` the
+/// octets that were read may be a prefix of an encoding.
 pub fn decode<S: Source>(
     alloc: Global,
     module: &Module,

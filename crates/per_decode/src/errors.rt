@@ -11,7 +11,7 @@ pub enum DecodeError {
     Bad { bit: u64, why: Why },
     #[error("the source failed")]
     Failed,
-    /// The octets that may be taken end inside a field.
+    /// The octets that may be read end inside a field.
     #[error("more octets are needed than may be taken")]
     TooLong,
     #[error("out of memory")]

@@ -7,15 +7,15 @@ use base_texts::Memory;
 use per_fields::{Stop, Why};
 use std::alloc::AllocError;
 
-/// Why reading ends before the value. It is one octet, since every step of reading answers so: what else there is to tell
-/// stands where reading is (`Run::stop`).
+/// Why reading ends before the value. It is one octet, because every step of reading returns it. Everything else about a stop is in
+/// the state of reading (`Run::stop`).
 #[derive(Clone, Copy)]
 pub(crate) enum PerEnd {
-    /// A fault of a field that is whole, or of a node: the stop.
+    /// A fault of a complete field, or of a node: the stop.
     Stopped,
     /// The octets end inside the field that begins at the bit of the stop.
     Short,
-    /// Those that may be taken end inside it.
+    /// The octets that may be read end inside that field.
     TooLong,
     Failed,
     Memory,
@@ -37,7 +37,7 @@ impl From<Memory> for PerEnd {
     }
 }
 
-/// The fault of a field or a node from `bit` to `end`, which becomes the stop.
+/// Returns the fault of a field or a node from `bit` to `end`, which becomes the stop.
 #[inline(always)]
 pub(crate) fn stopped(stop: &mut Stop, bit: u64, why: Why, end: u64) -> PerEnd
     ensures fault { result ≡ PerEnd.Stopped }
@@ -47,8 +47,8 @@ pub(crate) fn stopped(stop: &mut Stop, bit: u64, why: Why, end: u64) -> PerEnd
     PerEnd::Stopped
 }
 
-/// The fault of a field whose bits couldn't all be taken. Where they end inside it, the bit at which it begins becomes the
-/// bit of the stop.
+/// Returns the fault of a field whose bits couldn't all be read. If the octets end inside it, the bit at which it begins becomes
+/// the bit of the stop.
 #[inline(always)]
 pub(crate) fn ended_inside(stop: &mut Stop, begin: u64, error: CursorError) -> PerEnd
     requires padding { error ≡ CursorError.Padding → ⊥ }

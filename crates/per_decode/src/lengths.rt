@@ -1,4 +1,4 @@
-//! General lengths (X.691, clause 11.9), and texts behind them.
+//! General lengths (X.691, clause 11.9), and texts after them.
 ghost use Rattle.std.specs.Prelude.{◌≡◌, ◌<◌, ◌≤◌, ◌+◌, ◌-◌, ◌*◌, ◌^◌, ◌++◌, false, IfOk, IfErr, length, take};
 ghost use Rattle.per_fields.specs.Fields.{is_out};
 ghost use Rattle.per_decode.specs.Private.Pieces.{piece_of, IsPiece};
@@ -14,19 +14,19 @@ use std::alloc::Global;
 /// The octets or items of one unit of a fragment.
 pub(crate) const UNIT: u32 = 16_384;
 
-/// The greatest number of units, behind which other fragments may stand.
+/// The greatest number of units of a fragment. Other fragments may follow only such a fragment.
 pub(crate) const MOST_UNITS: u32 = 4;
 
-/// What a length tells.
+/// What a length states.
 #[derive(Clone, Copy)]
 pub(crate) enum Piece {
     /// The last octets or items, below 16,384.
     Last(u32),
-    /// A fragment of so many units.
+    /// A fragment with this number of units.
     Units(u32),
 }
 
-/// With what was read before it, this length passes the most, or is the last one and stays below the least.
+/// Returns whether, with what was read so far, this length is above the most, or is the last one and below the least.
 #[inline(always)]
 fn is_out(least: u32, most: Option<u32>, total: usize, piece: Piece) -> bool
     requires few { total < 2 ^ 63 }
@@ -44,27 +44,21 @@ fn is_out(least: u32, most: Option<u32>, total: usize, piece: Piece) -> bool
 
 impl<'a, S: Source, K: Origin, V: Variant> Run<'a, S, K, V> {
     ghost use Rattle.std.specs.Prelude.{true, ◌++◌, ◌%◌, IfOk, OnOk, Err, IsErrOf, IsTrue, length};
-    ghost use Rattle.base_codecs.specs.Cursors.{IsInStep};
-    ghost use Rattle.base_texts.specs.Faults.{HasRisen};
-    ghost use Rattle.per_decode.specs.Private.Standing.{GoesOn};
-    ghost use Rattle.per_decode.specs.Private.Giving.{Gives, spot};
+    ghost use Rattle.per_decode.specs.Private.Reads.{InStep, Reads, Gives};
     ghost use Rattle.per_fields.specs.Reading.{octets_at};
     ghost use Rattle.per_fields.specs.Fields.{length_from, length_here, count_here, count_at, octet_count_here, octet_count_at};
 
-    // A length whose first octet is `x`, of a field that begins at a bit, behind a fragment of so many units.
+    // Reads a length whose first octet is `x`, of a field that begins at a bit, after a fragment of `before` units.
     #[tactic(auto, unfolding(per_fields::specs::Fields::length_from))]
     #[inline(always)]
     fn length_from(&mut self, before: u32, begin: u64, x: u64) -> Result<Piece, PerEnd>
         requires octet { x < 256 }
-        requires in_step { IsInStep self.old.bits.position self.old.bits.taken }
-        ensures same_reference { self.new.bits.source.ghost_name ≡ self.old.bits.source.ghost_name }
-        ensures on { OnOk result (GoesOn self.old.bits.position self.new.bits.position self.new.bits.taken) }
+        requires in_step { InStep self.old }
+        ensures reads { Reads self.old self.new result }
         ensures aligned { OnOk result (self.new.bits.position % 8 ≡ self.old.bits.position % 8) }
         ensures nodes { self.new.nodes ≡ self.old.nodes }
         ensures piece { IfOk result (λ piece. IsPiece piece) }
-        ensures gives { IsTrue K.told → Gives K.limit K.whole (piece_of) result (spot self.new.bits.position self.new.nodes) self.new.stop self.new.bits.taken
-            (length_from before begin x) (spot self.old.bits.position self.old.nodes) }
-        ensures failed { IsErrOf result PerEnd.Failed → HasRisen K.faults (S.faults self.new.bits.source.now) }
+        ensures gives { Gives (piece_of) result self.old self.new (length_from before begin x) }
     {
         if x < 128 {
             return Ok(Piece::Last(x as u32));
@@ -87,20 +81,17 @@ impl<'a, S: Source, K: Origin, V: Variant> Run<'a, S, K, V> {
         Ok(Piece::Units(units))
     }
 
-    // A length, behind what is before it.
+    // Reads a length that begins here.
     #[tactic(auto, unfolding(per_fields::specs::Fields::length_here))]
     #[inline(always)]
     fn length_here(&mut self, before: u32) -> Result<Piece, PerEnd>
-        requires in_step { IsInStep self.old.bits.position self.old.bits.taken }
-        ensures same_reference { self.new.bits.source.ghost_name ≡ self.old.bits.source.ghost_name }
-        ensures on { OnOk result (GoesOn self.old.bits.position self.new.bits.position self.new.bits.taken) }
+        requires in_step { InStep self.old }
+        ensures reads { Reads self.old self.new result }
         ensures aligned { OnOk result (self.new.bits.position % 8 ≡ self.old.bits.position % 8) }
         ensures nodes { self.new.nodes ≡ self.old.nodes }
         ensures further { OnOk result (self.old.bits.position < self.new.bits.position) }
         ensures piece { IfOk result (λ piece. IsPiece piece) }
-        ensures gives { IsTrue K.told → Gives K.limit K.whole (piece_of) result (spot self.new.bits.position self.new.nodes) self.new.stop self.new.bits.taken
-            (length_here before) (spot self.old.bits.position self.old.nodes) }
-        ensures failed { IsErrOf result PerEnd.Failed → HasRisen K.faults (S.faults self.new.bits.source.now) }
+        ensures gives { Gives (piece_of) result self.old self.new (length_here before) }
     {
         let begin = self.position();
         let x = self.take_bits(begin, 8)?;
@@ -118,16 +109,13 @@ impl<'a, S: Source, K: Origin, V: Variant> Run<'a, S, K, V> {
         total: usize,
     ) -> Result<Piece, PerEnd>
         requires few { total < 2 ^ 63 }
-        requires in_step { IsInStep self.old.bits.position self.old.bits.taken }
-        ensures same_reference { self.new.bits.source.ghost_name ≡ self.old.bits.source.ghost_name }
-        ensures on { OnOk result (GoesOn self.old.bits.position self.new.bits.position self.new.bits.taken) }
+        requires in_step { InStep self.old }
+        ensures reads { Reads self.old self.new result }
         ensures aligned { OnOk result (self.new.bits.position % 8 ≡ self.old.bits.position % 8) }
         ensures nodes { self.new.nodes ≡ self.old.nodes }
         ensures further { OnOk result (self.old.bits.position < self.new.bits.position) }
         ensures piece { IfOk result (λ piece. IsPiece piece × (is_out least most total (piece_of piece) ≡ false)) }
-        ensures gives { IsTrue K.told → Gives K.limit K.whole (piece_of) result (spot self.new.bits.position self.new.nodes) self.new.stop self.new.bits.taken
-            (count_here least most before total) (spot self.old.bits.position self.old.nodes) }
-        ensures failed { IsErrOf result PerEnd.Failed → HasRisen K.faults (S.faults self.new.bits.source.now) }
+        ensures gives { Gives (piece_of) result self.old self.new (count_here least most before total) }
     {
         let begin = self.position();
         let piece = self.length_here(before)?;
@@ -137,7 +125,7 @@ impl<'a, S: Source, K: Origin, V: Variant> Run<'a, S, K, V> {
         Ok(piece)
     }
 
-    /// A length of a count within these bounds, behind a fragment of so many units and so many octets or items in all.
+    /// Reads the length of a count within these bounds, after a fragment of `before` units and `total` octets or items in all.
     #[tactic(auto, unfolding(per_fields::specs::Fields::count_at))]
     #[inline(always)]
     pub(crate) fn count(
@@ -148,33 +136,27 @@ impl<'a, S: Source, K: Origin, V: Variant> Run<'a, S, K, V> {
         total: usize,
     ) -> Result<Piece, PerEnd>
         requires few { total < 2 ^ 63 }
-        requires in_step { IsInStep self.old.bits.position self.old.bits.taken }
-        ensures same_reference { self.new.bits.source.ghost_name ≡ self.old.bits.source.ghost_name }
-        ensures on { OnOk result (GoesOn self.old.bits.position self.new.bits.position self.new.bits.taken) }
+        requires in_step { InStep self.old }
+        ensures reads { Reads self.old self.new result }
         ensures aligned { OnOk result (V.ALIGNED ≡ true → self.new.bits.position % 8 ≡ 0) }
         ensures nodes { self.new.nodes ≡ self.old.nodes }
         ensures further { OnOk result (self.old.bits.position < self.new.bits.position) }
         ensures piece { IfOk result (λ piece. IsPiece piece × (is_out least most total (piece_of piece) ≡ false)) }
-        ensures gives { IsTrue K.told → Gives K.limit K.whole (piece_of) result (spot self.new.bits.position self.new.nodes) self.new.stop self.new.bits.taken
-            (count_at V.ALIGNED least most before total) (spot self.old.bits.position self.old.nodes) }
-        ensures failed { IsErrOf result PerEnd.Failed → HasRisen K.faults (S.faults self.new.bits.source.now) }
+        ensures gives { Gives (piece_of) result self.old self.new (count_at V.ALIGNED least most before total) }
     {
         self.skip()?;
         self.count_here(least, most, before, total)
     }
 
-    // The octets of a number behind the first one, behind what is before their length.
+    // Reads the length of a number, which begins here. Returns how many octets follow the first one.
     #[tactic(auto, unfolding(per_fields::specs::Fields::octet_count_here))]
     fn octet_count_here(&mut self) -> Result<u32, PerEnd>
-        requires in_step { IsInStep self.old.bits.position self.old.bits.taken }
-        ensures same_reference { self.new.bits.source.ghost_name ≡ self.old.bits.source.ghost_name }
-        ensures on { OnOk result (GoesOn self.old.bits.position self.new.bits.position self.new.bits.taken) }
+        requires in_step { InStep self.old }
+        ensures reads { Reads self.old self.new result }
         ensures aligned { OnOk result (self.new.bits.position % 8 ≡ self.old.bits.position % 8) }
         ensures nodes { self.new.nodes ≡ self.old.nodes }
         ensures few { IfOk result (λ more. more ≤ 15) }
-        ensures gives { IsTrue K.told → Gives K.limit K.whole (λ x. x) result (spot self.new.bits.position self.new.nodes) self.new.stop self.new.bits.taken
-            (octet_count_here) (spot self.old.bits.position self.old.nodes) }
-        ensures failed { IsErrOf result PerEnd.Failed → HasRisen K.faults (S.faults self.new.bits.source.now) }
+        ensures gives { Gives (λ x. x) result self.old self.new (octet_count_here) }
     {
         let begin = self.position();
         match self.length_here(MOST_UNITS)? {
@@ -185,18 +167,15 @@ impl<'a, S: Source, K: Origin, V: Variant> Run<'a, S, K, V> {
         }
     }
 
-    /// The length of a number, as how many octets it has behind the first one.
+    /// Reads the length of a number. Returns how many octets follow the first one.
     #[tactic(auto, unfolding(per_fields::specs::Fields::octet_count_at))]
     pub(crate) fn octet_count(&mut self) -> Result<u32, PerEnd>
-        requires in_step { IsInStep self.old.bits.position self.old.bits.taken }
-        ensures same_reference { self.new.bits.source.ghost_name ≡ self.old.bits.source.ghost_name }
-        ensures on { OnOk result (GoesOn self.old.bits.position self.new.bits.position self.new.bits.taken) }
+        requires in_step { InStep self.old }
+        ensures reads { Reads self.old self.new result }
         ensures aligned { OnOk result (V.ALIGNED ≡ true → self.new.bits.position % 8 ≡ 0) }
         ensures nodes { self.new.nodes ≡ self.old.nodes }
         ensures few { IfOk result (λ more. more ≤ 15) }
-        ensures gives { IsTrue K.told → Gives K.limit K.whole (λ x. x) result (spot self.new.bits.position self.new.nodes) self.new.stop self.new.bits.taken
-            (octet_count_at V.ALIGNED) (spot self.old.bits.position self.old.nodes) }
-        ensures failed { IsErrOf result PerEnd.Failed → HasRisen K.faults (S.faults self.new.bits.source.now) }
+        ensures gives { Gives (λ x. x) result self.old self.new (octet_count_at V.ALIGNED) }
     {
         self.skip()?;
         self.octet_count_here()
@@ -206,29 +185,23 @@ impl<'a, S: Source, K: Origin, V: Variant> Run<'a, S, K, V> {
     #[inline(always)]
     pub(crate) fn fill_few(&mut self, bytes: &mut [u8; ROOM], n: u32) -> Result<(), PerEnd>
         requires few { n ≤ 22 }
-        requires in_step { IsInStep self.old.bits.position self.old.bits.taken }
+        requires in_step { InStep self.old }
         requires aligned { V.ALIGNED ≡ true → self.old.bits.position % 8 ≡ 0 }
-        ensures same_reference { self.new.bits.source.ghost_name ≡ self.old.bits.source.ghost_name }
-        ensures on { OnOk result (GoesOn self.old.bits.position self.new.bits.position self.new.bits.taken) }
+        ensures reads { Reads self.old self.new result }
         ensures nodes { self.new.nodes ≡ self.old.nodes }
-        ensures gives { IsTrue K.told → Gives K.limit K.whole (λ done. take n bytes.new) result (spot self.new.bits.position self.new.nodes) self.new.stop self.new.bits.taken
-            (octets_at n) (spot self.old.bits.position self.old.nodes) }
-        ensures failed { IsErrOf result PerEnd.Failed → HasRisen K.faults (S.faults self.new.bits.source.now) }
+        ensures gives { Gives (λ done. take n bytes.new) result self.old self.new (octets_at n) }
     {
         self.fill_octets(&mut bytes[..n as usize])
     }
 
-    /// The octets of a text behind its first length.
+    /// Reads the octets of a text after its first length.
     pub(crate) fn octets_behind(&mut self, alloc: Global, first: Piece) -> Result<Vec<u8>, PerEnd>
         requires piece { IsPiece first }
-        requires in_step { IsInStep self.old.bits.position self.old.bits.taken }
+        requires in_step { InStep self.old }
         requires aligned { V.ALIGNED ≡ true → self.old.bits.position % 8 ≡ 0 }
-        ensures same_reference { self.new.bits.source.ghost_name ≡ self.old.bits.source.ghost_name }
-        ensures on { OnOk result (GoesOn self.old.bits.position self.new.bits.position self.new.bits.taken) }
+        ensures reads { Reads self.old self.new result }
         ensures nodes { self.new.nodes ≡ self.old.nodes }
-        ensures gives { IsTrue K.told → Gives K.limit K.whole (λ octets. octets.items) result (spot self.new.bits.position self.new.nodes) self.new.stop self.new.bits.taken
-            (octets_behind V.ALIGNED (piece_of first)) (spot self.old.bits.position self.old.nodes) }
-        ensures failed { IsErrOf result PerEnd.Failed → HasRisen K.faults (S.faults self.new.bits.source.now) }
+        ensures gives { Gives (λ octets. octets.items) result self.old self.new (octets_behind V.ALIGNED (piece_of first)) }
     {
         match first {
             Piece::Last(n) => self.take_octets(alloc, n),
@@ -239,15 +212,12 @@ impl<'a, S: Source, K: Origin, V: Variant> Run<'a, S, K, V> {
         }
     }
 
-    // The octets of a text, of which these were read, behind a fragment of so many units.
+    // Reads the octets of a text after these, where the last fragment had this number of units.
     fn more_octets(&mut self, alloc: Global, first: Vec<u8>, units: u32) -> Result<Vec<u8>, PerEnd>
-        requires in_step { IsInStep self.old.bits.position self.old.bits.taken }
-        ensures same_reference { self.new.bits.source.ghost_name ≡ self.old.bits.source.ghost_name }
-        ensures on { OnOk result (GoesOn self.old.bits.position self.new.bits.position self.new.bits.taken) }
+        requires in_step { InStep self.old }
+        ensures reads { Reads self.old self.new result }
         ensures nodes { self.new.nodes ≡ self.old.nodes }
-        ensures gives { IsTrue K.told → Gives K.limit K.whole (λ octets. octets.items) result (spot self.new.bits.position self.new.nodes) self.new.stop self.new.bits.taken
-            (octets_more V.ALIGNED first.items units (length first.items)) (spot self.old.bits.position self.old.nodes) }
-        ensures failed { IsErrOf result PerEnd.Failed → HasRisen K.faults (S.faults self.new.bits.source.now) }
+        ensures gives { Gives (λ octets. octets.items) result self.old self.new (octets_more V.ALIGNED first.items units (length first.items)) }
     {
         let mut text = first;
         let mut before = units;
@@ -269,7 +239,7 @@ impl<'a, S: Source, K: Origin, V: Variant> Run<'a, S, K, V> {
     }
 }
 
-// The octets behind those of a text.
+// Appends octets to those of a text.
 fn joined(mut text: Vec<u8>, octets: Vec<u8>) -> Result<Vec<u8>, PerEnd>
     ensures ok { IfOk result (λ all. all.items ≡ text.items ++ octets.items) }
     ensures memory { IfErr result (λ fault. fault ≡ PerEnd.Memory) }

@@ -11,6 +11,7 @@ mod leaves;
 mod lengths;
 mod nodes;
 mod numbers;
+mod places;
 mod plain;
 mod run;
 mod texts;

@@ -8,7 +8,7 @@ use crate::run::{Origin, Run};
 use base_texts::Source;
 use per_fields::{Variant, Why};
 
-/// The least number of bits that hold a number; none for 0.
+/// Returns the least number of bits that hold a number: 0 bits for 0.
 pub(crate) fn width_of(x: u128) -> u32
     ensures same { result ≡ width_of x }
     ensures few { result ≤ 128 }
@@ -16,7 +16,7 @@ pub(crate) fn width_of(x: u128) -> u32
     u128::BITS - x.leading_zeros()
 }
 
-/// The least octets that hold a number, at least one: how many there are behind the first.
+/// Returns how many octets follow the first, of the least octets that hold a number, at least one.
 pub(crate) fn more_of(x: u128) -> u32
     ensures same { result ≡ more_of x }
     ensures few { result ≤ 15 }
@@ -26,25 +26,19 @@ pub(crate) fn more_of(x: u128) -> u32
 
 impl<'a, S: Source, K: Origin, V: Variant> Run<'a, S, K, V> {
     ghost use Rattle.std.specs.Prelude.{true, IfOk, OnOk, Err, IsErrOf, IsTrue, length};
-    ghost use Rattle.base_codecs.specs.Cursors.{IsInStep};
-    ghost use Rattle.base_texts.specs.Faults.{HasRisen};
     ghost use Rattle.per_fields.specs.Reading.{bits_at};
     ghost use Rattle.per_fields.specs.Fields.{within_at, aligned_at, large_octets_at, large_at, number_at};
-    ghost use Rattle.per_decode.specs.Private.Standing.{GoesOn};
-    ghost use Rattle.per_decode.specs.Private.Giving.{Gives, spot};
+    ghost use Rattle.per_decode.specs.Private.Reads.{InStep, Reads, Gives};
 
-    /// The next `n` bits, of a field that begins at a bit, as one number.
+    /// Reads the next `n` bits, of a field that begins at a bit, as one number.
     #[inline(always)]
     pub(crate) fn take_wide(&mut self, begin: u64, n: u32) -> Result<u128, PerEnd>
         requires few { n ≤ 128 }
-        requires in_step { IsInStep self.old.bits.position self.old.bits.taken }
-        ensures same_reference { self.new.bits.source.ghost_name ≡ self.old.bits.source.ghost_name }
-        ensures on { OnOk result (GoesOn self.old.bits.position self.new.bits.position self.new.bits.taken) }
+        requires in_step { InStep self.old }
+        ensures reads { Reads self.old self.new result }
         ensures nodes { self.new.nodes ≡ self.old.nodes }
         ensures below { IfOk result (λ x. x < 2 ^ n) }
-        ensures gives { IsTrue K.told → Gives K.limit K.whole (λ x. x) result (spot self.new.bits.position self.new.nodes) self.new.stop self.new.bits.taken
-            (bits_at begin n) (spot self.old.bits.position self.old.nodes) }
-        ensures failed { IsErrOf result PerEnd.Failed → HasRisen K.faults (S.faults self.new.bits.source.now) }
+        ensures gives { Gives (λ x. x) result self.old self.new (bits_at begin n) }
     {
         if n <= 64 {
             return Ok(self.take_bits(begin, n)? as u128);
@@ -52,61 +46,35 @@ impl<'a, S: Source, K: Origin, V: Variant> Run<'a, S, K, V> {
         self.take_both(begin, n)
     }
 
-    // Takes a number of more than 64 bits in two steps.
+    // Reads a number of more than 64 bits in two steps.
     #[inline(never)]
     fn take_both(&mut self, begin: u64, n: u32) -> Result<u128, PerEnd>
         requires many { 64 < n }
         requires few { n ≤ 128 }
-        requires in_step { IsInStep self.old.bits.position self.old.bits.taken }
-        ensures same_reference { self.new.bits.source.ghost_name ≡ self.old.bits.source.ghost_name }
-        ensures on { OnOk result (GoesOn self.old.bits.position self.new.bits.position self.new.bits.taken) }
+        requires in_step { InStep self.old }
+        ensures reads { Reads self.old self.new result }
         ensures nodes { self.new.nodes ≡ self.old.nodes }
         ensures below { IfOk result (λ x. x < 2 ^ n) }
-        ensures gives { IsTrue K.told → Gives K.limit K.whole (λ x. x) result (spot self.new.bits.position self.new.nodes) self.new.stop self.new.bits.taken
-            (bits_at begin n) (spot self.old.bits.position self.old.nodes) }
-        ensures failed { IsErrOf result PerEnd.Failed → HasRisen K.faults (S.faults self.new.bits.source.now) }
+        ensures gives { Gives (λ x. x) result self.old self.new (bits_at begin n) }
     {
         let high = self.take_bits(begin, n - 64)?;
         let low = self.take_bits(begin, 64)?;
         Ok(high as u128 * (1u128 << 64) + low as u128)
     }
 
-    /// A number of `0..=top` in `n` bits.
+    /// Reads a number of `0..=top` in `n` bits.
     #[tactic(auto, unfolding(per_fields::specs::Fields::within_at))]
     #[inline(always)]
     pub(crate) fn within(&mut self, top: u64, n: u32) -> Result<u64, PerEnd>
         requires few { n ≤ 64 }
-        requires in_step { IsInStep self.old.bits.position self.old.bits.taken }
-        ensures same_reference { self.new.bits.source.ghost_name ≡ self.old.bits.source.ghost_name }
-        ensures on { OnOk result (GoesOn self.old.bits.position self.new.bits.position self.new.bits.taken) }
+        requires in_step { InStep self.old }
+        ensures reads { Reads self.old self.new result }
         ensures nodes { self.new.nodes ≡ self.old.nodes }
         ensures top { IfOk result (λ x. x ≤ top) }
-        ensures gives { IsTrue K.told → Gives K.limit K.whole (λ x. x) result (spot self.new.bits.position self.new.nodes) self.new.stop self.new.bits.taken
-            (within_at top n) (spot self.old.bits.position self.old.nodes) }
-        ensures failed { IsErrOf result PerEnd.Failed → HasRisen K.faults (S.faults self.new.bits.source.now) }
+        ensures gives { Gives (λ x. x) result self.old self.new (within_at top n) }
     {
         let begin = self.position();
         let x = self.take_bits(begin, n)?;
-        if top < x {
-            return Err(self.stopped(begin, Why::Range));
-        }
-        Ok(x)
-    }
-
-    // A number of `0..=top` in the least bits that hold the greatest.
-    #[tactic(auto, unfolding(per_fields::specs::Fields::within_at))]
-    fn within_wide(&mut self, top: u128) -> Result<u128, PerEnd>
-        requires in_step { IsInStep self.old.bits.position self.old.bits.taken }
-        ensures same_reference { self.new.bits.source.ghost_name ≡ self.old.bits.source.ghost_name }
-        ensures on { OnOk result (GoesOn self.old.bits.position self.new.bits.position self.new.bits.taken) }
-        ensures nodes { self.new.nodes ≡ self.old.nodes }
-        ensures top { IfOk result (λ x. x ≤ top) }
-        ensures gives { IsTrue K.told → Gives K.limit K.whole (λ x. x) result (spot self.new.bits.position self.new.nodes) self.new.stop self.new.bits.taken
-            (within_at top (width_of top)) (spot self.old.bits.position self.old.nodes) }
-        ensures failed { IsErrOf result PerEnd.Failed → HasRisen K.faults (S.faults self.new.bits.source.now) }
-    {
-        let begin = self.position();
-        let x = self.take_wide(begin, width_of(top))?;
         if top < x {
             return Err(self.stopped(begin, Why::Range));
         }
@@ -117,31 +85,25 @@ impl<'a, S: Source, K: Origin, V: Variant> Run<'a, S, K, V> {
     #[tactic(auto, unfolding(per_fields::specs::Fields::aligned_at))]
     fn aligned(&mut self, top: u64, n: u32) -> Result<u64, PerEnd>
         requires few { n ≤ 64 }
-        requires in_step { IsInStep self.old.bits.position self.old.bits.taken }
-        ensures same_reference { self.new.bits.source.ghost_name ≡ self.old.bits.source.ghost_name }
-        ensures on { OnOk result (GoesOn self.old.bits.position self.new.bits.position self.new.bits.taken) }
+        requires in_step { InStep self.old }
+        ensures reads { Reads self.old self.new result }
         ensures nodes { self.new.nodes ≡ self.old.nodes }
         ensures top { IfOk result (λ x. x ≤ top) }
-        ensures gives { IsTrue K.told → Gives K.limit K.whole (λ x. x) result (spot self.new.bits.position self.new.nodes) self.new.stop self.new.bits.taken
-            (aligned_at top n) (spot self.old.bits.position self.old.nodes) }
-        ensures failed { IsErrOf result PerEnd.Failed → HasRisen K.faults (S.faults self.new.bits.source.now) }
+        ensures gives { Gives (λ x. x) result self.old self.new (aligned_at top n) }
     {
         self.align()?;
         self.within(top, n)
     }
 
-    // The octets of a number of `0..=top`, one and so many more.
+    // Reads the `more` + 1 octets of a number of `0..=top`.
     #[tactic(auto, unfolding(per_fields::specs::Fields::large_octets_at))]
     fn large_octets(&mut self, top: u128, more: u32) -> Result<u128, PerEnd>
         requires few { more ≤ 15 }
-        requires in_step { IsInStep self.old.bits.position self.old.bits.taken }
-        ensures same_reference { self.new.bits.source.ghost_name ≡ self.old.bits.source.ghost_name }
-        ensures on { OnOk result (GoesOn self.old.bits.position self.new.bits.position self.new.bits.taken) }
+        requires in_step { InStep self.old }
+        ensures reads { Reads self.old self.new result }
         ensures nodes { self.new.nodes ≡ self.old.nodes }
         ensures top { IfOk result (λ x. x ≤ top) }
-        ensures gives { IsTrue K.told → Gives K.limit K.whole (λ x. x) result (spot self.new.bits.position self.new.nodes) self.new.stop self.new.bits.taken
-            (large_octets_at top more) (spot self.old.bits.position self.old.nodes) }
-        ensures failed { IsErrOf result PerEnd.Failed → HasRisen K.faults (S.faults self.new.bits.source.now) }
+        ensures gives { Gives (λ x. x) result self.old self.new (large_octets_at top more) }
     {
         let begin = self.position();
         let x = self.take_wide(begin, 8 * (more + 1))?;
@@ -154,17 +116,14 @@ impl<'a, S: Source, K: Origin, V: Variant> Run<'a, S, K, V> {
         Ok(x)
     }
 
-    // The octet count and the octets of a number of `0..=top`.
+    // Reads the octet count and the octets of a number of `0..=top`.
     #[tactic(auto, unfolding(per_fields::specs::Fields::large_at))]
     fn large(&mut self, top: u128) -> Result<u128, PerEnd>
-        requires in_step { IsInStep self.old.bits.position self.old.bits.taken }
-        ensures same_reference { self.new.bits.source.ghost_name ≡ self.old.bits.source.ghost_name }
-        ensures on { OnOk result (GoesOn self.old.bits.position self.new.bits.position self.new.bits.taken) }
+        requires in_step { InStep self.old }
+        ensures reads { Reads self.old self.new result }
         ensures nodes { self.new.nodes ≡ self.old.nodes }
         ensures top { IfOk result (λ x. x ≤ top) }
-        ensures gives { IsTrue K.told → Gives K.limit K.whole (λ x. x) result (spot self.new.bits.position self.new.nodes) self.new.stop self.new.bits.taken
-            (large_at top) (spot self.old.bits.position self.old.nodes) }
-        ensures failed { IsErrOf result PerEnd.Failed → HasRisen K.faults (S.faults self.new.bits.source.now) }
+        ensures gives { Gives (λ x. x) result self.old self.new (large_at top) }
     {
         let most = more_of(top);
         let more = self.within(most as u64, width_of(most as u128))? as u32;
@@ -172,21 +131,35 @@ impl<'a, S: Source, K: Origin, V: Variant> Run<'a, S, K, V> {
         self.large_octets(top, more)
     }
 
-    // A number of `0..=top` in bits or, behind padding, in one or two octets, as the aligned variant has them.
+    // Reads a number of `0..=top` in the least bits that hold the greatest.
+    #[tactic(auto, unfolding(per_fields::specs::Fields::within_at))]
+    fn within_wide(&mut self, top: u128) -> Result<u128, PerEnd>
+        requires in_step { InStep self.old }
+        ensures reads { Reads self.old self.new result }
+        ensures nodes { self.new.nodes ≡ self.old.nodes }
+        ensures top { IfOk result (λ x. x ≤ top) }
+        ensures gives { Gives (λ x. x) result self.old self.new (within_at top (width_of top)) }
+    {
+        let begin = self.position();
+        let x = self.take_wide(begin, width_of(top))?;
+        if top < x {
+            return Err(self.stopped(begin, Why::Range));
+        }
+        Ok(x)
+    }
+
+    // Reads a number of `0..=top` in bits or, after padding, in one or two octets, as in the aligned variant.
     #[tactic(auto, unfolding(per_fields::specs::Fields::number_at))]
     #[inline(always)]
     fn small(&mut self, top: u64) -> Result<u64, PerEnd>
         requires aligned { V.ALIGNED ≡ true }
         requires some { (top ≡ 0) → ⊥ }
         requires few { top < 65536 }
-        requires in_step { IsInStep self.old.bits.position self.old.bits.taken }
-        ensures same_reference { self.new.bits.source.ghost_name ≡ self.old.bits.source.ghost_name }
-        ensures on { OnOk result (GoesOn self.old.bits.position self.new.bits.position self.new.bits.taken) }
+        requires in_step { InStep self.old }
+        ensures reads { Reads self.old self.new result }
         ensures nodes { self.new.nodes ≡ self.old.nodes }
         ensures top { IfOk result (λ x. x ≤ top) }
-        ensures gives { IsTrue K.told → Gives K.limit K.whole (λ x. x) result (spot self.new.bits.position self.new.nodes) self.new.stop self.new.bits.taken
-            (number_at V.ALIGNED top) (spot self.old.bits.position self.old.nodes) }
-        ensures failed { IsErrOf result PerEnd.Failed → HasRisen K.faults (S.faults self.new.bits.source.now) }
+        ensures gives { Gives (λ x. x) result self.old self.new (number_at V.ALIGNED top) }
     {
         if top < 255 {
             return self.within(top, width_of(top as u128));
@@ -197,18 +170,15 @@ impl<'a, S: Source, K: Origin, V: Variant> Run<'a, S, K, V> {
         self.aligned(top, 16)
     }
 
-    /// A number of `0..=top`.
+    /// Reads a number of `0..=top`.
     #[tactic(auto, unfolding(per_fields::specs::Fields::number_at))]
     #[inline(always)]
     pub(crate) fn number(&mut self, top: u128) -> Result<u128, PerEnd>
-        requires in_step { IsInStep self.old.bits.position self.old.bits.taken }
-        ensures same_reference { self.new.bits.source.ghost_name ≡ self.old.bits.source.ghost_name }
-        ensures on { OnOk result (GoesOn self.old.bits.position self.new.bits.position self.new.bits.taken) }
+        requires in_step { InStep self.old }
+        ensures reads { Reads self.old self.new result }
         ensures nodes { self.new.nodes ≡ self.old.nodes }
         ensures top { IfOk result (λ x. x ≤ top) }
-        ensures gives { IsTrue K.told → Gives K.limit K.whole (λ x. x) result (spot self.new.bits.position self.new.nodes) self.new.stop self.new.bits.taken
-            (number_at V.ALIGNED top) (spot self.old.bits.position self.old.nodes) }
-        ensures failed { IsErrOf result PerEnd.Failed → HasRisen K.faults (S.faults self.new.bits.source.now) }
+        ensures gives { Gives (λ x. x) result self.old self.new (number_at V.ALIGNED top) }
     {
         if top == 0 {
             return Ok(0);

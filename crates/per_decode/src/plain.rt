@@ -1,5 +1,5 @@
-//! The rules of texts. Those of visible ASCII characters keep the rules of most types without their characters being told
-//! apart.
+//! The rules of texts. Texts of visible ASCII characters follow the rules of most types, so their characters need not be
+//! distinguished.
 ghost use Rattle.std.specs.Prelude.{◌≡◌, ◌↔◌, IsTrue};
 ghost use Rattle.std.specs.List.{list_all};
 ghost use Rattle.base_trees.specs.Rose.{label_of};
@@ -21,7 +21,7 @@ fn are_visible(bytes: &[u8]) -> bool
     bytes.iter().all(|byte| matches!(*byte, b'!'..=b'~'))
 }
 
-// Whether a text has visible ASCII characters alone, and is within the size of a type of any characters (`Class::Any`).
+// Returns whether a text has only visible ASCII characters, and is within the size of a type of any characters (`Class::Any`).
 #[tactic(auto, using(crate::proofs::Visible::plain_utf8, crate::proofs::Visible::plain_characters, crate::proofs::Visible::plain_treated))]
 #[inline(always)]
 fn is_plain_text(label: &TypeLabel, bytes: &[u8]) -> bool
@@ -37,8 +37,8 @@ fn is_plain_text(label: &TypeLabel, bytes: &[u8]) -> bool
     }
 }
 
-/// Whether these bytes are such a text, and so keep the rules of a type, which is no reference. Other texts may keep them
-/// too.
+/// Returns whether these bytes are such a text, which follows the rules of a type that is not a reference. Other texts may follow
+/// them, too.
 #[inline(always)]
 pub(crate) fn is_plain(module: &Module, found: &Tree<TypeLabel>, bytes: &[u8]) -> bool
     requires { AreWellFormed module.now found.now }
@@ -51,7 +51,7 @@ pub(crate) fn is_plain(module: &Module, found: &Tree<TypeLabel>, bytes: &[u8]) -
     }
 }
 
-/// Whether a text keeps the rules of a type of texts, which is no reference.
+/// Returns whether a text follows the rules of a type of texts, which is not a reference.
 pub(crate) fn keeps_rules(module: &Module, found: &Tree<TypeLabel>, text: &Text) -> bool
     requires well_formed { AreWellFormed module.now found.now }
     requires text { IsText (label_of found.now).form }

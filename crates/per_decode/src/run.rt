@@ -1,4 +1,4 @@
-//! Bits and octets of a source, beside what the call began with.
+//! Bits and octets of a source, compared with what the call began with.
 ghost use Rattle.std.specs.Prelude.{◌≡◌, ℕ, ◌<◌, ◌≤◌, ◌+◌, ◌-◌, ◌*◌, ◌^◌, List, [], Bool, false, IsTrue, slice_index};
 ghost use Rattle.per_decode.specs.Private.Standing.{IsAt};
 
@@ -9,7 +9,7 @@ use per_fields::{Stop, Variant, Why};
 use std::alloc::Global;
 use std::marker::{Brand, PhantomData};
 
-/// What a call began with: the octets that were left and whether the source tells them, how many of them may be taken,
+/// What a call began with: the octets that were left, and whether the source states them. It also has how many of them may be read,
 /// and the count of faults.
 pub(crate) trait Origin {
     ghost told: { Bool };
@@ -31,13 +31,13 @@ impl Origin for Brand {
     ghost faults = { 0 };
 }
 
-// Octets are below 256: their type says so, and here it becomes a fact.
+// Makes it known that octets are below 256, as their type implies.
 fn see_octets(octets: &[u8])
     ensures { (k : ℕ) → slice_index octets.now k < 256 }
 {}
 
-/// Reading from a source, since the origin, in one of the two variants, with the nodes that were begun, and where and why
-/// reading stopped once it has.
+/// Reading from a source, since the origin, in one of the two variants. It has the number of nodes that were begun, and where and
+/// why reading stopped, once it has.
 #[derive(Drop)]
 pub(crate) struct Run<'a, S: Source, K: Origin, V: Variant> {
     pub(crate) bits: BitSource<'a, S>,
@@ -53,14 +53,11 @@ pub(crate) struct Run<'a, S: Source, K: Origin, V: Variant> {
 
 impl<'a, S: Source, K: Origin, V: Variant> Run<'a, S, K, V> {
     ghost use Rattle.std.specs.Prelude.{true, ◌%◌, IfOk, OnOk, Err, IsErrOf, length};
-    ghost use Rattle.base_codecs.specs.Cursors.{IsInStep};
-    ghost use Rattle.base_texts.specs.Faults.{HasRisen};
     ghost use Rattle.per_fields.specs.Reading.{bits_at, align_at, octets_at};
     ghost use Rattle.per_fields.specs.Fields.{skip_at};
-    ghost use Rattle.per_decode.specs.Private.Standing.{GoesOn};
-    ghost use Rattle.per_decode.specs.Private.Giving.{Gives, spot};
+    ghost use Rattle.per_decode.specs.Private.Reads.{InStep, Reads, Gives};
 
-    /// The next bit.
+    /// Returns the position of the next bit.
     #[inline(always)]
     pub(crate) fn position(&self) -> u64
         ensures { result ≡ self.now.bits.position }
@@ -68,7 +65,7 @@ impl<'a, S: Source, K: Origin, V: Variant> Run<'a, S, K, V> {
         self.bits.position()
     }
 
-    /// A fault of what begins at a bit and ends here.
+    /// Returns a fault of what begins at a bit and ends here.
     #[inline(always)]
     pub(crate) fn stopped(&mut self, begin: u64, why: Why) -> PerEnd
         ensures fault { result ≡ PerEnd.Stopped }
@@ -80,19 +77,16 @@ impl<'a, S: Source, K: Origin, V: Variant> Run<'a, S, K, V> {
         stopped(&mut self.stop, begin, why, end)
     }
 
-    /// The next `n` bits, of a field that begins at a bit.
+    /// Reads the next `n` bits, of a field that begins at a bit.
     #[inline(always)]
     pub(crate) fn take_bits(&mut self, begin: u64, n: u32) -> Result<u64, PerEnd>
         requires few { n ≤ 64 }
-        requires in_step { IsInStep self.old.bits.position self.old.bits.taken }
-        ensures same_reference { self.new.bits.source.ghost_name ≡ self.old.bits.source.ghost_name }
-        ensures on { OnOk result (GoesOn self.old.bits.position self.new.bits.position self.new.bits.taken) }
+        requires in_step { InStep self.old }
+        ensures reads { Reads self.old self.new result }
         ensures nodes { self.new.nodes ≡ self.old.nodes }
         ensures moved { OnOk result (self.new.bits.position ≡ self.old.bits.position + n) }
         ensures below { IfOk result (λ x. x < 2 ^ n) }
-        ensures gives { IsTrue K.told → Gives K.limit K.whole (λ x. x) result (spot self.new.bits.position self.new.nodes) self.new.stop self.new.bits.taken
-            (bits_at begin n) (spot self.old.bits.position self.old.nodes) }
-        ensures failed { IsErrOf result PerEnd.Failed → HasRisen K.faults (S.faults self.new.bits.source.now) }
+        ensures gives { Gives (λ x. x) result self.old self.new (bits_at begin n) }
     {
         match self.bits.take_bits(n) {
             Ok(x) => Ok(x),
@@ -100,17 +94,14 @@ impl<'a, S: Source, K: Origin, V: Variant> Run<'a, S, K, V> {
         }
     }
 
-    /// The padding up to the next octet.
+    /// Reads the padding up to the next octet.
     #[inline(always)]
     pub(crate) fn align(&mut self) -> Result<(), PerEnd>
-        requires in_step { IsInStep self.old.bits.position self.old.bits.taken }
-        ensures same_reference { self.new.bits.source.ghost_name ≡ self.old.bits.source.ghost_name }
-        ensures on { OnOk result (GoesOn self.old.bits.position self.new.bits.position self.new.bits.taken) }
+        requires in_step { InStep self.old }
+        ensures reads { Reads self.old self.new result }
         ensures nodes { self.new.nodes ≡ self.old.nodes }
         ensures aligned { OnOk result (self.new.bits.position % 8 ≡ 0) }
-        ensures gives { IsTrue K.told → Gives K.limit K.whole (λ x. 0) result (spot self.new.bits.position self.new.nodes) self.new.stop self.new.bits.taken
-            (align_at) (spot self.old.bits.position self.old.nodes) }
-        ensures failed { IsErrOf result PerEnd.Failed → HasRisen K.faults (S.faults self.new.bits.source.now) }
+        ensures gives { Gives (λ x. 0) result self.old self.new (align_at) }
     {
         let begin = self.position();
         match self.bits.align() {
@@ -122,17 +113,14 @@ impl<'a, S: Source, K: Origin, V: Variant> Run<'a, S, K, V> {
         }
     }
 
-    /// What is before a field that begins at an octet in the aligned variant.
+    /// Reads what precedes a field that begins at an octet in the aligned variant.
     #[inline(always)]
     pub(crate) fn skip(&mut self) -> Result<(), PerEnd>
-        requires in_step { IsInStep self.old.bits.position self.old.bits.taken }
-        ensures same_reference { self.new.bits.source.ghost_name ≡ self.old.bits.source.ghost_name }
-        ensures on { OnOk result (GoesOn self.old.bits.position self.new.bits.position self.new.bits.taken) }
+        requires in_step { InStep self.old }
+        ensures reads { Reads self.old self.new result }
         ensures nodes { self.new.nodes ≡ self.old.nodes }
         ensures aligned { OnOk result (V.ALIGNED ≡ true → self.new.bits.position % 8 ≡ 0) }
-        ensures gives { IsTrue K.told → Gives K.limit K.whole (λ x. 0) result (spot self.new.bits.position self.new.nodes) self.new.stop self.new.bits.taken
-            (skip_at V.ALIGNED) (spot self.old.bits.position self.old.nodes) }
-        ensures failed { IsErrOf result PerEnd.Failed → HasRisen K.faults (S.faults self.new.bits.source.now) }
+        ensures gives { Gives (λ x. 0) result self.old self.new (skip_at V.ALIGNED) }
     {
         if V::ALIGNED {
             return self.align();
@@ -140,19 +128,16 @@ impl<'a, S: Source, K: Origin, V: Variant> Run<'a, S, K, V> {
         Ok(())
     }
 
-    // Fills the buffer with the next octets, where reading is at an octet.
+    // Fills the buffer with the next octets, while reading is at an octet.
     #[inline(always)]
     fn fill_aligned(&mut self, octets: &mut [u8]) -> Result<(), PerEnd>
         requires few { length octets.old ≤ 65536 }
-        requires in_step { IsInStep self.old.bits.position self.old.bits.taken }
+        requires in_step { InStep self.old }
         requires aligned { self.old.bits.position % 8 ≡ 0 }
-        ensures same_reference { self.new.bits.source.ghost_name ≡ self.old.bits.source.ghost_name }
-        ensures on { OnOk result (GoesOn self.old.bits.position self.new.bits.position self.new.bits.taken) }
+        ensures reads { Reads self.old self.new result }
         ensures nodes { self.new.nodes ≡ self.old.nodes }
         ensures moved { OnOk result (self.new.bits.position ≡ self.old.bits.position + 8 * length octets.old) }
-        ensures gives { IsTrue K.told → Gives K.limit K.whole (λ done. octets.new) result (spot self.new.bits.position self.new.nodes) self.new.stop self.new.bits.taken
-            (octets_at (length octets.old)) (spot self.old.bits.position self.old.nodes) }
-        ensures failed { IsErrOf result PerEnd.Failed → HasRisen K.faults (S.faults self.new.bits.source.now) }
+        ensures gives { Gives (λ done. octets.new) result self.old self.new (octets_at (length octets.old)) }
     {
         let begin = self.position();
         match self.bits.fill_octets(octets) {
@@ -167,14 +152,11 @@ impl<'a, S: Source, K: Origin, V: Variant> Run<'a, S, K, V> {
     // Fills the octets with the bits from here on, which may begin inside an octet.
     fn fill_across(&mut self, octets: &mut [u8]) -> Result<(), PerEnd>
         requires few { length octets.old ≤ 65536 }
-        requires in_step { IsInStep self.old.bits.position self.old.bits.taken }
-        ensures same_reference { self.new.bits.source.ghost_name ≡ self.old.bits.source.ghost_name }
-        ensures on { OnOk result (GoesOn self.old.bits.position self.new.bits.position self.new.bits.taken) }
+        requires in_step { InStep self.old }
+        ensures reads { Reads self.old self.new result }
         ensures nodes { self.new.nodes ≡ self.old.nodes }
         ensures moved { OnOk result (self.new.bits.position ≡ self.old.bits.position + 8 * length octets.old) }
-        ensures gives { IsTrue K.told → Gives K.limit K.whole (λ done. octets.new) result (spot self.new.bits.position self.new.nodes) self.new.stop self.new.bits.taken
-            (octets_at (length octets.old)) (spot self.old.bits.position self.old.nodes) }
-        ensures failed { IsErrOf result PerEnd.Failed → HasRisen K.faults (S.faults self.new.bits.source.now) }
+        ensures gives { Gives (λ done. octets.new) result self.old self.new (octets_at (length octets.old)) }
     {
         let begin = self.position();
         match self.bits.fill_across(octets) {
@@ -190,15 +172,12 @@ impl<'a, S: Source, K: Origin, V: Variant> Run<'a, S, K, V> {
     #[inline(always)]
     pub(crate) fn fill_octets(&mut self, octets: &mut [u8]) -> Result<(), PerEnd>
         requires few { length octets.old ≤ 65536 }
-        requires in_step { IsInStep self.old.bits.position self.old.bits.taken }
+        requires in_step { InStep self.old }
         requires aligned { V.ALIGNED ≡ true → self.old.bits.position % 8 ≡ 0 }
-        ensures same_reference { self.new.bits.source.ghost_name ≡ self.old.bits.source.ghost_name }
-        ensures on { OnOk result (GoesOn self.old.bits.position self.new.bits.position self.new.bits.taken) }
+        ensures reads { Reads self.old self.new result }
         ensures nodes { self.new.nodes ≡ self.old.nodes }
         ensures moved { OnOk result (self.new.bits.position ≡ self.old.bits.position + 8 * length octets.old) }
-        ensures gives { IsTrue K.told → Gives K.limit K.whole (λ done. octets.new) result (spot self.new.bits.position self.new.nodes) self.new.stop self.new.bits.taken
-            (octets_at (length octets.old)) (spot self.old.bits.position self.old.nodes) }
-        ensures failed { IsErrOf result PerEnd.Failed → HasRisen K.faults (S.faults self.new.bits.source.now) }
+        ensures gives { Gives (λ done. octets.new) result self.old self.new (octets_at (length octets.old)) }
     {
         if V::ALIGNED {
             return self.fill_aligned(octets);
@@ -206,19 +185,16 @@ impl<'a, S: Source, K: Origin, V: Variant> Run<'a, S, K, V> {
         self.fill_across(octets)
     }
 
-    /// The next `n` octets.
+    /// Reads the next `n` octets.
     pub(crate) fn take_octets(&mut self, alloc: Global, n: u32) -> Result<Vec<u8>, PerEnd>
         requires few { n ≤ 65536 }
-        requires in_step { IsInStep self.old.bits.position self.old.bits.taken }
+        requires in_step { InStep self.old }
         requires aligned { V.ALIGNED ≡ true → self.old.bits.position % 8 ≡ 0 }
-        ensures same_reference { self.new.bits.source.ghost_name ≡ self.old.bits.source.ghost_name }
-        ensures on { OnOk result (GoesOn self.old.bits.position self.new.bits.position self.new.bits.taken) }
+        ensures reads { Reads self.old self.new result }
         ensures nodes { self.new.nodes ≡ self.old.nodes }
         ensures moved { OnOk result (self.new.bits.position ≡ self.old.bits.position + 8 * n) }
         ensures count { IfOk result (λ octets. length octets.items ≡ n) }
-        ensures gives { IsTrue K.told → Gives K.limit K.whole (λ octets. octets.items) result (spot self.new.bits.position self.new.nodes) self.new.stop self.new.bits.taken
-            (octets_at n) (spot self.old.bits.position self.old.nodes) }
-        ensures failed { IsErrOf result PerEnd.Failed → HasRisen K.faults (S.faults self.new.bits.source.now) }
+        ensures gives { Gives (λ octets. octets.items) result self.old self.new (octets_at n) }
     {
         let mut octets = vec![in alloc; 0u8; n as usize]?;
         self.fill_octets(&mut octets)?;

@@ -10,7 +10,7 @@ use crate::run::{Origin, Run};
 use base_texts::Source;
 use per_fields::{Variant, Why};
 
-// How far a number is above a lower one.
+// Returns the distance of a number above a lower one.
 fn distance(lo: i128, hi: i128) -> u128
     requires { AreBounds (Some lo) (Some hi) }
     ensures { result ≡ distance lo hi }
@@ -18,14 +18,14 @@ fn distance(lo: i128, hi: i128) -> u128
     hi.abs_diff(lo)
 }
 
-// The number so far above. None where it has not 128 bits.
+// Returns the number at this distance above another. None if it doesn't have 128 bits.
 fn raised(lo: i128, by: u128) -> Option<i128>
     ensures { MatchOption result (is_128_bits (raised lo by) ≡ false) (λ z. (z ≡ raised lo by) × (is_128_bits (raised lo by) ≡ true) × (is_from (Some lo) z ≡ true)) }
 {
     lo.checked_add_unsigned(by)
 }
 
-// A number in two's complement of so many octets, one and so many more.
+// Returns a number in two's complement, of `more` + 1 octets.
 fn signed_of(x: u128, more: u32) -> i128
     requires few { more ≤ 15 }
     requires fits { x < 2 ^ (8 * (more + 1)) }
@@ -39,7 +39,7 @@ fn signed_of(x: u128, more: u32) -> i128
     }
 }
 
-// The least octets of a number with its sign, behind the first.
+// Returns how many octets follow the first, of the least octets that hold a number with its sign.
 fn more_signed(z: i128) -> u32
     ensures { result ≡ more_signed z }
 {
@@ -49,25 +49,19 @@ fn more_signed(z: i128) -> u32
 
 impl<'a, S: Source, K: Origin, V: Variant> Run<'a, S, K, V> {
     ghost use Rattle.std.specs.Prelude.{IfOk, OnOk, Err, IsErrOf, IsTrue};
-    ghost use Rattle.base_codecs.specs.Cursors.{IsInStep};
-    ghost use Rattle.base_texts.specs.Faults.{HasRisen};
-    ghost use Rattle.per_decode.specs.Private.Standing.{GoesOn};
-    ghost use Rattle.per_decode.specs.Private.Giving.{Gives, spot};
+    ghost use Rattle.per_decode.specs.Private.Reads.{InStep, Reads, Gives};
     ghost use Rattle.per_fields.specs.Fields.{from_octets_at, from_at, signed_octets_at, signed_at, ranged_at, whole_at};
     ghost use Rattle.simple_types.specs.Lexical.{is_from, is_to};
 
-    // The octets of a number from a least one, one and so many more.
+    // Reads the `more` + 1 octets of a number with a least one.
     #[tactic(auto, unfolding(per_fields::specs::Fields::from_octets_at))]
     fn from_octets(&mut self, lo: i128, more: u32) -> Result<i128, PerEnd>
         requires few { more ≤ 15 }
-        requires in_step { IsInStep self.old.bits.position self.old.bits.taken }
-        ensures same_reference { self.new.bits.source.ghost_name ≡ self.old.bits.source.ghost_name }
-        ensures on { OnOk result (GoesOn self.old.bits.position self.new.bits.position self.new.bits.taken) }
+        requires in_step { InStep self.old }
+        ensures reads { Reads self.old self.new result }
         ensures nodes { self.new.nodes ≡ self.old.nodes }
         ensures bounds { IfOk result (λ z. is_from (Some lo) z ≡ true) }
-        ensures gives { IsTrue K.told → Gives K.limit K.whole (λ x. x) result (spot self.new.bits.position self.new.nodes) self.new.stop self.new.bits.taken
-            (from_octets_at lo more) (spot self.old.bits.position self.old.nodes) }
-        ensures failed { IsErrOf result PerEnd.Failed → HasRisen K.faults (S.faults self.new.bits.source.now) }
+        ensures gives { Gives (λ x. x) result self.old self.new (from_octets_at lo more) }
     {
         let begin = self.position();
         let x = self.take_wide(begin, 8 * (more + 1))?;
@@ -80,34 +74,28 @@ impl<'a, S: Source, K: Origin, V: Variant> Run<'a, S, K, V> {
         }
     }
 
-    // A number from a least one, without a greatest.
+    // Reads a number with a least one and without a greatest.
     #[tactic(auto, unfolding(per_fields::specs::Fields::from_at))]
     fn from(&mut self, lo: i128) -> Result<i128, PerEnd>
-        requires in_step { IsInStep self.old.bits.position self.old.bits.taken }
-        ensures same_reference { self.new.bits.source.ghost_name ≡ self.old.bits.source.ghost_name }
-        ensures on { OnOk result (GoesOn self.old.bits.position self.new.bits.position self.new.bits.taken) }
+        requires in_step { InStep self.old }
+        ensures reads { Reads self.old self.new result }
         ensures nodes { self.new.nodes ≡ self.old.nodes }
         ensures bounds { IfOk result (λ z. is_from (Some lo) z ≡ true) }
-        ensures gives { IsTrue K.told → Gives K.limit K.whole (λ x. x) result (spot self.new.bits.position self.new.nodes) self.new.stop self.new.bits.taken
-            (from_at V.ALIGNED lo) (spot self.old.bits.position self.old.nodes) }
-        ensures failed { IsErrOf result PerEnd.Failed → HasRisen K.faults (S.faults self.new.bits.source.now) }
+        ensures gives { Gives (λ x. x) result self.old self.new (from_at V.ALIGNED lo) }
     {
         let more = self.octet_count()?;
         self.from_octets(lo, more)
     }
 
-    // The octets of a number in two's complement, one and so many more.
+    // Reads the `more` + 1 octets of a number in two's complement.
     #[tactic(auto, unfolding(per_fields::specs::Fields::signed_octets_at))]
     fn signed_octets(&mut self, hi: Option<i128>, more: u32) -> Result<i128, PerEnd>
         requires few { more ≤ 15 }
-        requires in_step { IsInStep self.old.bits.position self.old.bits.taken }
-        ensures same_reference { self.new.bits.source.ghost_name ≡ self.old.bits.source.ghost_name }
-        ensures on { OnOk result (GoesOn self.old.bits.position self.new.bits.position self.new.bits.taken) }
+        requires in_step { InStep self.old }
+        ensures reads { Reads self.old self.new result }
         ensures nodes { self.new.nodes ≡ self.old.nodes }
         ensures bounds { IfOk result (λ z. is_to hi z ≡ true) }
-        ensures gives { IsTrue K.told → Gives K.limit K.whole (λ x. x) result (spot self.new.bits.position self.new.nodes) self.new.stop self.new.bits.taken
-            (signed_octets_at hi more) (spot self.old.bits.position self.old.nodes) }
-        ensures failed { IsErrOf result PerEnd.Failed → HasRisen K.faults (S.faults self.new.bits.source.now) }
+        ensures gives { Gives (λ x. x) result self.old self.new (signed_octets_at hi more) }
     {
         let begin = self.position();
         let x = self.take_wide(begin, 8 * (more + 1))?;
@@ -121,35 +109,29 @@ impl<'a, S: Source, K: Origin, V: Variant> Run<'a, S, K, V> {
         Ok(z)
     }
 
-    // A number without a least one.
+    // Reads a number without a least one.
     #[tactic(auto, unfolding(per_fields::specs::Fields::signed_at))]
     fn signed(&mut self, hi: Option<i128>) -> Result<i128, PerEnd>
-        requires in_step { IsInStep self.old.bits.position self.old.bits.taken }
-        ensures same_reference { self.new.bits.source.ghost_name ≡ self.old.bits.source.ghost_name }
-        ensures on { OnOk result (GoesOn self.old.bits.position self.new.bits.position self.new.bits.taken) }
+        requires in_step { InStep self.old }
+        ensures reads { Reads self.old self.new result }
         ensures nodes { self.new.nodes ≡ self.old.nodes }
         ensures bounds { IfOk result (λ z. is_to hi z ≡ true) }
-        ensures gives { IsTrue K.told → Gives K.limit K.whole (λ x. x) result (spot self.new.bits.position self.new.nodes) self.new.stop self.new.bits.taken
-            (signed_at V.ALIGNED hi) (spot self.old.bits.position self.old.nodes) }
-        ensures failed { IsErrOf result PerEnd.Failed → HasRisen K.faults (S.faults self.new.bits.source.now) }
+        ensures gives { Gives (λ x. x) result self.old self.new (signed_at V.ALIGNED hi) }
     {
         let more = self.octet_count()?;
         self.signed_octets(hi, more)
     }
 
-    // A number between two.
+    // Reads a number between two bounds.
     #[tactic(auto, unfolding(per_fields::specs::Fields::ranged_at))]
     #[inline(always)]
     fn ranged(&mut self, lo: i128, hi: i128) -> Result<i128, PerEnd>
         requires bounds { AreBounds (Some lo) (Some hi) }
-        requires in_step { IsInStep self.old.bits.position self.old.bits.taken }
-        ensures same_reference { self.new.bits.source.ghost_name ≡ self.old.bits.source.ghost_name }
-        ensures on { OnOk result (GoesOn self.old.bits.position self.new.bits.position self.new.bits.taken) }
+        requires in_step { InStep self.old }
+        ensures reads { Reads self.old self.new result }
         ensures nodes { self.new.nodes ≡ self.old.nodes }
         ensures bounds { IfOk result (λ z. (is_from (Some lo) z ≡ true) × (is_to (Some hi) z ≡ true)) }
-        ensures gives { IsTrue K.told → Gives K.limit K.whole (λ x. x) result (spot self.new.bits.position self.new.nodes) self.new.stop self.new.bits.taken
-            (ranged_at V.ALIGNED lo hi) (spot self.old.bits.position self.old.nodes) }
-        ensures failed { IsErrOf result PerEnd.Failed → HasRisen K.faults (S.faults self.new.bits.source.now) }
+        ensures gives { Gives (λ x. x) result self.old self.new (ranged_at V.ALIGNED lo hi) }
     {
         let x = self.number(distance(lo, hi))?;
         match raised(lo, x) {
@@ -158,19 +140,16 @@ impl<'a, S: Source, K: Origin, V: Variant> Run<'a, S, K, V> {
         }
     }
 
-    /// A whole number within bounds.
+    /// Reads a whole number within bounds.
     #[tactic(auto, unfolding(per_fields::specs::Fields::whole_at))]
     #[inline(always)]
     pub(crate) fn whole(&mut self, lo: Option<i128>, hi: Option<i128>) -> Result<i128, PerEnd>
         requires bounds { AreBounds lo hi }
-        requires in_step { IsInStep self.old.bits.position self.old.bits.taken }
-        ensures same_reference { self.new.bits.source.ghost_name ≡ self.old.bits.source.ghost_name }
-        ensures on { OnOk result (GoesOn self.old.bits.position self.new.bits.position self.new.bits.taken) }
+        requires in_step { InStep self.old }
+        ensures reads { Reads self.old self.new result }
         ensures nodes { self.new.nodes ≡ self.old.nodes }
         ensures bounds { IfOk result (λ z. (is_from lo z ≡ true) × (is_to hi z ≡ true)) }
-        ensures gives { IsTrue K.told → Gives K.limit K.whole (λ x. x) result (spot self.new.bits.position self.new.nodes) self.new.stop self.new.bits.taken
-            (whole_at V.ALIGNED lo hi) (spot self.old.bits.position self.old.nodes) }
-        ensures failed { IsErrOf result PerEnd.Failed → HasRisen K.faults (S.faults self.new.bits.source.now) }
+        ensures gives { Gives (λ x. x) result self.old self.new (whole_at V.ALIGNED lo hi) }
     {
         match (lo, hi) {
             (Some(lo), Some(hi)) => self.ranged(lo, hi),

@@ -12,7 +12,7 @@ use per_fields::{Aligned, Variant};
 use simple_types::Value;
 use std::alloc::Global;
 
-// Whole octets: one zero octet where there are no bits (clause 11.1.3).
+// Returns complete octets: one zero octet if there are no bits (clause 11.1.3).
 fn whole_octets(sink: BitSink) -> Result<Vec<u8>, Memory>
     ensures { IfOk result (λ octets. octet_bits octets.items ≡ completed sink) }
 {
@@ -23,10 +23,10 @@ fn whole_octets(sink: BitSink) -> Result<Vec<u8>, Memory>
     Ok(octets)
 }
 
-/// The complete encoding of a value of the type of the assignment with this number, in one of the two variants (X.691, clause
-/// 11.1): whole octets, and one zero octet where the value has no bits.
+/// Returns the complete encoding of a value of the type of the assignment with this number, in one of the two variants (X.691,
+/// clause 11.1). It consists of complete octets: one zero octet if the value has no bits.
 ///
-/// It goes through the value once, and the time is linear in the value and its octets.
+/// It visits the value once. The time is linear in the value and its octets.
 pub fn encode_by<V: Variant>(
     alloc: Global,
     module: &Module,

@@ -6,7 +6,7 @@ use asn_types::Component;
 use base_codecs::BitSink;
 use base_texts::Memory;
 
-/// A bit for each OPTIONAL component (X.691, clause 19.2), up to 64 of them with one call of the sink.
+/// Writes a bit for each OPTIONAL component (X.691, clause 19.2), up to 64 of them with one call of the sink.
 pub(crate) fn put_flags(
     sink: &mut BitSink,
     parts: &[Component],

@@ -9,7 +9,7 @@ use per_fields::Variant;
 /// The octets or items of one unit of a fragment.
 pub(crate) const UNIT: usize = 16_384;
 
-/// A length of up to 127 in one octet, and a greater one in two.
+/// Writes a length: one octet up to 127, and two octets for a greater one.
 #[inline(always)]
 pub(crate) fn put_length(sink: &mut BitSink, n: usize) -> Result<(), Memory>
     requires { n < 16384 }
@@ -22,7 +22,7 @@ pub(crate) fn put_length(sink: &mut BitSink, n: usize) -> Result<(), Memory>
     }
 }
 
-/// What is before a field that begins at an octet in the aligned variant.
+/// Writes what precedes a field that begins at an octet in the aligned variant.
 #[inline(always)]
 pub(crate) fn put_gap<V: Variant>(sink: &mut BitSink) -> Result<(), Memory>
     ensures { OnOk result (sink.new ≡ sink.old ++ gap_bits V.ALIGNED (length sink.old)) }
@@ -33,7 +33,7 @@ pub(crate) fn put_gap<V: Variant>(sink: &mut BitSink) -> Result<(), Memory>
     Ok(())
 }
 
-/// The last length, behind what is before it.
+/// Writes the last length, after what precedes it.
 #[inline(always)]
 pub(crate) fn put_last_length<V: Variant>(sink: &mut BitSink, n: usize) -> Result<(), Memory>
     requires { n < 16384 }
@@ -43,7 +43,7 @@ pub(crate) fn put_last_length<V: Variant>(sink: &mut BitSink, n: usize) -> Resul
     put_length(sink, n)
 }
 
-/// The head of a fragment of so many units, behind what is before it.
+/// Writes the head of a fragment with this number of units, after what precedes it.
 #[inline(never)]
 pub(crate) fn put_units<V: Variant>(sink: &mut BitSink, units: usize) -> Result<(), Memory>
     requires { units ≤ 4 }

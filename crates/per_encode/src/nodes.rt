@@ -21,7 +21,7 @@ use base_trees::Tree;
 use per_fields::Variant;
 use simple_types::ValueLabel;
 
-// The components of a SEQUENCE that are present.
+// Writes the components of a SEQUENCE that are present.
 #[cycle(encoding)]
 fn put_parts<V: Variant>(
     sink: &mut BitSink,
@@ -46,7 +46,7 @@ fn put_parts<V: Variant>(
     Ok(())
 }
 
-// So many items, one behind the other, which it takes.
+// Writes the next n items, one after the other, and consumes them.
 #[cycle(encoding)]
 fn put_items<V: Variant>(
     sink: &mut BitSink,
@@ -69,7 +69,7 @@ fn put_items<V: Variant>(
     Ok(())
 }
 
-// Items behind general lengths, in fragments (clause 11.9).
+// Writes items after general lengths, in fragments (clause 11.9).
 #[cycle(encoding)]
 fn put_fragments<V: Variant>(
     sink: &mut BitSink,
@@ -92,7 +92,7 @@ fn put_fragments<V: Variant>(
     put_items::<V>(sink, module, node, &mut left, count)
 }
 
-// The items of a SEQUENCE OF behind their count (clause 20).
+// Writes the items of a SEQUENCE OF after their count (clause 20).
 #[tactic(auto, unfolding(per_fields::specs::Fields::list_bits))]
 #[inline(never)]
 #[cycle(encoding)]
@@ -121,7 +121,7 @@ fn put_list<V: Variant>(
     }
 }
 
-// A value of a SEQUENCE: a flag for each optional component, and the components that are present (clause 19).
+// Writes a value of a SEQUENCE: a flag for each optional component, and the components that are present (clause 19).
 #[inline(never)]
 #[cycle(encoding)]
 fn put_sequence<V: Variant>(
@@ -148,7 +148,7 @@ fn put_sequence<V: Variant>(
     }
 }
 
-// A value of a CHOICE: the number of the alternative, and its value (clause 23).
+// Writes a value of a CHOICE: the number of the alternative, and its value (clause 23).
 #[inline(never)]
 #[cycle(encoding)]
 fn put_choice<V: Variant>(
@@ -174,7 +174,7 @@ fn put_choice<V: Variant>(
     }
 }
 
-// A value of a type that is no reference.
+// Writes a value of a type that is not a reference.
 #[cycle(encoding)]
 fn put_content<V: Variant>(
     sink: &mut BitSink,
@@ -224,7 +224,7 @@ fn put_content<V: Variant>(
     }
 }
 
-/// The bits of a value of the type, or of that to which it refers.
+/// Writes the bits of a value of the type, or of the type that its references reach.
 #[cycle(encoding)]
 pub(crate) fn put_node<V: Variant>(
     sink: &mut BitSink,

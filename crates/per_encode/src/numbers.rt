@@ -8,7 +8,7 @@ use base_codecs::BitSink;
 use base_texts::Memory;
 use per_fields::Variant;
 
-// A number of more bits than one call of the sink takes.
+// Writes a number of more bits than one call of the sink accepts.
 #[inline(never)]
 fn put_halves(sink: &mut BitSink, number: u128, n: u32) -> Result<(), Memory>
     requires many { 64 < n }
@@ -20,7 +20,7 @@ fn put_halves(sink: &mut BitSink, number: u128, n: u32) -> Result<(), Memory>
     sink.put_bits((number % (1u128 << 64)) as u64, 64)
 }
 
-/// The number in so many bits.
+/// Writes the number in n bits.
 #[inline(always)]
 pub(crate) fn put_wide(sink: &mut BitSink, number: u128, n: u32) -> Result<(), Memory>
     requires few { n ≤ 128 }
@@ -33,7 +33,7 @@ pub(crate) fn put_wide(sink: &mut BitSink, number: u128, n: u32) -> Result<(), M
     put_halves(sink, number, n)
 }
 
-/// The least bits that hold the number; none for 0.
+/// Returns the least number of bits that hold the number: 0 bits for 0.
 pub(crate) fn width(number: u128) -> u32
     ensures width { result ≡ width_of number }
     ensures few { result ≤ 128 }
@@ -41,7 +41,7 @@ pub(crate) fn width(number: u128) -> u32
     128 - number.leading_zeros()
 }
 
-/// How many octets the number has behind the first, in as few as hold it (X.691, clause 11.3).
+/// Returns the number of octets after the first, of the least octets that hold the number (X.691, clause 11.3).
 pub(crate) fn octets_behind(number: u128) -> u32
     ensures octets { result ≡ more_of number }
     ensures few { result ≤ 15 }
@@ -51,7 +51,7 @@ pub(crate) fn octets_behind(number: u128) -> u32
     if width == 0 { 0 } else { (width + 7) / 8 - 1 }
 }
 
-// The number in so many bits, behind the padding.
+// Writes the number in n bits, after the padding.
 #[inline(never)]
 fn put_aligned(sink: &mut BitSink, number: u128, n: u32) -> Result<(), Memory>
     requires few { n ≤ 128 }
@@ -62,7 +62,7 @@ fn put_aligned(sink: &mut BitSink, number: u128, n: u32) -> Result<(), Memory>
     put_wide(sink, number, n)
 }
 
-// The octet count, and the number in the least octets (clause 11.5.7.4).
+// Writes the octet count, and the number in the least octets (clause 11.5.7.4).
 #[inline(never)]
 fn put_large(sink: &mut BitSink, top: u128, number: u128) -> Result<(), Memory>
     requires { number ≤ top }
@@ -74,7 +74,7 @@ fn put_large(sink: &mut BitSink, top: u128, number: u128) -> Result<(), Memory>
     put_aligned(sink, number, 8 * (behind + 1))
 }
 
-/// A number of `0..=top`.
+/// Writes a number of `0..=top`.
 #[tactic(auto, unfolding(per_fields::specs::Fields::number_bits))]
 pub(crate) fn put_number<V: Variant>(
     sink: &mut BitSink,
@@ -99,7 +99,7 @@ pub(crate) fn put_number<V: Variant>(
     put_large(sink, top, number)
 }
 
-/// The number of one of so many items or alternatives.
+/// Writes the number of one of `count` items or alternatives.
 pub(crate) fn put_index<V: Variant>(sink: &mut BitSink, count: usize, i: u32) -> Result<(), Memory>
     requires { i < count }
     ensures { OnOk result (sink.new ≡ sink.old ++ number_bits V.ALIGNED (count - 1) i (length sink.old)) }

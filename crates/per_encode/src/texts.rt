@@ -8,7 +8,7 @@ use base_codecs::BitSink;
 use base_texts::Memory;
 use per_fields::Variant;
 
-// The octets of a text behind their lengths, in fragments (X.691, clause 11.9).
+// Writes the octets of a text after their lengths, in fragments (X.691, clause 11.9).
 #[inline(never)]
 fn put_fragments<V: Variant>(sink: &mut BitSink, text: &[u8]) -> Result<(), Memory>
     ensures { OnOk result (sink.new ≡ sink.old ++ counted_bits V.ALIGNED (map octet_writer text.now) (length sink.old)) }
@@ -24,7 +24,7 @@ fn put_fragments<V: Variant>(sink: &mut BitSink, text: &[u8]) -> Result<(), Memo
     sink.put_octets(&text[at..])
 }
 
-/// The octets of a text behind their lengths (X.691, clause 11.9).
+/// Writes the octets of a text after their lengths (X.691, clause 11.9).
 #[inline(never)]
 pub(crate) fn put_text<V: Variant>(sink: &mut BitSink, text: &[u8]) -> Result<(), Memory>
     ensures { OnOk result (sink.new ≡ sink.old ++ counted_bits V.ALIGNED (map octet_writer text.now) (length sink.old)) }

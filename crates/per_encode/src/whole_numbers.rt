@@ -10,7 +10,7 @@ use base_codecs::BitSink;
 use base_texts::Memory;
 use per_fields::Variant;
 
-// How far a number is above a lower one.
+// Returns the distance of a number above a lower one.
 fn distance(from: i128, to: i128) -> u128
     requires { int_le from to ≡ true }
     ensures { result ≡ distance from to }
@@ -18,7 +18,7 @@ fn distance(from: i128, to: i128) -> u128
     to.abs_diff(from)
 }
 
-// The number without its sign, that of -1 being 0.
+// Returns the number without its sign. Negative numbers count from 0 for -1.
 fn magnitude(number: i128) -> u128
     ensures magnitude { result ≡ magnitude number }
     ensures fits { result < 2 ^ 127 }
@@ -30,7 +30,7 @@ fn magnitude(number: i128) -> u128
     }
 }
 
-// A number in two's complement of so many bits, which hold it with its sign.
+// Returns a number in two's complement of this number of bits, which hold it with its sign.
 fn complement(width: u32, number: i128) -> u128
     requires some { 0 < width }
     requires few { width ≤ 128 }
@@ -47,7 +47,7 @@ fn complement(width: u32, number: i128) -> u128
     }
 }
 
-// A number from a least one, without a greatest: the length of its octets, and these (clause 11.7).
+// Writes a number with a least one and without a greatest: the length of its octets, and the octets (clause 11.7).
 #[inline(never)]
 fn put_from<V: Variant>(sink: &mut BitSink, least: i128, number: i128) -> Result<(), Memory>
     requires { int_le least number ≡ true }
@@ -60,7 +60,7 @@ fn put_from<V: Variant>(sink: &mut BitSink, least: i128, number: i128) -> Result
     put_wide(sink, distance, 8 * (behind + 1))
 }
 
-// How many octets the number has behind the first, in as few as hold it with its sign (clause 11.4).
+// Returns the number of octets after the first, of the least octets that hold the number with its sign (clause 11.4).
 fn signed_octets_behind(number: i128) -> u32
     ensures octets { result ≡ more_signed number }
     ensures few { result ≤ 15 }
@@ -69,7 +69,7 @@ fn signed_octets_behind(number: i128) -> u32
     width(magnitude(number)) / 8
 }
 
-// A number without a least one, in two's complement (clause 11.8).
+// Writes a number without a least one, in two's complement (clause 11.8).
 #[inline(never)]
 fn put_signed<V: Variant>(sink: &mut BitSink, number: i128) -> Result<(), Memory>
     ensures { OnOk result (sink.new ≡ sink.old ++ signed_bits V.ALIGNED number (length sink.old)) }
@@ -81,7 +81,7 @@ fn put_signed<V: Variant>(sink: &mut BitSink, number: i128) -> Result<(), Memory
     put_wide(sink, complement(width, number), width)
 }
 
-/// A number of an INTEGER within these bounds.
+/// Writes a number of an INTEGER within these bounds.
 #[tactic(auto, unfolding(per_fields::specs::Fields::whole_bits))]
 pub(crate) fn put_whole<V: Variant>(
     sink: &mut BitSink,

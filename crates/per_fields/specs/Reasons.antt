@@ -3,7 +3,7 @@ use Rattle.std.specs.Prelude.{ℕ, List, codes}
 use Rattle.per_fields.specs.declared.stops.Why.{Why}
 use Rattle.per_fields.specs.declared.stops.Why.TheVariants as per
 
--- the name of a reason against bits
+-- The name of a reason for rejecting bits.
 abbrev pub per_reason : Why → List ℕ
 per_reason per.TooDeep = codes "TooDeep"
 per_reason per.TooMany = codes "TooMany"

@@ -1,4 +1,5 @@
--- The first stop is what reading gives, so that of all octets exactly one holds: they begin with a complete encoding, or have one.
+-- The first stop is the one that reading gives. So exactly one holds of all octets: they begin with a complete encoding, or have a
+-- first stop.
 use Rattle.std.specs.Prelude.{◌≡◌, ℕ, ◌⊎◌, Bool, true, List}
 use Rattle.base_trees.specs.Rose.{Rose}
 use Rattle.simple_types.specs.declared.labels.ValueLabel.{ValueLabel}
@@ -8,11 +9,11 @@ use Rattle.per_fields.specs.Laws.{BeginsBy, StopsBy, ForAll}
 use Rattle.per_fields.specs.Stopping.{StopsFirstBy}
 
 module _ (aligned : Bool) where
-  -- reading stops where octets stop first, and there alone
+  -- Reading stops exactly where octets stop first.
   abbrev pub StopsAsReadBy : Type 0
   StopsAsReadBy = ForAll (λ M t X. (stop : Stop) → (StopsBy aligned M t X stop → StopsFirstBy aligned M t X stop) × (StopsFirstBy aligned M t X stop → StopsBy aligned M t X stop))
 
-  -- they begin with the encoding of a value, or stop; of one value and one prefix, at one place for one reason; and never both
+  -- Octets begin with the encoding of one value, which is one prefix, or they stop at one place for one reason. They never do both.
   pub record IsOneOfTwoBy (M : List Assignment) (t : ℕ) (X : List Bool) : Type 0 where
     pub either : ((v : Rose ValueLabel) × BeginsBy aligned M t X v) ⊎ ((stop : Stop) × StopsFirstBy aligned M t X stop)
     pub not_both : (v : Rose ValueLabel) (stop : Stop) → BeginsBy aligned M t X v → StopsFirstBy aligned M t X stop → ⊥
@@ -22,7 +23,7 @@ module _ (aligned : Bool) where
   abbrev pub OneOfTwoBy : Type 0
   OneOfTwoBy = ForAll (λ M t X. IsOneOfTwoBy M t X)
 
--- THE SAME, ALIGNED
+-- THE LAWS OF THE FIRST STOP, in the aligned variant.
 abbrev pub StopsAsRead : Type 0
 StopsAsRead = StopsAsReadBy true
 

@@ -1,4 +1,4 @@
--- Which reasons of a stop say that the bits end.
+-- The reasons of a stop that state that the bits end.
 use Rattle.std.specs.Prelude.{Bool, true, false}
 use Rattle.per_fields.specs.declared.stops.Why.{Why}
 use Rattle.per_fields.specs.declared.stops.Why.TheVariants.{Short}

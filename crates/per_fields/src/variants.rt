@@ -1,6 +1,6 @@
 //! The two variants of PER (X.691), as type parameters.
 
-/// One of the two variants, which say whether a field may begin at an octet, behind padding.
+/// One of the two variants. They state whether a field may begin at an octet, after padding.
 pub trait Variant {
     ghost use Rattle.std.specs.Prelude.{Bool};
 
@@ -21,7 +21,7 @@ impl Variant for Aligned {
     const ALIGNED: bool = true;
 }
 
-/// Unaligned: each field begins right behind the one before it.
+/// Unaligned: each field begins right after the previous one.
 pub struct Unaligned;
 
 impl Variant for Unaligned {

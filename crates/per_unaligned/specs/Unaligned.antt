@@ -1,4 +1,4 @@
--- Canonical unaligned PER (X.691): what the definitions of both variants say where nothing is aligned.
+-- Canonical unaligned PER (X.691): the definitions of both variants, in the unaligned one.
 use Rattle.std.specs.Prelude.{ℕ, Bool, false, Option, List}
 use Rattle.base_trees.specs.Rose.{Rose}
 use Rattle.simple_types.specs.declared.labels.ValueLabel.{ValueLabel}
@@ -12,34 +12,35 @@ use Rattle.per_fields.specs.Stopping.{StopsFirstBy}
 use Rattle.per_fields.specs.StopLaws.{StopsAsReadBy, OneOfTwoBy}
 use Rattle.per_decode.specs.Answers.{Answer, AnswersBy}
 
--- the bits of a value of a type
+-- The bits of a value of a type.
 abbrev pub per_unaligned : List Assignment → Rose TypeLabel → Rose ValueLabel → Writer
 per_unaligned = per false
 
--- the complete encoding of a value of the type of assignment t: these bits at 0, padded to whole octets, and one zero octet for none
+-- The complete encoding of a value of the type of assignment t. It has the bits from 0 on, padded to complete octets, and one zero
+-- octet if there are no bits.
 abbrev pub complete_unaligned : List Assignment → ℕ → Rose ValueLabel → List Bool
 complete_unaligned = complete_by false
 
--- bits begin with that of a value
+-- The bits begin with the complete encoding of a value.
 abbrev pub BeginsUnaligned : List Assignment → ℕ → List Bool → Rose ValueLabel → Type 0
 BeginsUnaligned = BeginsBy false
 
--- they stop first: the first fault in the order of the fields. Padding comes behind the value alone.
+-- The bits stop first, with the first fault in the order of the fields. Only the value is followed by padding.
 abbrev pub StopsFirstUnaligned : List Assignment → ℕ → List Bool → Stop → Type 0
 StopsFirstUnaligned = StopsFirstBy false
 
--- what decoding answers of the octets that a source has left, of which at most so many may be taken
+-- What decoding returns for the octets that a source has left, of which at most `limit` may be read.
 abbrev pub AnswersUnaligned : List Assignment → ℕ → ℕ → List ℕ → Option (List ℕ) → Answer → Type 0
 AnswersUnaligned = AnswersBy false
 
--- THE LAW: octets begin with the encoding of one value or have one first stop, never both;
+-- THE LAW: octets begin with the encoding of one value or have one first stop, and never both.
 abbrev pub OneOfTwoUnaligned : Type 0
 OneOfTwoUnaligned = OneOfTwoBy false
 
--- which is where and why reading stops;
+-- The first stop is where and why reading stops.
 abbrev pub StopsAsReadUnaligned : Type 0
 StopsAsReadUnaligned = StopsAsReadBy false
 
--- and an encoding is of whole octets
+-- An encoding has complete octets.
 abbrev pub WholeOctetsUnaligned : Type 0
 WholeOctetsUnaligned = WholeOctetsBy false

@@ -13,10 +13,10 @@ use per_fields::Unaligned;
 use simple_types::Value;
 use std::alloc::Global;
 
-/// The complete encoding of a value of the type of the assignment with this number (X.691, clause 11.1): whole octets, and one
-/// zero octet where the value has no bits.
+/// Returns the complete encoding of a value of the type of the assignment with this number (X.691, clause 11.1). It consists of
+/// complete octets: one zero octet if the value has no bits.
 ///
-/// It goes through the value once, and the time is linear in the value and its octets.
+/// It visits the value once. The time is linear in the value and its octets.
 pub fn encode_unaligned(
     alloc: Global,
     module: &Module,
@@ -29,14 +29,14 @@ pub fn encode_unaligned(
     encode_by::<Unaligned>(alloc, module, t, value)
 }
 
-/// The value of the type of the assignment with this number, by the complete encoding with which the octets left in the
-/// source begin, and how many octets that encoding has. At most `limit` of them are taken, and none before a bit of it is
-/// needed, so what stands behind the encoding is left in the source.
+/// Decodes a value of the type of the assignment with this number. The octets left in the source must begin with its complete
+/// encoding. Returns the value and the number of octets of that encoding. At most `limit` octets are read, and none before one of
+/// its bits is needed. So what follows the encoding is left in the source.
 ///
 /// # Errors
 ///
-/// `Bad` tells the first fault of the octets, and `TooLong` that their first `limit` end inside a field. After `Failed`
-/// the octets that were taken may be the front of an encoding.
+/// `Bad` gives the first fault of the octets. `TooLong` means that their first `limit` end inside a field. After `Failed` the
+/// octets that were read may be a prefix of an encoding.
 pub fn decode_unaligned<S: Source>(
     alloc: Global,
     module: &Module,

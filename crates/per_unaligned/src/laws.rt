@@ -2,7 +2,7 @@
 ghost use Rattle.per_unaligned.specs.Fields.{NumberBits, FromBits, SignedBits, LastPiece, Fragment, SizedBits, ListBits};
 ghost use Rattle.per_unaligned.specs.Unaligned.{OneOfTwoUnaligned, StopsAsReadUnaligned, WholeOctetsUnaligned};
 
-/// The fields, each by its clause of X.691: no bits stand before one, and a number of any range is in the least bits.
+/// States the fields, each by its clause of X.691: no bits precede a field, and a number of any range is in the least bits.
 pub fn fields()
     ensures numbers { NumberBits }
     ensures from { FromBits }
@@ -13,8 +13,8 @@ pub fn fields()
     ensures lists { ListBits }
 {}
 
-/// Octets begin with the complete unaligned encoding of one value of the type of an assignment, or they have one first stop;
-/// one of the two, and never both. A first stop is where and why reading stops.
+/// States that octets begin with the complete unaligned encoding of one value of an assignment's type, or have one first stop.
+/// Exactly one of the two holds. A first stop is where and why reading stops.
 pub fn first_stop()
     ensures one_of_two { OneOfTwoUnaligned }
     ensures as_read { StopsAsReadUnaligned }

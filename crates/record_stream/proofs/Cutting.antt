@@ -1,5 +1,5 @@
 -- Encodings one behind the other, taken apart and put together.
-use Rattle.std.proofs.Common.{◌≡◌, ℕ, zero, suc, ◌+◌, ◌-◌, ◌*◌, ◌/◌, ◌%◌, ◌<◌, ◌≤◌, Bool, true, false, cond, eqb, List, [], ◌∷◌, ◌++◌, length, take, drop, refl, sym, ap, ◌∙◌, subst, arith, Option, Some, None, append_assoc, length-append, inl, inr, ◌⊎◌}
+use Rattle.std.proofs.Common.{◌≡◌, ℕ, zero, suc, ◌+◌, ◌-◌, ◌*◌, ◌/◌, ◌<◌, ◌≤◌, Bool, true, cond, List, [], ◌∷◌, ◌++◌, length, take, drop, refl, sym, ap, ◌∙◌, subst, arith, Option, Some, None, append_assoc, length-append, inl, inr, ◌⊎◌}
 use Rattle.std.specs.Prelude.{slice_get}
 use Rattle.std.proofs.lemmas.List.{length-take, length-drop, take-append-drop, take_all, take-take, drop-drop, append-nil}
 use Rattle.std.proofs.Math.Seq.{take-add, take-append_seam, drop-append_seam}
@@ -17,7 +17,7 @@ use Rattle.per_fields.specs.Codec.{AllOf}
 use Rattle.per_fields.specs.Encoding.{per, completed, complete_of, complete}
 use Rattle.per_fields.specs.Laws.{Begins, Stops}
 use Rattle.per_fields.proofs.Law.{one_value, either, not_both, whole_octets}
-use Rattle.record_stream.specs.Cuts.{encodings, IsRecord, BeginWith, IsCut, OneList, SomeCut, OneCut}
+use Rattle.record_stream.specs.Cuts.{encodings, IsRecord, BeginWith, IsCut}
 
 -- octets behind the first so many
 octets-split : (n : ℕ) (octets : List ℕ) → octet_bits octets ≡ octet_bits (take n octets) ++ octet_bits (drop n octets)
@@ -120,7 +120,7 @@ module _ (M : List Assignment) (t : ℕ) where
       }
 
   -- before the others
-  begin_before : (octets : List ℕ) (v : Rose ValueLabel) (vs : List (Rose ValueLabel)) (k n : ℕ) → IsRecord M t v → k ≤ length octets → octet_bits (take k octets) ≡ complete M t v → BeginWith M t (drop k octets) vs n
+  pub begin_before : (octets : List ℕ) (v : Rose ValueLabel) (vs : List (Rose ValueLabel)) (k n : ℕ) → IsRecord M t v → k ≤ length octets → octet_bits (take k octets) ≡ complete M t v → BeginWith M t (drop k octets) vs n
       → BeginWith M t octets (v ∷ vs) (k + n)
   begin_before octets v vs k n one inside is h = record {
     inside = omega (arith, h.inside, length-drop k octets, inside);
@@ -128,13 +128,13 @@ module _ (M : List Assignment) (t : ℕ) where
     is = ap octet_bits (take-add k n octets) ∙ octet_bits-append (take k octets) (take n (drop k octets)) ∙ ap (λ bs. bs ++ octet_bits (take n (drop k octets))) is ∙ ap (λ bs. complete M t v ++ bs) h.is;
   }
 
-  begin_rest : (octets : List ℕ) (v : Rose ValueLabel) (vs : List (Rose ValueLabel)) (n : ℕ) → BeginWith M t octets (v ∷ vs) n
+  pub begin_rest : (octets : List ℕ) (v : Rose ValueLabel) (vs : List (Rose ValueLabel)) (n : ℕ) → BeginWith M t octets (v ∷ vs) n
       → (k : ℕ) × Begins M t (octet_bits octets) v × (8 * k ≡ length (complete M t v)) × (k ≤ n) × BeginWith M t (drop k octets) vs (n - k)
   begin_rest octets v vs n h =
       let u = uncons octets v vs n h.inside h.records.0.0 h.is in
       (u.0, u.1, u.2, u.3, record { inside = omega (arith, h.inside, length-drop u.0 octets); records = h.records.1; is = u.4 })
 
-  begin_nothing : (octets : List ℕ) (n : ℕ) → BeginWith M t octets [] n → n ≡ 0
+  pub begin_nothing : (octets : List ℕ) (n : ℕ) → BeginWith M t octets [] n → n ≡ 0
   begin_nothing octets n h = omega (arith, ap length h.is, length-octet_bits (take n octets), length-take n octets, h.inside)
 
   -- each has an octet
@@ -154,7 +154,7 @@ module _ (M : List Assignment) (t : ℕ) where
 
   module _ (known : IsModule M) (bounded : IsBounded M) (assigned : t < length M) where
     -- two first values are one
-    same_first : (octets : List ℕ) (v w : Rose ValueLabel) (k j : ℕ) → Begins M t (octet_bits octets) v → Begins M t (octet_bits octets) w → 8 * k ≡ length (complete M t v) → 8 * j ≡ length (complete M t w) → (v ≡ w) × (k ≡ j)
+    pub same_first : (octets : List ℕ) (v w : Rose ValueLabel) (k j : ℕ) → Begins M t (octet_bits octets) v → Begins M t (octet_bits octets) w → 8 * k ≡ length (complete M t v) → 8 * j ≡ length (complete M t w) → (v ≡ w) × (k ≡ j)
     same_first octets v w k j b c long wide =
         let e : v ≡ w = (one_value true M t octets known bounded assigned v w b c).0 in
         (e, omega (arith, long, wide, ap (λ x. length (complete M t x)) e))
@@ -174,7 +174,7 @@ module _ (M : List Assignment) (t : ℕ) where
         ap (λ x. x ∷ vs) s.0 ∙ ap (λ xs. w ∷ xs) others
 
     -- as many values are the same
-    as_many : (octets : List ℕ) (vs ws : List (Rose ValueLabel)) (m n : ℕ) → BeginWith M t octets vs m → BeginWith M t octets ws n → length vs ≡ length ws → (vs ≡ ws) × (m ≡ n)
+    pub as_many : (octets : List ℕ) (vs ws : List (Rose ValueLabel)) (m n : ℕ) → BeginWith M t octets vs m → BeginWith M t octets ws n → length vs ≡ length ws → (vs ≡ ws) × (m ≡ n)
     as_many octets [] [] m n h k e = (refl, omega (arith, begin_nothing octets m h, begin_nothing octets n k))
     as_many octets [] (w ∷ ws) m n h k e = absurd (omega (arith, e))
     as_many octets (v ∷ vs) [] m n h k e = absurd (omega (arith, e))
@@ -189,7 +189,7 @@ module _ (M : List Assignment) (t : ℕ) where
     one_cut_of octets vs ws m n h k = as_many octets vs ws m n h.begin k.begin (omega (arith, h.longest ws n k.begin, k.longest vs m h.begin))
 
     -- more values: the next of them stands behind the others
-    next_of : (octets : List ℕ) (vs ws : List (Rose ValueLabel)) (m n : ℕ) → BeginWith M t octets vs m → BeginWith M t octets ws n → length vs < length ws
+    pub next_of : (octets : List ℕ) (vs ws : List (Rose ValueLabel)) (m n : ℕ) → BeginWith M t octets vs m → BeginWith M t octets ws n → length vs < length ws
         → (w : Rose ValueLabel) × IsRecord M t w × Begins M t (octet_bits (drop m octets)) w
     next_of octets [] [] m n h k less = absurd (omega (arith, less))
     next_of octets [] (w ∷ ws) m n h k less =

@@ -1,18 +1,15 @@
 -- What is answered of the next record, by what decoding answers of the octets that are left.
-use Rattle.std.proofs.Common.{◌≡◌, ℕ, ◌+◌, ◌-◌, ◌*◌, ◌<◌, ◌≤◌, min, Bool, true, false, cond, List, [], ◌∷◌, ◌++◌, length, take, drop, refl, sym, ap, ◌∙◌, subst, arith, Option, Some, None, Result, Ok, Err, ◌⊎◌, inl, inr, length-append}
+use Rattle.std.proofs.Common.{◌≡◌, ℕ, ◌+◌, ◌-◌, ◌*◌, ◌<◌, ◌≤◌, Bool, true, false, cond, List, [], ◌∷◌, length, take, drop, refl, sym, ap, ◌∙◌, subst, arith, Option, Some, None, Result, Ok, Err, inl, inr, length-append}
 use Rattle.std.specs.Prelude.{◌&&◌, nat_le}
 use Rattle.std.proofs.lemmas.List.{length-take, length-drop}
 use Rattle.std.specs.Io.KnownBytes.{Keeps}
 use Rattle.base_trees.specs.Rose.{Rose}
-use Rattle.base_codecs.specs.Bits.{octet_bits}
 use Rattle.base_codecs.proofs.BitLemmas.{length-octet_bits}
 use Rattle.simple_types.specs.declared.labels.ValueLabel.{ValueLabel}
 use Rattle.asn_types.specs.declared.modules.Assignment.{Assignment}
-use Rattle.asn_values.specs.Values.{In}
 use Rattle.per_fields.specs.declared.stops.Stop.{Stop}
 use Rattle.per_fields.specs.Encoding.{complete}
 use Rattle.per_fields.specs.Laws.{Begins}
-use Rattle.per_fields.specs.Stopping.{StopsFirst}
 use Rattle.per_decode.specs.declared.decoded.Decoded.{Decoded}
 use Rattle.per_decode.specs.declared.errors.DecodeError.{DecodeError}
 use Rattle.per_decode.specs.declared.errors.DecodeError.TheVariants as decode
@@ -128,3 +125,15 @@ module _ (M : List Assignment) (t number room octet : ℕ) (was held : Option �
               let gone : Some (drop f.count left) ≡ Some left = sym f.takes.rest ∙ same in
               let short : drop f.count left ≡ left = cc in
               absurd (omega (arith, ap length short, length-drop f.count left, f.takes.inside, some_left octet old left begins_left, f.says.1, complete-some M t found.value f.says.0.value))
+
+-- an octet that is still held is the first that was left, and behind it stands what the source has left
+pub held_first : (old : Option (List ℕ)) (octet : ℕ) (inner now : Option (List ℕ)) (left : List ℕ) → Keeps old (left_with (Some octet) inner) → old ≡ Some left → now ≡ inner
+    → (1 ≤ length left) × (now ≡ Some (drop 1 left))
+held_first old octet None now left keeps is same = absurd (subst (λ o. Keeps o (left_with (Some octet) None)) is keeps)
+held_first old octet (Some xs) now left keeps is same =
+    let e : octet ∷ xs ≡ left = subst (λ o. Keeps o (left_with (Some octet) (Some xs))) is keeps in
+    (omega (arith, ap length e), same ∙ ap (λ ys. Some (drop 1 ys)) e)
+
+-- none is held
+pub none_is_held : (held : Option ℕ) (octet : ℕ) → held ≡ None → held ≡ Some octet → ⊥
+none_is_held held octet none some = let clash : None ≡ Some octet = sym none ∙ some in cc

@@ -1,4 +1,4 @@
--- The values of which octets are the complete encodings (X.691), one behind the other.
+-- The values of which octets are the complete encodings (X.691), one after another.
 use Rattle.std.specs.Prelude.{◌≡◌, ℕ, ◌*◌, ◌<◌, ◌≤◌, Bool, List, [], ◌∷◌, ◌++◌, length, take}
 use Rattle.base_trees.specs.Rose.{Rose}
 use Rattle.base_codecs.specs.Bits.{octet_bits}
@@ -12,7 +12,7 @@ use Rattle.per_fields.specs.Encoding.{complete}
 
 -- for the type of assignment t
 module _ (M : List Assignment) (t : ℕ) where
-  -- the complete encodings of values, one behind the other
+  -- the complete encodings of values, one after another
   abbrev pub encodings : List (Rose ValueLabel) → List Bool
   encodings [] = []
   encodings (v ∷ vs) = complete M t v ++ encodings vs
@@ -21,7 +21,7 @@ module _ (M : List Assignment) (t : ℕ) where
   abbrev pub IsRecord : Rose ValueLabel → Type 0
   IsRecord v = In M t v × (length (complete M t v) ≤ 8 * 16777216)
 
-  -- the first so many octets are the complete encodings of these values, one behind the other
+  -- the first `count` octets are the complete encodings of these values, one after another
   pub record BeginWith (octets : List ℕ) (values : List (Rose ValueLabel)) (count : ℕ) : Type 0 where
     pub inside : count ≤ length octets
     pub records : AllOf IsRecord values
@@ -36,7 +36,7 @@ module _ (M : List Assignment) (t : ℕ) where
 abbrev pub ForTypes : (List Assignment → ℕ → Type 0) → Type 0
 ForTypes P = (M : List Assignment) (t : ℕ) → IsModule M → IsBounded M → t < length M → P M t
 
--- THE LAW: two lists of values whose encodings, one behind the other, are the same octets are equal
+-- THE LAW: two lists of values whose encodings, one after another, are the same octets are equal
 abbrev pub OneList : Type 0
 OneList = ForTypes (λ M t. (octets : List ℕ) (vs ws : List (Rose ValueLabel)) → AllOf (In M t) vs → AllOf (In M t) ws
     → octet_bits octets ≡ encodings M t vs → octet_bits octets ≡ encodings M t ws → vs ≡ ws)

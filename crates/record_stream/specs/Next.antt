@@ -27,21 +27,21 @@ told_of number decode.Memory = Memory
 abbrev pub Answer : Type 0
 Answer = Result (Option (Rose ValueLabel)) RecordError
 
--- how many octets one record may have, where so many may be taken
+-- how many octets one record may have, where this number may be read
 abbrev pub most_of : ℕ → ℕ
 most_of room = min 16777216 room
 
--- for the types of a module, the number of the next record, how many octets may be taken, and those left
+-- for the types of a module, the number of the next record, how many octets may be read, and those left
 module _ (M : List Assignment) (t number room : ℕ) (left : List ℕ) where
   -- the bits that the record may have
   abbrev pub within : List Bool
   within = octet_bits (take (most_of room) left)
 
-  -- how a first fault is answered: octets that end at the limit may go on behind it
+  -- the error for a first fault: octets that end at the limit may go on after it
   abbrev pub fault_of : Stop → RecordError
   fault_of stop = if is_short stop.why && nat_le (most_of room) (length left) then TooLong else Bad number stop.bit stop.why
 
-  -- what each answer says of the octets, of which so many were taken
+  -- what each answer says of the octets, of which `count` were read
   abbrev pub Says : Answer → ℕ → Type 0
   Says (Ok None) count = (left ≡ []) × (count ≡ 0)
   Says (Ok (Some v)) count = Begins M t within v × (8 * count ≡ length (complete M t v))
@@ -55,7 +55,7 @@ module _ (M : List Assignment) (t number room : ℕ) (left : List ℕ) where
   abbrev pub IsDue : Answer → Answer → Type 0
   IsDue due answer = (answer ≡ due) ⊎ (answer ≡ Err Failed) ⊎ (answer ≡ Err Memory)
 
-  -- Exactly one of three is due: the end, a value, or the first fault of what is left.
+  -- Exactly one of three is required: the end, a value, or the first fault of what is left.
   pub record AnswersNext (new : Option (List ℕ)) (answer : Answer) : Type 0 where
     pub count : ℕ
     pub takes : Takes true M t (most_of room) left new count

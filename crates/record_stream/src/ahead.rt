@@ -1,4 +1,4 @@
-//! A source behind an octet that was taken of it ahead.
+//! A source after an octet that was read ahead.
 ghost use Rattle.std.specs.Prelude.{◌≡◌, ℕ, ◌≤◌, ◌<◌, ◌^◌, List, Option, None, Some, IfOk, IsErrOf, length};
 ghost use Rattle.base_texts.specs.Faults.{Counts};
 ghost use Rattle.asn_values.specs.Values.{In};
@@ -11,8 +11,8 @@ use per_decode::{DecodeError, Decoded, decode};
 use std::alloc::Global;
 use std::marker::{Brand, PhantomData};
 
-/// What decoding begins with: the reference to the source, what this has left behind the octet, the octet, and its count of
-/// faults.
+/// The state in which decoding begins: the reference to the source, the octets that it has left after the octet read ahead, this octet,
+/// and its count of faults.
 pub(crate) trait Before {
     ghost name: { ℕ };
 
@@ -89,15 +89,15 @@ pub(crate) struct RecordType<'m> {
     pub(crate) limit: u64,
 }
 
-/// What stands behind a value: the source, and the octet where it was not handed on.
+/// What remains after a value: the source, and the octet if decoding didn't read it.
 #[derive(Drop)]
 pub(crate) struct Behind<'a, S: Source> {
     source: &'a mut S,
     pub(crate) octet: Option<u8>,
 }
 
-/// Decodes from an octet and what the source has left behind it. The answer stands apart, since a reference is lost track of
-/// beside what owns memory.
+/// Decodes from an octet and what the source has left after it. The answer is a parameter of its own, since the prover loses track of
+/// a reference that is returned together with a value that owns memory.
 pub(crate) fn decode_behind<'a, S: Source, K: Before>(
     alloc: Global,
     record_type: RecordType<'_>,
@@ -117,7 +117,7 @@ pub(crate) fn decode_behind<'a, S: Source, K: Before>(
     ensures answer { (left : List ℕ) → left_with (Some octet) K.left ≡ Some left
         → Answers record_type.entry.module.now record_type.entry.t record_type.entry.limit left (left_with result.octet (S.left result.source.now)) answer.new }
     ensures cause { Counts K.faults (S.faults result.source.now) (IsErrOf answer.new DecodeError.Failed) }
-    // Where it failed, the octet was handed on. Where it was not, nothing was taken.
+    // If the source failed, decoding had read the octet. If decoding didn't read the octet, it read nothing.
     ensures failed { IsErrOf answer.new DecodeError.Failed → result.octet ≡ None }
     ensures untouched { IsUntouched octet K.left result.octet (S.left result.source.now) }
 {

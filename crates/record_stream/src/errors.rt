@@ -10,7 +10,7 @@ pub enum RecordError {
     /// counted from the first bit of the record.
     #[error("record {number} does not encode a value of the type")]
     Bad { number: u64, bit: u64, why: Why },
-    /// The octets that may be taken end inside the record.
+    /// The octets that may be read end inside the record.
     #[error("more octets are needed than may be taken")]
     TooLong,
     #[error("the source failed")]

@@ -1,7 +1,7 @@
 //! What holds of the values of octets, for all modules, types and octets.
 ghost use Rattle.record_stream.specs.Cuts.{OneList, SomeCut, OneCut};
 
-/// Two lists of values whose complete encodings, one behind the other, are the same octets are equal.
+/// Two lists of values whose complete encodings, one after another, are the same octets are equal.
 pub fn one_list()
     ensures { OneList }
 {}

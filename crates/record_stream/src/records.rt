@@ -1,5 +1,5 @@
-//! Records, one behind the other.
-ghost use Rattle.std.specs.Prelude.{◌≡◌, ℕ, ◌+◌, ◌*◌, ◌≤◌, ◌<◌, List, [], length, None, Some, IfOk, IfSome, IsSome, MatchOption, OnOk, OnErr, IsErr, IsErrOf};
+//! Records, one after another.
+ghost use Rattle.std.specs.Prelude.{◌≡◌, ℕ, ◌+◌, ◌*◌, ◌≤◌, ◌<◌, List, [], length, drop, None, Some, IfOk, IfSome, IsSome, MatchOption, OnOk, OnErr, IsErr, IsErrOf};
 ghost use Rattle.std.specs.Io.KnownBytes.{Keeps, IsAtEnd};
 ghost use Rattle.base_texts.specs.Faults.{Counts, one_more};
 ghost use Rattle.asn_values.specs.Values.{In};
@@ -19,19 +19,19 @@ use std::marker::Brand;
 /// The greatest length of a record, in octets.
 const RECORD_LIMIT: u64 = 16_777_216;
 
-/// The records that a source has left. Whether there is another is seen by its first octet, which is the only one that is
-/// taken ahead, and not before the next record is asked for.
+/// The records that a source has left. The first octet of the next record shows that there is one. Only this octet is read ahead, and
+/// only when the next record is requested.
 #[derive(Drop)]
 pub struct Records<'a, S: Source> {
     source: &'a mut S,
     octet: Option<u8>,
-    // How many octets may still be taken.
+    // The number of octets that may still be read.
     room: u64,
-    // How many records were read.
+    // The number of records that were read.
     records: u64,
 }
 
-// What is told of a fault of the next record.
+// Returns the error for a fault of the next record.
 fn told(records: u64, error: DecodeError) -> RecordError
     ensures { result ≡ told_of (one_more records) error }
 {
@@ -48,7 +48,7 @@ fn told(records: u64, error: DecodeError) -> RecordError
 }
 
 impl<'a, S: Source> Records<'a, S> {
-    /// The records of what the source has left. At most `limit` octets are taken for them.
+    /// Returns the records of what the source has left. At most `limit` octets are read for them.
     pub fn new(source: &'a mut S, limit: u64) -> Records<'a, S>
         ensures same_reference { result.source.ghost_name ≡ source.entry.ghost_name }
         ensures source { result.source.now ≡ source.old }
@@ -62,7 +62,7 @@ impl<'a, S: Source> Records<'a, S> {
         }
     }
 
-    // The octet that comes next, if there is one.
+    // Returns the octet that comes next, if there is one.
     fn peek(&mut self) -> Result<Option<u8>, Failed>
         ensures same_reference { self.new.source.ghost_name ≡ self.old.source.ghost_name }
         ensures rest { (self.new.room ≡ self.old.room) × (self.new.records ≡ self.old.records) }
@@ -85,7 +85,7 @@ impl<'a, S: Source> Records<'a, S> {
         Ok(Some(buf[0]))
     }
 
-    // The record that begins with the octet.
+    // Returns the record that begins with the octet.
     fn take(
         &mut self,
         alloc: Global,
@@ -108,6 +108,7 @@ impl<'a, S: Source> Records<'a, S> {
         ensures stays { OnErr result ((self.new.room ≡ self.old.room) × (self.new.records ≡ self.old.records)) }
         ensures failed { IsErrOf result RecordError.Failed → self.new.octet ≡ None }
         ensures cause { Counts (S.faults self.old.source.now) (S.faults self.new.source.now) (IsErrOf result RecordError.Failed) }
+        ensures untouched { (held : ℕ) → self.new.octet ≡ Some held → S.left self.new.source.now ≡ S.left self.old.source.now }
     {
         let limit = RECORD_LIMIT.min(self.room);
         let record_type = RecordType { module, t, limit };
@@ -124,16 +125,16 @@ impl<'a, S: Source> Records<'a, S> {
         }
     }
 
-    /// The next record: the value of the type of the assignment with this number, by whose complete encoding (X.691,
-    /// canonical aligned PER) the octets left begin; or None where nothing is left. A record has at most 16,777,216 octets,
-    /// and no more than are left of the limit. Just its own octets are taken: the first of the record behind it is not
-    /// asked for before the next call.
+    /// Returns the next record: the value of the type of the assignment with this number with whose complete encoding (X.691,
+    /// canonical aligned PER) the octets left begin. Returns None if nothing is left. A record has at most 16,777,216 octets,
+    /// and no more than are left of the limit. Only its own octets are read: the first octet of the record after it is
+    /// requested at the next call.
     ///
     /// # Errors
     ///
-    /// `Bad` tells the first fault of the octets left, and `TooLong` that those which may be taken end inside a field. After
-    /// `Failed` the octets that were taken may be the front of a record. Behind an error a further call goes on with the octets
-    /// that are left then.
+    /// `Bad` states the first fault of the octets left. `TooLong` states that the octets that may be read end inside a field. After
+    /// `Failed` the octets that were read may be a prefix of a record. A call after an error goes on with the octets that are
+    /// left then.
     pub fn next(
         &mut self,
         alloc: Global,
@@ -151,11 +152,14 @@ impl<'a, S: Source> Records<'a, S> {
         ensures octets { (left : List ℕ) → left_with self.old.octet (S.left self.old.source.now) ≡ Some left
             → IfOk result (λ found. IfSome found (λ v. 8 * self.old.room ≡ 8 * self.new.room + length (complete module.now t v))) }
         ensures ended { IfOk result (λ found. found ≡ None → IsAtEnd (S.left self.new.source.now)) }
-        // None is held ahead behind a record, nor where the source failed.
+        // No octet is held after a record, nor if the source failed.
         ensures alone { (left : List ℕ) → left_with self.old.octet (S.left self.old.source.now) ≡ Some left → OnOk result (self.new.octet ≡ None) }
         ensures stays { OnErr result ((self.new.room ≡ self.old.room) × (self.new.records ≡ self.old.records)) }
         ensures failed { IsErrOf result RecordError.Failed → self.new.octet ≡ None }
         ensures cause { Counts (S.faults self.old.source.now) (S.faults self.new.source.now) (IsErrOf result RecordError.Failed) }
+        // An octet that is still held is the first that was left, and the only one that was read.
+        ensures held { (left : List ℕ) → left_with self.old.octet (S.left self.old.source.now) ≡ Some left
+            → (octet : ℕ) → self.new.octet ≡ Some octet → (1 ≤ length left) × (S.left self.new.source.now ≡ Some (drop 1 left)) }
     {
         match self.peek() {
             Ok(Some(octet)) => self.take(alloc, module, t, octet),

@@ -4,13 +4,15 @@ use Rattle.std.specs.Prelude.{IfSome, IsSomeAnd, IfErr, MatchResult, IsUtf8}
 use Rattle.base_texts.specs.declared.texts.Name.{Name}
 use Rattle.schema_components.specs.Components.{Set}
 use Rattle.transcode_words.specs.declared.outcome.Outcome.{Outcome}
-use Rattle.transcode_words.specs.declared.outcome.Outcome.TheVariants.{Done, Usage, SchemaSyntax, SchemaFault, LinkFault, UnknownRoot, DocSyntax, Invalid, PerFault, RecordFault, DerFault, ModuleFault, Trailing, TooLong, TooManyNodes, LoadFault, ReadFault, WriteFault, OutOfMemory}
+use Rattle.transcode_words.specs.declared.outcome.Outcome.TheVariants.{Done, Usage, SchemaSyntax, SchemaFault, LinkFault, UnknownRoot, Stamp, DocSyntax, Invalid, PerFault, RecordFault, DerFault, ModuleFault, Trailing, TooLong, TooManyNodes, LoadFault, ReadFault, WriteFault, OutOfMemory}
 use Rattle.transcode_words.specs.Answers.{Answers, IsRefusal, NoMemory}
 use Rattle.transcode_words.specs.Status.{status}
 use Rattle.transcode_core.specs.Due.{Opened}
 use Rattle.transcode_messages.specs.declared.converting.Message.{Message}
 use Rattle.transcode_messages.specs.Messages.{names_of, IsLine}
+use denote.RawPtr.{Ptr}
 use Rattle.ruvkhiska_c.specs.Statuses.{Refuses, PreparedOf}
+use Rattle.ruvkhiska_c.specs.Pointing.{PointsTo}
 
 -- as a number of C
 abbrev pub in_c : ℤ → ℤ
@@ -23,6 +25,7 @@ status_in_c (SchemaSyntax _ _ _) = refl
 status_in_c (SchemaFault _ _ _) = refl
 status_in_c (LinkFault _ _ _) = refl
 status_in_c UnknownRoot = refl
+status_in_c Stamp = refl
 status_in_c (DocSyntax _ _) = refl
 status_in_c (Invalid _ _) = refl
 status_in_c (PerFault _ _) = refl
@@ -60,12 +63,12 @@ module _ {A : Type 0} (due : Set × ℕ → Result A Outcome → Type 0) (value 
 
 -- what is given, where the converter is open
 pub answer_given : (due : Set × ℕ → Result (List ℕ) Outcome → Type 0) (value : Option (Set × ℕ)) (p : Set × ℕ) (is : value ≡ Some p) (result : ℤ)
-    {C : Type 0} (message : C → Message) (v : Result C Outcome) (given : Option Message) (count : ℕ) (Same : Type 0) (Line : Outcome → Type 0)
+    {C : Type 0} (message : C → Message) (v : Result C Outcome) (given : Option Message) (start : Ptr) (count : ℕ) (Same : Type 0) (Line : Outcome → Type 0)
     → Answers (λ b. (message b).bytes.items) (due p) NoMemory v
-    → MatchResult v (λ b. (result ≡ pos 0) × (given ≡ Some (message b)) × (count ≡ length (message b).bytes.items)) (λ o. (result ≡ pos (status o)) × Same × Line o)
+    → MatchResult v (λ b. (result ≡ pos 0) × (given ≡ Some (message b)) × PointsTo start count (message b)) (λ o. (result ≡ pos (status o)) × Same × Line o)
     → IfErr v (λ _. result ≢ pos 0) → in_c result ≡ pos 0
-    → IfSome value (λ q. IsSomeAnd given (λ m. due q (Ok m.bytes.items) × (count ≡ length m.bytes.items)))
-answer_given due value p is result message (Ok b) given count Same Line answers (zero, gives, counts) other done =
-    subst (λ v. IfSome v (λ q. IsSomeAnd given (λ m. due q (Ok m.bytes.items) × (count ≡ length m.bytes.items)))) (sym is)
-    (subst (λ g. IsSomeAnd g (λ m. due p (Ok m.bytes.items) × (count ≡ length m.bytes.items))) (sym gives) (answers, counts))
-answer_given due value p is result message (Err o) given count Same Line answers (told, same, line) other done = absurd (other (told ∙ sym (same_in_c o result told) ∙ done))
+    → IfSome value (λ q. IsSomeAnd given (λ m. due q (Ok m.bytes.items) × PointsTo start count m))
+answer_given due value p is result message (Ok b) given start count Same Line answers (zero, gives, counts) other done =
+    subst (λ v. IfSome v (λ q. IsSomeAnd given (λ m. due q (Ok m.bytes.items) × PointsTo start count m))) (sym is)
+    (subst (λ g. IsSomeAnd g (λ m. due p (Ok m.bytes.items) × PointsTo start count m)) (sym gives) (answers, counts))
+answer_given due value p is result message (Err o) given start count Same Line answers (told, same, line) other done = absurd (other (told ∙ sym (same_in_c o result told) ∙ done))

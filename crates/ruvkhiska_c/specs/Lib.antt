@@ -1,4 +1,5 @@
 pub mod Kept
 pub mod Listed
 pub mod Given
+pub mod Pointing
 pub mod Statuses

@@ -1,4 +1,4 @@
--- What a call answers with its status and its complaint.
+-- What a call returns with its status, its complaint and its answer.
 use Rattle.std.specs.Prelude.{◌≡◌, ◌⊎◌, ℕ, ℤ, pos, ◌==◌, IsUtf8, List, [], take, Option, Some, None, Result, Ok, Err, if◌then◌else◌}
 use Rattle.base_texts.specs.declared.texts.Name.{Name}
 use Rattle.schema_components.specs.SetParts.{SetParts}
@@ -12,7 +12,7 @@ use Rattle.transcode_words.specs.Status.{status}
 use Rattle.transcode_core.specs.Due.{Opened, Encoded, Documented}
 use Rattle.transcode_messages.specs.Messages.{names_of, IsLine}
 
--- A refusal that is due, or want of memory: the status is that of the program, and the complaint its line, or nothing.
+-- A required rejection, or `OutOfMemory`: the status is that of the program, and the complaint its line. With `Usage` it is empty.
 abbrev pub Refuses : {A : Type 0} → (Result A Outcome → Type 0) → ℤ → List ℕ → Type 0
 Refuses due result complaint = (o : Outcome) × (result ≡ pos (status o)) × IsLine o complaint × ((due (Err o) × IsRefusal o) ⊎ NoMemory o)
 

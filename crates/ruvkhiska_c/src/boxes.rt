@@ -1,4 +1,4 @@
-//! What is made of files and of messages, in boxes.
+//! The results of files and of messages, in boxes.
 ghost use Rattle.std.specs.Prelude.{◌≡◌, Some, IfOk, IfSome, MatchOption, IsUtf8};
 ghost use Rattle.transcode_words.specs.Answers.{Answers, NoMemory};
 ghost use Rattle.transcode_words.specs.Seen.{root_seen};
@@ -10,7 +10,7 @@ use std::alloc::Global;
 use std::str::from_utf8;
 use transcode_messages::{Message, Outcome, Prepared, Root, SchemaFiles, Syntax, decode, encode};
 
-// The syntax of that number.
+// Returns the syntax with this number.
 fn syntax_of(number: u32) -> Option<Syntax>
     ensures { result ≡ syntax_numbered number }
 {
@@ -25,7 +25,7 @@ fn syntax_of(number: u32) -> Option<Syntax>
     }
 }
 
-// The root, if both are UTF-8.
+// Returns the root, if both are UTF-8.
 fn root_of<'a>(space: &'a [u8], local: &'a [u8]) -> Option<Root<'a>>
     ensures { MatchOption result (IsUtf8 space.now → IsUtf8 local.now → ⊥)
         (λ root. IsUtf8 space.now × IsUtf8 local.now × (root_seen root ≡ record { space = space.now; local = local.now })) }
@@ -39,7 +39,7 @@ fn root_of<'a>(space: &'a [u8], local: &'a [u8]) -> Option<Root<'a>>
     Some(Root { space, local })
 }
 
-/// What is prepared of the files and the root.
+/// Prepares the files and the root.
 pub(crate) fn prepare_boxed(
     alloc: Global,
     files: &SchemaFiles,
@@ -51,16 +51,14 @@ pub(crate) fn prepare_boxed(
     let Some(root) = root_of(space, local) else {
         return Err(Outcome::Usage);
     };
-    match files.prepare(alloc, root) {
-        Ok(prepared) => match Box::new(alloc, prepared) {
-            Ok(b) => Ok(b),
-            Err(_) => Err(Outcome::OutOfMemory),
-        },
-        Err(outcome) => Err(outcome),
+    let prepared = files.prepare(alloc, root)?;
+    match Box::new(alloc, prepared) {
+        Ok(b) => Ok(b),
+        Err(_) => Err(Outcome::OutOfMemory),
     }
 }
 
-/// The encoding of a document.
+/// Returns the encoding of a document.
 pub(crate) fn encode_boxed(
     alloc: Global,
     prepared: &Prepared,
@@ -72,16 +70,14 @@ pub(crate) fn encode_boxed(
     let Some(syntax) = syntax_of(syntax) else {
         return Err(Outcome::Usage);
     };
-    match encode(alloc, prepared, syntax, document) {
-        Ok(message) => match Box::new(alloc, message) {
-            Ok(b) => Ok(b),
-            Err(_) => Err(Outcome::OutOfMemory),
-        },
-        Err(outcome) => Err(outcome),
+    let message = encode(alloc, prepared, syntax, document)?;
+    match Box::new(alloc, message) {
+        Ok(b) => Ok(b),
+        Err(_) => Err(Outcome::OutOfMemory),
     }
 }
 
-/// The document of an encoding.
+/// Returns the document of an encoding.
 pub(crate) fn decode_boxed(
     alloc: Global,
     prepared: &Prepared,
@@ -94,11 +90,9 @@ pub(crate) fn decode_boxed(
     let Some(syntax) = syntax_of(syntax) else {
         return Err(Outcome::Usage);
     };
-    match decode(alloc, prepared, syntax, octets) {
-        Ok(message) => match Box::new(alloc, message) {
-            Ok(b) => Ok(b),
-            Err(_) => Err(Outcome::OutOfMemory),
-        },
-        Err(outcome) => Err(outcome),
+    let message = decode(alloc, prepared, syntax, octets)?;
+    match Box::new(alloc, message) {
+        Ok(b) => Ok(b),
+        Err(_) => Err(Outcome::OutOfMemory),
     }
 }

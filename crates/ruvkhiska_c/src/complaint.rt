@@ -1,12 +1,15 @@
-//! What is told of a refusal.
-ghost use Rattle.std.specs.Prelude.{◌≡◌, ◌≢◌, ◌⊎◌, pos, take};
+//! The complaint about a rejection.
+ghost use Rattle.std.specs.Prelude.{◌≡◌, ◌≢◌, ◌⊎◌, ◌≤◌, length, pos, take};
 ghost use Rattle.transcode_words.specs.Answers.{IsRefusal, NoMemory};
 ghost use Rattle.transcode_words.specs.Status.{status};
 ghost use Rattle.transcode_messages.specs.Messages.{IsLine};
 
-use transcode_messages::{LINE_ROOM, Outcome, line_of};
+use transcode_messages::{Outcome, line_of};
 
-/// In C `struct { size_t count; uint8_t text[128]; }`: the line of a refusal.
+// The room for a line, in bytes: each line but that of `Usage` fits.
+const LINE_ROOM: usize = 128;
+
+/// In C `struct { size_t count; uint8_t text[128]; }`: the line of a rejection.
 #[repr(C)]
 #[derive(Drop)]
 pub struct Complaint {
@@ -14,7 +17,7 @@ pub struct Complaint {
     pub text: [u8; LINE_ROOM],
 }
 
-// Puts the line.
+// Writes the line.
 fn put(line: &[u8], complaint: &mut Complaint)
     requires { length line.now ≤ 128 }
     ensures { take complaint.new.count complaint.new.text ≡ line.now }
@@ -23,9 +26,17 @@ fn put(line: &[u8], complaint: &mut Complaint)
     complaint.text[..line.len()].copy_from_slice(line);
 }
 
-ghost use Rattle.std.specs.Prelude.{length, ◌≤◌};
+// Writes the line of the outcome; of `Usage`, whose line is about the program's words, nothing.
+fn put_line(outcome: Outcome, complaint: &mut Complaint)
+    ensures { IsLine outcome (take complaint.new.count complaint.new.text) }
+{
+    match outcome {
+        Outcome::Usage => put(b"", complaint),
+        _ => put(line_of(&outcome).as_slice(), complaint),
+    }
+}
 
-/// Tells the refusal, and its status.
+/// Reports the rejection, and returns its status.
 pub(crate) fn tell(outcome: Outcome, complaint: &mut Complaint) -> i32
     requires { IsRefusal outcome ⊎ NoMemory outcome }
     ensures status { result ≡ pos (status outcome) }
@@ -33,7 +44,6 @@ pub(crate) fn tell(outcome: Outcome, complaint: &mut Complaint) -> i32
     ensures not_done { result ≢ pos 0 }
     ensures not_closed { result ≢ pos 40 }
 {
-    let line = line_of(&outcome);
-    put(line.as_slice(), complaint);
+    put_line(outcome, complaint);
     i32::from(outcome.status())
 }

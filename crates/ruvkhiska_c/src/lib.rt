@@ -11,6 +11,7 @@ ghost use Rattle.transcode_core.specs.Due.{Checked};
 ghost use Rattle.transcode_core.specs.ReadBack.{DocumentedBack};
 ghost use Rattle.transcode_messages.specs.Messages.{IsLine};
 ghost use Rattle.ruvkhiska_c.specs.Statuses.{Refuses, files_in, PreparedOf, syntax_numbered, EncodedBy, DocumentedBy};
+ghost use Rattle.ruvkhiska_c.specs.Pointing.{PointsTo};
 
 mod boxes;
 mod complaint;
@@ -182,7 +183,7 @@ fn hand_out(
 ) -> i32
     requires { IfErr answered (λ o. IsRefusal o ⊎ NoMemory o) }
     ensures answer { MatchResult answered
-        (λ b. (result ≡ pos 0) × (answer.new.given.value ≡ Some b.value) × (answer.new.count ≡ length b.value.bytes.items))
+        (λ b. (result ≡ pos 0) × (answer.new.given.value ≡ Some b.value) × PointsTo answer.new.start answer.new.count b.value)
         (λ o. (result ≡ pos (status o)) × (answer.new.given.value ≡ answer.old.given.value) × IsLine o (take complaint.new.count complaint.new.text)) }
     ensures not_closed { result ≢ pos 40 }
     ensures not_done { IfErr answered (λ _. result ≢ pos 0) }
@@ -211,7 +212,7 @@ pub extern "C" fn ruvkhiska_encode(
     ensures same { converter.new.kept.value ≡ converter.old.kept.value }
     ensures is_closed { (result ≡ pos 40) ↔ (converter.old.kept.value ≡ None) }
     ensures given { result ≡ pos 0 → IfSome converter.old.kept.value (λ p. IsSomeAnd answer.new.given.value (λ m.
-        EncodedBy syntax (prepared_seen p) document.now (Ok m.bytes.items) × (answer.new.count ≡ length m.bytes.items))) }
+        EncodedBy syntax (prepared_seen p) document.now (Ok m.bytes.items) × PointsTo answer.new.start answer.new.count m)) }
     ensures refused { result ≢ pos 0 → IfSome converter.old.kept.value (λ p. Refuses (EncodedBy syntax (prepared_seen p) document.now) result (take complaint.new.count complaint.new.text)) }
     ensures unchanged { result ≢ pos 0 → answer.new.given.value ≡ answer.old.given.value }
     ensures quiet { (result ≡ pos 0) ⊎ (result ≡ pos 40) → complaint.new.count ≡ 0 }
@@ -240,7 +241,7 @@ pub extern "C" fn ruvkhiska_decode(
     ensures same { converter.new.kept.value ≡ converter.old.kept.value }
     ensures is_closed { (result ≡ pos 40) ↔ (converter.old.kept.value ≡ None) }
     ensures given { result ≡ pos 0 → IfSome converter.old.kept.value (λ p. IsSomeAnd answer.new.given.value (λ m.
-        DocumentedBy syntax (prepared_seen p) octets.now (Ok m.bytes.items) × (answer.new.count ≡ length m.bytes.items))) }
+        DocumentedBy syntax (prepared_seen p) octets.now (Ok m.bytes.items) × PointsTo answer.new.start answer.new.count m)) }
     ensures back { result ≡ pos 0 → IfSome converter.old.kept.value (λ p. IsSomeAnd answer.new.given.value (λ m.
         IfSome (syntax_numbered syntax) (λ s. DocumentedBack s (prepared_seen p) (Some octets.now) m.bytes.items))) }
     ensures refused { result ≢ pos 0 → IfSome converter.old.kept.value (λ p. Refuses (DocumentedBy syntax (prepared_seen p) octets.now) result (take complaint.new.count complaint.new.text)) }

@@ -1,5 +1,7 @@
-//! What C has between calls: slots that know whether they are open.
-ghost use Rattle.std.specs.Prelude.{◌≡◌, ◌↔◌, IsTrue, IsSome, None, Some, length};
+//! The slots that C has between calls.
+ghost use Rattle.std.specs.Prelude.{◌≡◌, ◌↔◌, IsTrue, IsSome, None, Some};
+ghost use Rattle.std.specs.Option.{ForSome};
+ghost use Rattle.ruvkhiska_c.specs.Pointing.{PointsTo};
 
 use crate::given::Given;
 use crate::kept::Kept;
@@ -31,10 +33,11 @@ pub struct Files {
 #[derive(Drop)]
 pub struct Bytes {
     pub(crate) is_given: bool,
-    pub(crate) data: *const u8,
+    pub(crate) start: *const u8,
     pub(crate) count: usize,
     pub(crate) given: Given,
     ghost tied: { IsTrue is_given ↔ IsSome given.value },
+    ghost points: { ForSome given.value (λ m. PointsTo start count m) },
 }
 
 pub(crate) fn closed(alloc: Global) -> Converter
@@ -92,7 +95,7 @@ pub(crate) fn nothing(alloc: Global) -> Bytes
 {
     Bytes {
         is_given: false,
-        data: null(),
+        start: null(),
         count: 0,
         given: Given::none(alloc),
     }
@@ -100,13 +103,13 @@ pub(crate) fn nothing(alloc: Global) -> Bytes
 
 pub(crate) fn give(b: Box<Message>) -> Bytes
     ensures value { result.given.value ≡ Some b.value }
-    ensures count { result.count ≡ length b.value.bytes.items }
+    ensures points { PointsTo result.start result.count b.value }
 {
-    let data = b.bytes.as_ptr();
+    let start = b.bytes.as_ptr();
     let count = b.bytes.len();
     Bytes {
         is_given: true,
-        data,
+        start,
         count,
         given: Given::of(b),
     }
@@ -115,7 +118,7 @@ pub(crate) fn give(b: Box<Message>) -> Bytes
 pub(crate) fn free(answer: Bytes) {
     let Bytes {
         is_given,
-        data: _,
+        start: _,
         count: _,
         given,
     } = answer;

@@ -1,9 +1,8 @@
 -- What was written of a document is taken again, and what is written of this has the same treated items.
-use Rattle.std.proofs.Common.{◌≡◌, ℕ, ◌≤◌, List, length, refl, sym, ◌∙◌, subst, inr, Option, Some, Ok}
+use Rattle.std.proofs.Common.{◌≡◌, ℕ, ◌≤◌, List, length, refl, sym, ◌∙◌, subst, Option, Some, Ok}
 use Rattle.base_trees.specs.Rose.{Rose}
 use Rattle.xml_items.specs.declared.label.ItemLabel.{ItemLabel}
 use Rattle.xml_read.specs.Documents.{DocOf}
-use Rattle.xml_read.proofs.PieceLaws.{PieceLaws}
 use Rattle.xml_write.specs.ReadBack.{ReadsAs}
 use Rattle.xml_write.specs.Written.{written}
 use Rattle.xml_items.specs.Plain.{Plain}
@@ -14,26 +13,20 @@ use Rattle.simple_types.specs.declared.labels.ValueLabel.{ValueLabel}
 use Rattle.value_laws.specs.SoundItems.{DocumentsOfValues}
 use Rattle.schema_components.specs.SetParts.{SetParts}
 use Rattle.validity_rules.specs.Valid.{Valid}
-use Rattle.transcode_words.specs.declared.outcome.Outcome.TheVariants.{Done}
 use Rattle.transcode_words.specs.declared.tasks.Syntax.{Syntax}
-use Rattle.transcode_words.specs.declared.tasks.Task.TheVariants.{Send, Receive}
 use Rattle.transcode_core.specs.Syntaxes.{AllSyntaxes}
 use Rattle.transcode_core.specs.Steps.{RootType, Typed, Decoded}
-use Rattle.transcode_words.specs.Words.{Asked, Serve}
-use Rattle.transcode_core.specs.Due.{ItemsIn, Encoded, Documented, Answered, Due}
-use Rattle.transcode_core.specs.ReadBack.{DecodedBack, IsValidText, DocumentedBack, AnsweredBack, ReadBack}
-use Rattle.transcode_core.specs.Again.{AreThereAndBack, AreSameDocuments}
+use Rattle.transcode_core.specs.Due.{ItemsIn, Encoded, Documented}
+use Rattle.transcode_core.specs.ReadBack.{DecodedBack, IsValidText, DocumentedBack}
 use Rattle.transcode_core.proofs.Octets.{value_in, whole_decoded, decoded_whole, one_whole}
-use Rattle.transcode_core.proofs.Single.{Typed-single, Opened-single, ok_inj, some_inj}
-use Rattle.transcode_core.proofs.Deciding.{same_request}
-use Rattle.transcode_core.proofs.Verdicts.{due_done}
+use Rattle.transcode_core.proofs.Single.{Typed-single, ok_inj, some_inj}
 
 same_type : (opened : SetParts × ℕ) (a b : RootType) → Typed opened (Ok a) → Typed opened (Ok b) → b ≡ a
 same_type opened a b p q = ok_inj b a (Typed-single opened (Ok b) (Ok a) q p)
 
 module _ (documents : DocumentsOfValues) (opened : SetParts × ℕ) where
   -- a text that is read as the items of a value is valid with them as its treated items
-  valid_text : (type : RootType) → Typed opened (Ok type) → (v : Rose ValueLabel) → Fits type.assignments type.number v
+  pub valid_text : (type : RootType) → Typed opened (Ok type) → (v : Rose ValueLabel) → Fits type.assignments type.number v
       → (items : Rose Plain) → Xer type.assignments type.number v ≡ Some items → (text : List ℕ) → ReadsAs text (unplaced items) → IsValidText opened text items
   valid_text type (s, of_s, h) v fits items is text reads =
       let M = type.assignments in
@@ -56,7 +49,7 @@ pub taken_in_set : (syntax : Syntax) (opened : SetParts × ℕ) (document octets
 taken_in_set syntax opened document octets (type, typed, (items, read, (v, (treated, judged, valued), encodes))) few =
     (written (unplaced treated), (type, typed, (v, decoded_whole type syntax octets v (few, valued.0, encodes.0), (treated, valued.1, refl))))
 
-document_of : (document : List ℕ) (items : Rose ItemLabel) → ItemsIn (Some document) (Ok items) → DocOf document items
+pub document_of : (document : List ℕ) (items : Rose ItemLabel) → ItemsIn (Some document) (Ok items) → DocOf document items
 document_of document items (bytes, (is, few), read) = subst (λ (b : List ℕ). DocOf b items) (sym is) read
 
 -- its treated items are those of the first
@@ -72,27 +65,3 @@ same_in_set laws syntax opened document octets text (type, (s, of_s, h), (items,
     subst (λ u. Xer type.assignments type.number u ≡ Some found) value (subst (λ (t : RootType). Xer t.assignments t.number w ≡ Some found) same back.back.of_value) in
     let e : found ≡ treated = some_inj found treated (sym its ∙ valued.1) in
     (treated, (items, document_of document items read, judged), subst (λ b. IsValidText opened text b) e back.valid)
-
--- by words
-module _ (entries : List (List ℕ × List ℕ)) (there back : List (List ℕ)) (ways : AreThereAndBack there back) where
-  sent : (left : Option (List ℕ)) (octets : List ℕ) → Due there (Some entries) left Done octets → Answered (Some entries) left (Serve (Send ways.syntax) ways.root ways.files) (Ok octets)
-  sent left octets due =
-      let d = due_done there (Some entries) left octets due in
-      subst (λ (r : Asked). Answered (Some entries) left r (Ok octets)) (same_request there d.0 (Serve (Send ways.syntax) ways.root ways.files) d.1 ways.sends) d.2
-
-  pub taken : (document octets : List ℕ) → Due there (Some entries) (Some document) Done octets → length octets ≤ 16777216
-      → (text : List ℕ) × Due back (Some entries) (Some octets) Done text
-  taken document octets due few =
-      let is = sent (Some document) octets due in
-      let text = taken_in_set ways.syntax is.0 document octets is.2 few in
-      (text.0, inr (Serve (Receive ways.syntax) ways.root ways.files, ways.receives, (is.0, is.1, text.1)))
-
-  pub same : PieceLaws → AllSyntaxes → (document octets text : List ℕ) → Due there (Some entries) (Some document) Done octets → ReadBack back (Some entries) (Some octets) text
-      → AreSameDocuments (Some entries) ways.root ways.files document text
-  same pieces laws document octets text due (request, asks, read) =
-      let is = sent (Some document) octets due in
-      let told : AnsweredBack (Some entries) (Some octets) (Serve (Receive ways.syntax) ways.root ways.files) text =
-      subst (λ (r : Asked). AnsweredBack (Some entries) (Some octets) r text) (same_request back request (Serve (Receive ways.syntax) ways.root ways.files) asks ways.receives) read in
-      let one : told.0 ≡ is.0 = ok_inj told.0 is.0 (Opened-single pieces entries ways.root ways.files (Ok told.0) (Ok is.0) told.1 is.1) in
-      let items = same_in_set laws ways.syntax is.0 document octets text is.2 (subst (λ o. DocumentedBack ways.syntax o (Some octets) text) one told.2) in
-      record { opened = is.0; is_opened = is.1; treated = items.0; first_valid = items.1; second_valid = items.2 }

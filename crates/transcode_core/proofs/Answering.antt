@@ -37,45 +37,35 @@ use Rattle.map_subjects.specs.declared.subjects.Subject.TheVariants as subject
 use Rattle.map_assignments.specs.Mapped.{IsMapOf, root_at}
 use Rattle.map_assignments.proofs.Bodies.{global-named}
 use Rattle.map_assignments.proofs.Whole.{root-within}
-use Rattle.module_print.specs.Printed.{printed}
 use Rattle.module_text.specs.declared.reasons.ModuleWhy.TheVariants as module_why
 use Rattle.module_read.specs.Tells.{SomeAnswer}
-use Rattle.module_read.specs.Summary as back
 use Rattle.xer_items.specs.Items.{Xer}
 use Rattle.schema_components.specs.Small.{AreSmall}
 use Rattle.value_laws.specs.Statements.{ValuesOfItems, ItemsOfValues}
 use Rattle.transcode_words.specs.declared.tasks.Syntax.{Syntax}
 use Rattle.transcode_words.specs.declared.tasks.Syntax.TheVariants.{Aligned, Unaligned, Der}
-use Rattle.transcode_words.specs.declared.tasks.Task.{Task}
-use Rattle.transcode_words.specs.declared.tasks.Task.TheVariants.{Check, Send, Receive}
-use Rattle.transcode_words.specs.Tasks.{reads}
 use Rattle.transcode_core.specs.Syntaxes.{BeginsWith, AreOctetsOf, IsOneOfTwo, AllSyntaxes}
-use Rattle.transcode_core.specs.Private.Decided.{Decided}
-use Rattle.transcode_core.proofs.Verdicts.{done_due, refusal_due_of, decided_never}
 use Rattle.transcode_words.specs.declared.outcome.Outcome.{Outcome}
-use Rattle.transcode_words.specs.declared.outcome.Outcome.TheVariants.{Done, Usage, SchemaSyntax, SchemaFault, DocSyntax, LinkFault, UnknownRoot, Invalid, ModuleFault, Trailing, TooLong, TooManyNodes, LoadFault}
+use Rattle.transcode_words.specs.declared.outcome.Outcome.TheVariants.{SchemaSyntax, SchemaFault, DocSyntax, LinkFault, UnknownRoot, Invalid, ModuleFault, Trailing, TooLong, TooManyNodes, LoadFault}
 use Rattle.transcode_words.specs.Order.{Give, Found, Then}
-use Rattle.transcode_core.specs.Steps.{Loaded, Read, Faultless, SchemaIn, Schema, Schemas, AreParts, Linked, number_named, Rooted, Printed, ModuleIn, Input, AreLinked, Judged, RootType, IsTypeOf, IsRootType, Typed, Valued, ValueIn, Encoding, readable, fault_in, Streamed, DecodedOf, Decoded, Written}
-use Rattle.transcode_core.specs.Due.{Requested, SetIn, Opened, ItemsIn, Checked, Encoded, Documented, Served, TrialSent, Tried, Answered, Due}
-use Rattle.transcode_words.specs.Words.{Asked, Show, ShowBack, Serve, Trial, asked}
+use Rattle.transcode_core.specs.Steps.{Loaded, Read, Faultless, SchemaIn, Schema, Schemas, AreParts, Linked, number_named, Rooted, ModuleIn, Input, AreLinked, Judged, RootType, IsTypeOf, IsRootType, Typed, Valued, ValueIn, Encoding, readable, fault_in, Streamed, DecodedOf, Decoded, Written}
+use Rattle.transcode_core.specs.Due.{SetIn, Opened, ItemsIn, Checked, Encoded, TrialSent, Tried}
 use Rattle.transcode_core.specs.Trial.{trial_name, trial_schema, trial_root, trial_document, summary}
-use Rattle.transcode_core.specs.Causes.{reads_input, ReadsInput, IsTold, AreRead, IsInput, IsInputOf}
-use Rattle.transcode_core.proofs.Octets.{value_in}
 use Rattle.transcode_core.proofs.Roots.{number-within}
 
 -- an outcome or a result
 abbrev pub IsAnswered : {A : Type 0} → (Result A Outcome → Type 0) → Type 0
 IsAnswered {A} step = (v : Result A Outcome) × step v
 
-Give-answered : {A : Type 0} (a : A) → IsAnswered (Give a)
+pub Give-answered : {A : Type 0} (a : A) → IsAnswered (Give a)
 Give-answered a = (Ok a, refl)
 
-Found-answered : {A : Type 0} (found : Option A) (refusal : Outcome) → IsAnswered (Found found refusal)
+pub Found-answered : {A : Type 0} (found : Option A) (refusal : Outcome) → IsAnswered (Found found refusal)
 Found-answered (Some a) refusal = (Ok a, refl)
 Found-answered None refusal = (Err refusal, (refl, refl))
 
 -- the next step may use what the first passed on
-Then-with : {A B : Type 0} (first : Result A Outcome → Type 0) (next : A → Result B Outcome → Type 0)
+pub Then-with : {A B : Type 0} (first : Result A Outcome → Type 0) (next : A → Result B Outcome → Type 0)
     → IsAnswered first → ((a : A) → first (Ok a) → IsAnswered (next a)) → IsAnswered (Then first next)
 Then-with {A} {B} first next (Ok a, p) each = let w = each a p in by w.0 w.1
   where
@@ -86,7 +76,7 @@ Then-with first next (Err o, p) each = (Err o, inl p)
 
 -- ---- files
 
-loaded_from : (entries : List (List ℕ × List ℕ)) (k : ℕ) (name : List ℕ) (found : Option (List ℕ)) → beside name entries ≡ found → IsAnswered (Loaded (Some entries) k name)
+pub loaded_from : (entries : List (List ℕ × List ℕ)) (k : ℕ) (name : List ℕ) (found : Option (List ℕ)) → beside name entries ≡ found → IsAnswered (Loaded (Some entries) k name)
 loaded_from entries k name None is = (Err (LoadFault k), inr (refl, is))
 loaded_from entries k name (Some bytes) is = elim (cases_lt 16777216 (length bytes)) [
   | inl long ↦ (Err (TooLong k), inl (refl, (bytes, is, long)))
@@ -122,7 +112,7 @@ module _ (document : (bytes : List ℕ) → ((x : tree.Rose ItemLabel) × DocOf 
       Then-with (Schema (Some entries) k name) (λ first. Then (Schemas (Some entries) (k + 1) names) (λ others. Give (first ∷ others))) (Schema-answered entries k name) (λ first is.
       Then-with (Schemas (Some entries) (k + 1) names) (λ others. Give (first ∷ others)) (Schemas-answered entries (k + 1) names) (λ others rest. Give-answered (first ∷ others)))
 
-  ItemsIn-answered : (left : List ℕ) → IsAnswered (ItemsIn (Some left))
+  pub ItemsIn-answered : (left : List ℕ) → IsAnswered (ItemsIn (Some left))
   ItemsIn-answered left =
       Then-with (Input (Some left)) (λ bytes. Read (λ at why. DocSyntax at why) bytes) (Input-answered left) (λ bytes input. Read-answered (λ at why. DocSyntax at why) bytes)
 
@@ -137,7 +127,7 @@ of_utf8 some bytes few utf8 = elim (some bytes few utf8) [
   | inr bad ↦ (Err (ModuleFault bad.0 bad.1), (bad.0, bad.1, bad.2, refl))
 ]
 
-ModuleIn-answered : SomeAnswer → (bytes : List ℕ) → length bytes ≤ 16777216 → IsAnswered (ModuleIn bytes)
+pub ModuleIn-answered : SomeAnswer → (bytes : List ℕ) → length bytes ≤ 16777216 → IsAnswered (ModuleIn bytes)
 ModuleIn-answered some bytes few = elim (is_utf8 bytes) as (λ (b : Bool). is_utf8 bytes ≡ b → IsAnswered (ModuleIn bytes)) [
   | true ↦ (λ e. of_utf8 some bytes few (IsUtf8-from_is_utf8 bytes e))
   | false ↦ (λ e. no_utf8 bytes (λ u. let yes : is_utf8 bytes ≡ true = is_utf8-from_IsUtf8 bytes u in absurd cc))
@@ -161,10 +151,7 @@ pub record HasMap (parts : SetParts) : Type 0 where
   pub is_module : IsModule map
   pub is_bounded : IsBounded map
 
-Printed-answered : (parts : SetParts) → HasMap parts → IsAnswered (Printed parts)
-Printed-answered parts h = (Ok (printed h.map), (h.set, h.of_set, h.map, h.is_map, refl))
-
-are_linked : (parts : SetParts) → HasMap parts → AreLinked parts
+pub are_linked : (parts : SetParts) → HasMap parts → AreLinked parts
 are_linked parts h = (h.set, h.linked, h.of_set)
 
 -- ---- documents
@@ -176,7 +163,7 @@ module _ (valid : AtLeastOne) where
     | inr fault ↦ (Err (Invalid fault.0 fault.1), ((s, linked, refl), (fault.0, fault.1, fault.2, refl)))
   ]
 
-  Judged-answered : (parts : SetParts) (n : ℕ) → AreLinked parts → (items : tree.Rose ItemLabel) → AreItems items → IsAnswered (Judged parts n items)
+  pub Judged-answered : (parts : SetParts) (n : ℕ) → AreLinked parts → (items : tree.Rose ItemLabel) → AreItems items → IsAnswered (Judged parts n items)
   Judged-answered parts n (s, linked, of_s) items are = subst (λ p. IsAnswered (Judged p n items)) of_s (judged_in s linked n items are)
 
 -- ---- types and values
@@ -197,7 +184,7 @@ type_in s linked small M is_map is_module bounded n global = (
   },
 )
 
-Typed-answered : (parts : SetParts) (n : ℕ) → HasMap parts → n < parts.globals → IsAnswered (Typed (parts, n))
+pub Typed-answered : (parts : SetParts) (n : ℕ) → HasMap parts → n < parts.globals → IsAnswered (Typed (parts, n))
 Typed-answered parts n h global =
     let below : n < h.set.globals = subst (λ (p : SetParts). n < p.globals) (sym h.of_set) global in
     let type = type_in h.set h.linked h.small h.map h.is_map h.is_module h.is_bounded n below in
@@ -211,7 +198,7 @@ module _ (values : ValuesOfItems) (parts : SetParts) (n : ℕ) (type : RootType)
       let v = values s M h.linked h.small h.is_map n h.global items b are (subst (λ p. Valid p n items b) (sym of_s) valid) in
       (v.0, subst (λ t. Fits M t v.0) (sym h.number_is) v.1, subst (λ t. Xer M t v.0 ≡ Some b) (sym h.number_is) v.2)
 
-  Valued-answered : IsRootType parts n type → (items : tree.Rose ItemLabel) → AreItems items → (b : Rose Plain) → Judged parts n items (Ok b) → IsAnswered (Valued type b)
+  pub Valued-answered : IsRootType parts n type → (items : tree.Rose ItemLabel) → AreItems items → (b : Rose Plain) → Judged parts n items (Ok b) → IsAnswered (Valued type b)
   Valued-answered is items are b judged =
       let v = valued_in is items are b judged.1 in
       elim (cases_lt 1048576 (node_count v.0)) [
@@ -221,7 +208,7 @@ module _ (values : ValuesOfItems) (parts : SetParts) (n : ℕ) (type : RootType)
 
 -- ---- octets
 
-Encoding-answered : AllSyntaxes → (syntax : Syntax) (type : RootType) (v : Rose ValueLabel) → IsAnswered (Encoding syntax type v)
+pub Encoding-answered : AllSyntaxes → (syntax : Syntax) (type : RootType) (v : Rose ValueLabel) → IsAnswered (Encoding syntax type v)
 Encoding-answered laws syntax type v = let octets = (laws syntax).encodes type.assignments type.number v in (Ok octets.0, (octets.1, octets.2))
 
 module _ (laws : AllSyntaxes) (type : RootType) {s : Set} {n : ℕ} (h : IsTypeOf s n type) (octets : List ℕ) where
@@ -260,7 +247,7 @@ module _ (laws : AllSyntaxes) (type : RootType) {s : Set} {n : ℕ} (h : IsTypeO
       | inr has ↦ (Err has.0.refusal, (fine, inl (has.0, has.1, refl)))
     ]
 
-Decoded-answered : AllSyntaxes → (syntax : Syntax) (type : RootType) (s : Set) (n : ℕ) → IsTypeOf s n type → (octets : List ℕ) → AreOctetsOf syntax octets
+pub Decoded-answered : AllSyntaxes → (syntax : Syntax) (type : RootType) (s : Set) (n : ℕ) → IsTypeOf s n type → (octets : List ℕ) → AreOctetsOf syntax octets
     → IsAnswered (Decoded syntax type (Some octets))
 Decoded-answered laws Aligned type s n h octets fine = streamed_answered laws type h octets Aligned (λ _. tt)
 Decoded-answered laws Unaligned type s n h octets fine = streamed_answered laws type h octets Unaligned (λ _. tt)
@@ -268,7 +255,7 @@ Decoded-answered laws Der type s n h octets fine =
     Then-with (Input (Some octets)) (λ bytes. DecodedOf Der type bytes) (Input-answered octets) (λ bytes all.
     decoded_of_answered laws type h bytes Der (subst (λ xs. AreOctetsOf Der xs) all.0 fine))
 
-Written-answered : ItemsOfValues → (parts : SetParts) (n : ℕ) (type : RootType) → IsRootType parts n type → (v : Rose ValueLabel) → Fits type.assignments type.number v
+pub Written-answered : ItemsOfValues → (parts : SetParts) (n : ℕ) (type : RootType) → IsRootType parts n type → (v : Rose ValueLabel) → Fits type.assignments type.number v
     → IsAnswered (Written type v)
 Written-answered items parts n type (s, of_s, h) v fits =
     let M = type.assignments in
@@ -297,12 +284,12 @@ pub record SetLaws (entries : List (List ℕ × List ℕ)) : Type 0 where
       → (parts : SetParts) → AreParts documents parts → HasMap parts
 
 module _ (laws : Laws) (entries : List (List ℕ × List ℕ)) (sets : SetLaws entries) where
-  SetIn-answered : (files : List (List ℕ)) → IsAnswered (SetIn (Some entries) files)
+  pub SetIn-answered : (files : List (List ℕ)) → IsAnswered (SetIn (Some entries) files)
   SetIn-answered files =
       Then-with (Schemas (Some entries) 1 files) (λ documents. Linked documents) (Schemas-answered laws.document entries 1 files) (λ documents read.
       Linked-answered documents (laws.linking documents) (λ passed. sets.made files documents read passed))
 
-  has_map : (files : List (List ℕ)) (parts : SetParts) → SetIn (Some entries) files (Ok parts) → HasMap parts
+  pub has_map : (files : List (List ℕ)) (parts : SetParts) → SetIn (Some entries) files (Ok parts) → HasMap parts
   has_map files parts (documents, read, (passed, are)) = sets.mapped files documents read passed parts are
 
   Opened-answered : (root : Name) (files : List (List ℕ)) → IsAnswered (Opened (Some entries) root files)
@@ -310,18 +297,18 @@ module _ (laws : Laws) (entries : List (List ℕ × List ℕ)) (sets : SetLaws e
       Then-with (SetIn (Some entries) files) (λ parts. Then (Rooted root parts) (λ n. Give (parts, n))) (SetIn-answered files) (λ parts set.
       Then-with (Rooted root parts) (λ n. Give (parts, n)) (Found-answered (number_named root (take parts.globals parts.elements)) UnknownRoot) (λ n found. Give-answered (parts, n)))
 
-  record IsOpened (opened : SetParts × ℕ) : Type 0 where
-    map : HasMap opened.0
-    global : opened.1 < opened.0.globals
+  pub record IsOpened (opened : SetParts × ℕ) : Type 0 where
+    pub map : HasMap opened.0
+    pub global : opened.1 < opened.0.globals
 
   is_opened : (root : Name) (files : List (List ℕ)) (opened : SetParts × ℕ) → Opened (Some entries) root files (Ok opened) → IsOpened opened
   is_opened root files opened (parts, set, (n, found, is)) =
       subst IsOpened (sym is) (record { map = has_map files parts set; global = number-within root parts.globals parts.elements n found })
 
-  items_are : (left : List ℕ) (items : tree.Rose ItemLabel) → ItemsIn (Some left) (Ok items) → AreItems items
+  pub items_are : (left : List ℕ) (items : tree.Rose ItemLabel) → ItemsIn (Some left) (Ok items) → AreItems items
   items_are left items (bytes, (is, few), read) = laws.items bytes items read (omega (arith, few))
 
-  Checked-answered : (opened : SetParts × ℕ) → IsOpened opened → (left : List ℕ) → IsAnswered (Checked opened (Some left))
+  pub Checked-answered : (opened : SetParts × ℕ) → IsOpened opened → (left : List ℕ) → IsAnswered (Checked opened (Some left))
   Checked-answered opened h left =
       Then-with (ItemsIn (Some left)) (λ items. Then (Judged opened.0 opened.1 items) (λ _. Give [])) (ItemsIn-answered laws.document left) (λ items read.
       Then-with (Judged opened.0 opened.1 items) (λ _. Give []) (Judged-answered laws.valid opened.0 opened.1 (are_linked opened.0 h.map) items (items_are left items read))
@@ -336,51 +323,10 @@ module _ (laws : Laws) (entries : List (List ℕ × List ℕ)) (sets : SetLaws e
       Valued-answered laws.values opened.0 opened.1 type typed items (items_are left items read) treated judged)) (λ value valued.
       Encoding-answered laws.syntaxes syntax type value)))
 
-  Documented-answered : (syntax : Syntax) (opened : SetParts × ℕ) → IsOpened opened → (left : List ℕ) → AreOctetsOf syntax left → IsAnswered (Documented syntax opened (Some left))
-  Documented-answered syntax opened h left fine =
-      Then-with (Typed opened) (λ type. Then (Decoded syntax type (Some left)) (λ value. Written type value)) (Typed-answered opened.0 opened.1 h.map h.global) (λ type typed.
-      Then-with (Decoded syntax type (Some left)) (λ value. Written type value) (Decoded-answered laws.syntaxes syntax type typed.0 opened.1 typed.2 left fine) (λ value decoded.
-      Written-answered laws.items_of opened.0 opened.1 type typed value (value_in type syntax (Some left) value decoded).0))
-
-  Served-answered : (task : Task) (opened : SetParts × ℕ) → IsOpened opened → (left : List ℕ) → AreRead (reads task) (Some left) → IsAnswered (Served task opened (Some left))
-  Served-answered Check opened h left fine = Checked-answered opened h left
-  Served-answered (Send syntax) opened h left fine = Encoded-answered syntax opened h left
-  Served-answered (Receive syntax) opened h left fine = Documented-answered syntax opened h left fine
-
-  -- a task over files and an input that are told
-  task_answered : (task : Task) (root : Name) (files : List (List ℕ)) (left : List ℕ) → AreRead (reads task) (Some left)
-      → IsAnswered (Then (Opened (Some entries) root files) (λ opened. Served task opened (Some left)))
-  task_answered task root files left fine =
-      Then-with (Opened (Some entries) root files) (λ opened. Served task opened (Some left)) (Opened-answered root files) (λ opened is. Served-answered task opened (is_opened root files opened is) left fine)
-
-Tried-answered : Laws → SetLaws ((trial_name, trial_schema) ∷ []) → (lines : ℕ) → IsAnswered (Tried lines)
+pub Tried-answered : Laws → SetLaws ((trial_name, trial_schema) ∷ []) → (lines : ℕ) → IsAnswered (Tried lines)
 Tried-answered laws sets lines =
     Then-with (TrialSent lines) (λ octets. Give (summary lines (length (trial_document lines)) (length octets)))
-    (task_answered laws ((trial_name, trial_schema) ∷ []) sets (Send Aligned) trial_root (trial_name ∷ []) (trial_document lines) tt) (λ octets sent.
+    (Then-with (Opened (Some ((trial_name, trial_schema) ∷ [])) trial_root (trial_name ∷ [])) (λ opened. Encoded Aligned opened (Some (trial_document lines)))
+    (Opened-answered laws ((trial_name, trial_schema) ∷ []) sets trial_root (trial_name ∷ [])) (λ opened is.
+    Encoded-answered laws ((trial_name, trial_schema) ∷ []) sets Aligned opened (is_opened laws ((trial_name, trial_schema) ∷ []) sets trial_root (trial_name ∷ []) opened is) (trial_document lines))) (λ octets sent.
     Give-answered (summary lines (length (trial_document lines)) (length octets)))
-
-module _ (laws : Laws) (sets : (entries : List (List ℕ × List ℕ)) → SetLaws entries) (entries : List (List ℕ × List ℕ)) where
-  Answered-answered : (left : Option (List ℕ)) (request : Asked) → (reads_input request ≡ true → IsTold left) → IsInput left request → IsAnswered (Answered (Some entries) left request)
-  Answered-answered left (Show files) told fine =
-      Then-with (SetIn (Some entries) files) (λ parts. Printed parts) (SetIn-answered laws entries (sets entries) files) (λ parts set. Printed-answered parts (has_map laws entries (sets entries) files parts set))
-  Answered-answered left (ShowBack file) told fine =
-      Then-with (Loaded (Some entries) 1 file) (λ bytes. Then (ModuleIn bytes) (λ M. Give (back.summary M))) (loaded_from entries 1 file (beside file entries) refl) (λ bytes loaded.
-      Then-with (ModuleIn bytes) (λ M. Give (back.summary M)) (ModuleIn-answered laws.modules bytes loaded.1) (λ M told. Give-answered (back.summary M)))
-  Answered-answered (Some left) (Serve task root files) told fine = task_answered laws entries (sets entries) task root files left fine
-  Answered-answered None (Serve task root files) told fine = absurd (told refl)
-  Answered-answered left (Trial lines) told fine = Tried-answered laws (sets ((trial_name, trial_schema) ∷ [])) lines
-
-  -- at least one verdict is decided
-  Decided-answered : (words : List (List ℕ)) (left : Option (List ℕ)) → (ReadsInput words → IsTold left) → IsInputOf words left → IsAnswered (Decided words (Some entries) left)
-  Decided-answered words left told fine =
-      Then-with (Requested words) (λ request. Answered (Some entries) left request) (Found-answered (asked words) Usage) (λ request asks.
-      Answered-answered left request (λ reads. told (request, asks, reads)) (fine request asks))
-
-  -- at least one outcome is due, with a list of bytes
-  pub Due-answered : (words : List (List ℕ)) (left : Option (List ℕ)) → (ReadsInput words → IsTold left) → IsInputOf words left
-      → (o : Outcome) × (bytes : List ℕ) × Due words (Some entries) left o bytes
-  Due-answered words left told fine = let v = Decided-answered words left told fine in by v.0 v.1
-    where
-      by : (v : Result (List ℕ) Outcome) → Decided words (Some entries) left v → (o : Outcome) × (bytes : List ℕ) × Due words (Some entries) left o bytes
-      by (Ok bytes) is = (Done, bytes, done_due words (Some entries) left bytes is)
-      by (Err o) is = (o, [], refusal_due_of words (Some entries) left o (decided_never words (Some entries) left o is) is)

@@ -1,5 +1,5 @@
 -- How many elements the trial document has: its pieces are found one by one, and those that start an element are counted.
-use Rattle.std.proofs.Common.{◌≡◌, ℕ, zero, suc, ◌+◌, ◌*◌, ◌<◌, ◌≤◌, ◌^◌, Bool, true, false, cond, List, [], ◌∷◌, ◌++◌, length, get_or, refl, sym, ap, ◌∙◌, subst, arith, append_assoc, Option, Some, Ok}
+use Rattle.std.proofs.Common.{◌≡◌, ℕ, zero, suc, ◌+◌, ◌*◌, ◌<◌, ◌≤◌, ◌^◌, Bool, true, false, cond, List, [], ◌∷◌, ◌++◌, length, get_or, refl, sym, ap, ◌∙◌, subst, arith, append_assoc, Option, Some}
 use Rattle.std.specs.Prelude.{◌≢◌, ◌&&◌, IsUtf8, encode_utf8, codes, decimal, nat_le, ◌%◌}
 use Rattle.std.specs.List.{list_all}
 use Rattle.std.proofs.lemmas.Bool.{and_parts, leb-true}
@@ -25,12 +25,10 @@ use Rattle.xml_read.specs.Tokens.{Token, Opens, Closes, Words, tokens, tokens_al
 use Rattle.xml_read.specs.Documents.{told, Whole, DocOf}
 use Rattle.xml_read.proofs.PieceLaws.{PieceLaws}
 use Rattle.xml_items.specs.Counts.{element_count, elements_in}
-use Rattle.transcode_words.specs.Words.{Trial}
-use Rattle.transcode_words.proofs.FewFiles.{AreFew, few_asked}
+use Rattle.transcode_words.specs.Asked.{Trial}
 use Rattle.transcode_core.specs.Trial.{trial_line, trial_lines, trial_document}
-use Rattle.transcode_core.specs.Due.{Requested}
-use Rattle.transcode_core.specs.Causes.{ReadsItems, ReadsOfWords, StepsFrom}
-use Rattle.transcode_core.proofs.Deciding.{same_request}
+use Rattle.transcode_core.specs.Causes.{StepsFrom}
+use Rattle.transcode_core.specs.Requests.Answers.{LooksAt}
 
 -- ---- starts of elements
 
@@ -349,11 +347,8 @@ counted laws n few items d =
     omega (arith, one, two, three, last, each)
 
 -- so a trial that looked at each element took three steps for each line
-pub trial_steps : PieceLaws → (words : List (List ℕ)) (left : Option (List ℕ)) (before now lines : ℕ) → Requested words (Ok (Trial lines)) → StepsFrom (ReadsOfWords words left) before now
-    → before + 3 * lines ≤ now
-trial_steps laws words left before now lines asks (items, (request, also, reads), from) =
-    let own = subst (λ r. ReadsItems left r items) (same_request words request (Trial lines) also asks) reads in
-    let few : (1 ≤ lines) × (lines ≤ 100000) = subst AreFew asks (few_asked words) in
-    let doc = subst (λ d. DocOf d items) (sym own.1.0) own.2 in
-    let count = counted laws lines few.1 items doc in
+pub trial_steps : PieceLaws → (left : Option (List ℕ)) (before now lines : ℕ) → lines ≤ 100000 → StepsFrom (LooksAt (Trial lines) left) before now → before + 3 * lines ≤ now
+trial_steps laws left before now lines few (items, reads, from) =
+    let doc = subst (λ d. DocOf d items) (sym reads.1.0) reads.2 in
+    let count = counted laws lines few items doc in
     omega (arith, count, from)

@@ -10,7 +10,7 @@ use Rattle.record_stream.specs.Next.{within, fault_of, most_of}
 use Rattle.record_stream.proofs.Cutting.{one_cut_of}
 use Rattle.schema_components.specs.Components.{Set}
 use Rattle.transcode_words.specs.declared.outcome.Outcome.{Outcome}
-use Rattle.transcode_words.specs.declared.outcome.Outcome.TheVariants.{Done, Usage, SchemaSyntax, SchemaFault, LinkFault, UnknownRoot, DocSyntax, Invalid, PerFault, DerFault, ModuleFault, RecordFault, Trailing, TooLong, TooManyNodes, LoadFault, ReadFault, WriteFault, OutOfMemory}
+use Rattle.transcode_words.specs.declared.outcome.Outcome.TheVariants.{Done, Usage, SchemaSyntax, SchemaFault, LinkFault, UnknownRoot, Stamp, DocSyntax, Invalid, PerFault, DerFault, ModuleFault, RecordFault, Trailing, TooLong, TooManyNodes, LoadFault, ReadFault, WriteFault, OutOfMemory}
 use Rattle.transcode_core.specs.Steps.{RootType, IsTypeOf}
 use Rattle.transcode_core.specs.Each.{each_limit, Documents, outcome_of, EndsAs, EachDue}
 use Rattle.transcode_core.proofs.Single.{Written-single, ok_inj}
@@ -24,22 +24,23 @@ module _ (type : RootType) where
       e ∙ ap (λ x. x ++ rest) one ∙ ap (λ x. other ++ x) all ∙ sym f
 
   module _ (left : List ℕ) (number count : ℕ) where
-    abbrev Stopped : Outcome → Type 0
+    abbrev pub Stopped : Outcome → Type 0
     Stopped o =
         (0 < length (drop count left))
         × ((stop : Stop) × StopsFirst type.assignments type.number (within type.assignments type.number (number + 1) (each_limit - count) (drop count left)) stop
         × (o ≡ outcome_of (fault_of type.assignments type.number (number + 1) (each_limit - count) (drop count left) stop)))
 
-    abbrev Seen : Outcome → Type 0
+    abbrev pub Seen : Outcome → Type 0
     Seen o = ((o ≡ Done) × (drop count left ≡ [])) ⊎ Stopped o
 
-    seen : (o : Outcome) → EndsAs type left number count o → Seen o
+    pub seen : (o : Outcome) → EndsAs type left number count o → Seen o
     seen Done h = inl (refl, h)
     seen Usage h = inr h
     seen (SchemaSyntax k at why) h = inr h
     seen (SchemaFault k at why) h = inr h
     seen (LinkFault k at why) h = inr h
     seen UnknownRoot h = inr h
+    seen Stamp h = inr h
     seen (DocSyntax at why) h = inr h
     seen (Invalid at why) h = inr h
     seen (PerFault bit why) h = inr h

@@ -1,10 +1,8 @@
 -- Records that were written so far, the next of them, and how they end.
-use Rattle.std.proofs.Common.{◌≡◌, ◌⊎◌, ℕ, ◌+◌, ◌-◌, ◌*◌, ◌<◌, ◌≤◌, List, [], ◌∷◌, ◌++◌, length, take, drop, refl, sym, ap, ◌∙◌, subst, inl, inr, arith, append_assoc, length-append, Option, Some, None, Ok, Err}
+use Rattle.std.proofs.Common.{◌≡◌, ℕ, ◌+◌, ◌-◌, ◌*◌, ◌<◌, ◌≤◌, List, [], ◌∷◌, ◌++◌, length, drop, refl, sym, ap, ◌∙◌, subst, inl, inr, arith, append_assoc, length-append, Option, Some, None, Ok, Err}
 use Rattle.std.specs.Io.KnownBytes.{Appends}
-use Rattle.std.proofs.lemmas.List.{append-nil, drop-drop, length-drop}
-use Rattle.std.proofs.Math.Seq.{take-append-add}
-use Rattle.base_texts.specs.Faults.{HasRisen, one_more}
-use Rattle.base_texts.specs.Bytes.{AppendsFront}
+use Rattle.std.proofs.lemmas.List.{append-nil, drop-drop}
+use Rattle.base_texts.specs.Faults.{one_more}
 use Rattle.base_trees.specs.Rose.{Rose}
 use Rattle.simple_types.specs.declared.labels.ValueLabel.{ValueLabel}
 use Rattle.asn_types.specs.declared.modules.Assignment.{Assignment}
@@ -19,32 +17,20 @@ use Rattle.record_stream.specs.declared.errors.RecordError.TheVariants as record
 use Rattle.record_stream.specs.Heads.{left_with}
 use Rattle.record_stream.specs.Cuts.{BeginWith}
 use Rattle.record_stream.specs.Next.{AnswersNext, Answer, IsDue, within, fault_of, most_of}
-use Rattle.record_stream.proofs.Cutting.{begin_none, begin_more, begin_front, few_values}
-use Rattle.record_stream.proofs.Ending.{cut_at_end, cut_at_stop, cut_at_failure}
+use Rattle.record_stream.proofs.Cutting.{begin_more, few_values}
+use Rattle.record_stream.proofs.Ending.{cut_at_end, cut_at_stop}
 use Rattle.schema_components.specs.Components.{Set}
-use Rattle.transcode_words.specs.declared.outcome.Outcome.{Outcome}
-use Rattle.transcode_words.specs.declared.outcome.Outcome.TheVariants.{Done, TooLong, WriteFault, OutOfMemory}
+use Rattle.transcode_words.specs.declared.outcome.Outcome.TheVariants.{Done, TooLong}
 use Rattle.transcode_core.specs.Steps.{RootType, IsTypeOf, Written}
-use Rattle.transcode_core.specs.Each.{each_limit, Documents, outcome_of, EndsAs, EachDue, FirstDue, TakenDue, IsOfRecords, EachEnds}
+use Rattle.transcode_core.specs.Each.{each_limit, Documents, outcome_of, EndsAs, EachDue, IsOfRecords}
 
--- ---- bytes, one piece behind the other
-
-pub appends_nothing : (written : Option (List ℕ)) → Appends written written []
-appends_nothing None = tt
-appends_nothing (Some xs) = sym (append-nil xs)
+-- ---- bytes, one piece after another
 
 pub appends_more : (a b c : Option (List ℕ)) (xs ys : List ℕ) → Appends a b xs → Appends b c ys → Appends a c (xs ++ ys)
 appends_more None b c xs ys h k = tt
 appends_more (Some us) None c xs ys h k = absurd h
 appends_more (Some us) (Some bs) None xs ys h k = absurd k
 appends_more (Some us) (Some bs) (Some cs) xs ys h k = k ∙ ap (λ zs. zs ++ ys) h ∙ append_assoc us xs ys
-
-pub appends_front : (a b c : Option (List ℕ)) (xs ys : List ℕ) → Appends a b xs → AppendsFront b c ys → AppendsFront a c (xs ++ ys)
-appends_front a b c xs ys h (n, few, k) = (
-  length xs + n,
-  omega (arith, few, length-append xs ys),
-  subst (Appends a c) (sym (take-append-add xs ys n)) (appends_more a b c xs (take n ys) h k),
-)
 
 module _ (type : RootType) where
   abbrev M : List Assignment
@@ -54,16 +40,16 @@ module _ (type : RootType) where
   t = type.number
 
   -- one document more
-  documents_more : (vs : List (Rose ValueLabel)) (v : Rose ValueLabel) (text doc : List ℕ) → Documents type vs text → Written type v (Ok doc) → Documents type (vs ++ v ∷ []) (text ++ doc)
+  pub documents_more : (vs : List (Rose ValueLabel)) (v : Rose ValueLabel) (text doc : List ℕ) → Documents type vs text → Written type v (Ok doc) → Documents type (vs ++ v ∷ []) (text ++ doc)
   documents_more [] v text doc e w = (doc, [], w, refl, ap (λ xs. xs ++ doc) e ∙ sym (append-nil doc))
   documents_more (u ∷ us) v text doc (first, rest, own, others, e) w =
       (first, rest ++ doc, own, documents_more us v rest doc others w, ap (λ xs. xs ++ doc) e ∙ append_assoc first rest doc)
 
-  all_more : (vs : List (Rose ValueLabel)) (v : Rose ValueLabel) → AllOf (In M t) vs → In M t v → AllOf (In M t) (vs ++ v ∷ [])
+  pub all_more : (vs : List (Rose ValueLabel)) (v : Rose ValueLabel) → AllOf (In M t) vs → In M t v → AllOf (In M t) (vs ++ v ∷ [])
   all_more [] v h i = (i, tt)
   all_more (u ∷ us) v h i = (h.0, all_more us v h.1 i)
 
-  -- where the octets are told: those of the records so far were taken, and none else
+  -- where the octets are known: exactly those of the records so far were taken
   pub record Here (left : List ℕ) (values : List (Rose ValueLabel)) (octet : Option ℕ) (inner : Option (List ℕ)) (room records : ℕ) : Type 0 where
     pub count : ℕ
     pub begin : BeginWith M t left values count
@@ -73,7 +59,7 @@ module _ (type : RootType) where
     pub room_left : room + count ≡ each_limit
     pub numbered : records ≡ length values
 
-  -- the values of so many records, whose documents were written
+  -- the values of this number of records, whose documents were written
   pub record SoFar (old : Option (List ℕ)) (octet : Option ℕ) (inner : Option (List ℕ)) (room records turn : ℕ) (wrote wrote_now : Option (List ℕ)) : Type 0 where
     pub values : List (Rose ValueLabel)
     pub text : List ℕ
@@ -83,24 +69,11 @@ module _ (type : RootType) where
     pub turns : length values ≡ turn
     pub told : (left : List ℕ) → old ≡ Some left → Here left values octet inner room records
 
-  -- none so far
-  pub so_far_none : (old : Option (List ℕ)) (octet : Option ℕ) (room records : ℕ) (wrote : Option (List ℕ)) → octet ≡ None → room ≡ each_limit → records ≡ 0
-      → SoFar old octet old room records 0 wrote wrote
-  so_far_none old octet room records wrote alone all none = record {
-    values = [];
-    text = [];
-    in_type = tt;
-    documents = refl;
-    appended = appends_nothing wrote;
-    turns = refl;
-    told = λ left is. record { count = 0; begin = begin_none M t left; rest = is; alone = alone; few = omega arith; room_left = omega (arith, all); numbered = none };
-  }
-
-  -- what is left behind an octet that is held, of which there is none
+  -- what is left after an octet that is held, where none is held
   pub left_here : (octet : Option ℕ) (inner : Option (List ℕ)) (left : List ℕ) → octet ≡ None → inner ≡ Some left → left_with octet inner ≡ Some left
   left_here octet inner left alone is = ap (λ o. left_with o inner) alone ∙ ap (left_with None) is
 
-  inner_is : (octet : Option ℕ) (inner : Option (List ℕ)) (left : List ℕ) → octet ≡ None → left_with octet inner ≡ Some left → inner ≡ Some left
+  pub inner_is : (octet : Option ℕ) (inner : Option (List ℕ)) (left : List ℕ) → octet ≡ None → left_with octet inner ≡ Some left → inner ≡ Some left
   inner_is octet None left alone is = let e : None ≡ Some left = sym (ap (λ o. left_with o None) alone) ∙ is in absurd cc
   inner_is octet (Some xs) left alone is = sym (ap (λ o. left_with o (Some xs)) alone) ∙ is
 
@@ -108,41 +81,33 @@ module _ (type : RootType) where
       (octet_new : Option ℕ) (inner_new : Option (List ℕ)) (answer : Answer)
       (answers : (left : List ℕ) → left_with octet inner ≡ Some left → AnswersNext M t (one_more records) room left (left_with octet_new inner_new) answer) where
     module _ (left : List ℕ) (is : old ≡ Some left) where
-      here : Here left h.values octet inner room records
+      pub here : Here left h.values octet inner room records
       here = h.told left is
 
       -- what is left of them
       abbrev others : List ℕ
       others = drop (h.told left is).count left
 
-      others_left : left_with octet inner ≡ Some (drop here.count left)
+      pub others_left : left_with octet inner ≡ Some (drop here.count left)
       others_left = left_here octet inner (drop here.count left) here.alone here.rest
 
-      next : AnswersNext M t (one_more records) room (drop here.count left) (left_with octet_new inner_new) answer
+      pub next : AnswersNext M t (one_more records) room (drop here.count left) (left_with octet_new inner_new) answer
       next = answers (drop here.count left) others_left
 
-      few_records : length h.values ≤ each_limit
+      pub few_records : length h.values ≤ each_limit
       few_records = omega (arith, few_values M t left h.values here.count here.begin, here.few)
 
       number_is : one_more records ≡ length h.values + 1
       number_is = omega (arith, here.numbered, few_records)
 
-      room_is : room ≡ each_limit - here.count
+      pub room_is : room ≡ each_limit - here.count
       room_is = omega (arith, here.room_left)
-
-    -- WANT OF MEMORY
-    pub first_so_far : (text : List ℕ) × FirstDue type old text × Appends wrote wrote_now text
-    first_so_far = (h.text, by old refl, h.appended)
-      where
-        by : (o : Option (List ℕ)) → old ≡ o → FirstDue type o h.text
-        by None e = (h.values, h.in_type, h.documents)
-        by (Some left) e = let n = here left e in (h.values, n.count, begin_front M t left h.values n.count each_limit n.begin n.few, h.documents)
 
     -- ONE MORE RECORD
     module _ (v : Rose ValueLabel) (ok : answer ≡ Ok (Some v)) (in_type : In M t v) (room_new records_new : ℕ) (counted : records_new ≡ one_more records)
         (octets : (left : List ℕ) → left_with octet inner ≡ Some left → 8 * room ≡ 8 * room_new + length (complete M t v))
         (alone : (left : List ℕ) → left_with octet inner ≡ Some left → octet_new ≡ None) where
-      next_here : (left : List ℕ) → old ≡ Some left → Here left (h.values ++ v ∷ []) octet_new inner_new room_new records_new
+      pub next_here : (left : List ℕ) → old ≡ Some left → Here left (h.values ++ v ∷ []) octet_new inner_new room_new records_new
       next_here left is =
           let here_now = here left is in
           let a = subst (AnswersNext M t (one_more records) room (drop here_now.count left) (left_with octet_new inner_new)) ok (next left is) in
@@ -159,43 +124,10 @@ module _ (type : RootType) where
             numbered = counted ∙ number_is left is ∙ sym (length-append h.values (v ∷ []));
           }
 
-      pub so_far_more : (doc : List ℕ) (wrote_new : Option (List ℕ)) → Written type v (Ok doc) → Appends wrote_now wrote_new doc
-          → SoFar old octet_new inner_new room_new records_new (turn + 1) wrote wrote_new
-      so_far_more doc wrote_new written appended = record {
-        values = h.values ++ v ∷ [];
-        text = h.text ++ doc;
-        in_type = all_more h.values v h.in_type in_type;
-        documents = documents_more h.values v h.text doc h.documents written;
-        appended = appends_more wrote wrote_now wrote_new h.text doc h.appended appended;
-        turns = length-append h.values (v ∷ []) ∙ ap (λ n. n + 1) h.turns;
-        told = next_here;
-      }
-
-      -- its document could not be written whole
-      pub first_more : (doc : List ℕ) (wrote_new : Option (List ℕ)) → Written type v (Ok doc) → AppendsFront wrote_now wrote_new doc
-          → (text : List ℕ) × FirstDue type old text × AppendsFront wrote wrote_new text
-      first_more doc wrote_new written front = (h.text ++ doc, by old refl, appends_front wrote wrote_now wrote_new h.text doc h.appended front)
-        where
-          by : (o : Option (List ℕ)) → old ≡ o → FirstDue type o (h.text ++ doc)
-          by None e = (h.values ++ v ∷ [], all_more h.values v h.in_type in_type, documents_more h.values v h.text doc h.documents written)
-          by (Some left) e =
-              let n = next_here left e in
-              (h.values ++ v ∷ [], n.count, begin_front M t left (h.values ++ v ∷ []) n.count each_limit n.begin n.few, documents_more h.values v h.text doc h.documents written)
-
-      -- its document was not written
-      pub each_unwritten : (wrote_new : Option (List ℕ)) (reads reads_now writes writes_now : ℕ) (o : Outcome)
-          → ((o ≡ OutOfMemory) × (wrote_new ≡ wrote_now)) ⊎ ((o ≡ WriteFault) × HasRisen writes writes_now × ((doc : List ℕ) × Written type v (Ok doc) × AppendsFront wrote_now wrote_new doc))
-          → EachEnds type (record { left = old; written = wrote; read_faults = reads; write_faults = writes }) (record { left = inner_new; written = wrote_new; read_faults = reads_now; write_faults = writes_now }) o
-      each_unwritten wrote_new reads reads_now writes writes_now o (inl (memory, same)) =
-          subst (EachEnds type (record { left = old; written = wrote; read_faults = reads; write_faults = writes }) (record { left = inner_new; written = wrote_new; read_faults = reads_now; write_faults = writes_now })) (sym memory) (subst (λ w. (text : List ℕ) × FirstDue type old text × Appends wrote w text) (sym same) first_so_far)
-      each_unwritten wrote_new reads reads_now writes writes_now o (inr (write, rose, (doc, written, front))) =
-          subst (EachEnds type (record { left = old; written = wrote; read_faults = reads; write_faults = writes }) (record { left = inner_new; written = wrote_new; read_faults = reads_now; write_faults = writes_now })) (sym write)
-          (rose, first_more doc wrote_new written front)
-
     -- THE END
     module _ {set : Set} {root : ℕ} (of : IsTypeOf set root type) where
-      pub each_done : answer ≡ Ok None → (text : List ℕ) × EachDue type old Done text × Appends wrote wrote_now text
-      each_done ok = (h.text, by old refl, h.appended)
+      pub due_done : answer ≡ Ok None → EachDue type old Done h.text
+      due_done ok = by old refl
         where
           by : (o : Option (List ℕ)) → old ≡ o → EachDue type o Done h.text
           by None e = (h.values, h.in_type, h.documents, tt)
@@ -205,7 +137,7 @@ module _ (type : RootType) where
               (h.values, n.count, cut_at_end M t of.is_module of.is_bounded of.within left h.values n.count each_limit n.begin n.few a.says.0, a.says.0, h.documents)
 
       -- a fault of the next record
-      abbrev IsFault : RecordError → Type 0
+      abbrev pub IsFault : RecordError → Type 0
       IsFault (record_error.Bad number bit why) = Unit {0}
       IsFault record_error.TooLong = Unit {0}
       IsFault e = ⊥
@@ -253,8 +185,8 @@ module _ (type : RootType) where
       of_records record_error.Failed fault = absurd fault
       of_records record_error.Memory fault = absurd fault
 
-      pub each_stopped : (e : RecordError) → IsFault e → answer ≡ Err e → (text : List ℕ) × EachDue type old (outcome_of e) text × Appends wrote wrote_now text
-      each_stopped e fault err = (h.text, by old refl, h.appended)
+      pub due_stopped : (e : RecordError) → IsFault e → answer ≡ Err e → EachDue type old (outcome_of e) h.text
+      due_stopped e fault err = by old refl
         where
           by : (o : Option (List ℕ)) → old ≡ o → EachDue type o (outcome_of e) h.text
           by None is = (h.values, h.in_type, h.documents, of_records e fault)
@@ -269,34 +201,10 @@ module _ (type : RootType) where
                 h.documents,
               )
 
-      -- A FAULT OF THE SOURCE
-      pub each_failed : answer ≡ Err record_error.Failed → octet_new ≡ None → (text : List ℕ) × TakenDue type old inner_new text × Appends wrote wrote_now text
-      each_failed err none = (h.text, by old refl, h.appended)
-        where
-          by : (o : Option (List ℕ)) → old ≡ o → TakenDue type o inner_new h.text
-          by None is = (h.values, h.in_type, h.documents)
-          by (Some left) is =
-              let n = here left is in
-              let a = subst (AnswersNext M t (one_more records) room (drop n.count left) (left_with octet_new inner_new)) err (next left is) in (
-                n.count + a.count,
-                omega (arith, n.begin.inside, a.takes.inside, length-drop n.count left),
-                inner_is octet_new inner_new _ none a.takes.rest ∙ ap (λ xs. Some xs) (drop-drop a.count n.count left),
-                (h.values, n.count, cut_at_failure M t of.is_module of.is_bounded of.within left h.values n.count a.count n.begin a.says, h.documents),
-              )
-
-      -- there is no next record
-      pub each_err : (reads reads_now writes writes_now : ℕ) (e : RecordError) → answer ≡ Err e → (let r : Answer = Err e in r ≡ Err record_error.Failed → octet_new ≡ None)
-          → (let r : Answer = Err e in r ≡ Err record_error.Failed → HasRisen reads reads_now)
-          → EachEnds type (record { left = old; written = wrote; read_faults = reads; write_faults = writes }) (record { left = inner_new; written = wrote_now; read_faults = reads_now; write_faults = writes_now }) (outcome_of e)
-      each_err reads reads_now writes writes_now (record_error.Bad n bit why) err none rose = each_stopped (record_error.Bad n bit why) tt err
-      each_err reads reads_now writes writes_now record_error.TooLong err none rose = each_stopped record_error.TooLong tt err
-      each_err reads reads_now writes writes_now record_error.Failed err none rose = (rose refl, each_failed err (none refl))
-      each_err reads reads_now writes writes_now record_error.Memory err none rose = first_so_far
-
   -- more records than octets
-  pub each_over : (old : Option (List ℕ)) (octet : Option ℕ) (inner : Option (List ℕ)) (room records turn : ℕ) (wrote wrote_now : Option (List ℕ)) → SoFar old octet inner room records turn wrote wrote_now
-      → each_limit < turn → (text : List ℕ) × EachDue type old (TooLong 0) text × Appends wrote wrote_now text
-  each_over old octet inner room records turn wrote wrote_now h many = (h.text, by old refl, h.appended)
+  pub due_over : (old : Option (List ℕ)) (octet : Option ℕ) (inner : Option (List ℕ)) (room records turn : ℕ) (wrote wrote_now : Option (List ℕ)) → (h : SoFar old octet inner room records turn wrote wrote_now)
+      → each_limit < turn → EachDue type old (TooLong 0) h.text
+  due_over old octet inner room records turn wrote wrote_now h many = by old refl
     where
       by : (o : Option (List ℕ)) → old ≡ o → EachDue type o (TooLong 0) h.text
       by None e = (h.values, h.in_type, h.documents, tt)

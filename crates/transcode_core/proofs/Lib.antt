@@ -1,4 +1,3 @@
-pub mod Deciding
 pub mod SetLaws
 pub mod Roots
 pub mod Single
@@ -6,10 +5,10 @@ pub mod Loading
 pub mod DerOctets
 pub mod Syntaxes
 pub mod Octets
-pub mod Verdicts
+pub mod NeverDone
 pub mod Again
-pub mod Running
 pub mod Counted
+pub mod Unseen
 pub mod Trials
 pub mod Received
 pub mod Taken
@@ -20,3 +19,4 @@ pub mod Eaching
 pub mod EachLaws
 pub mod Ready
 pub mod Exits
+pub mod Requests

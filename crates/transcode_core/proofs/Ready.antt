@@ -15,10 +15,15 @@ use Rattle.transcode_core.specs.Preparing.{prepared_seen}
 use Rattle.transcode_core.specs.Steps.{RootType, IsTypeOf, Typed, ValueIn, Encoding}
 use Rattle.transcode_core.specs.Due.{ItemsIn, Encoded}
 use Rattle.transcode_core.proofs.Exits.{refused_by}
+use Rattle.transcode_core.specs.Requests.Records.{Streams, EndsRecords}
 
 -- its type is that of its root
 pub typed_of : (s : Set) (n : ℕ) (p : Set × ℕ) (type : RootType) → (s, n) ≡ p → IsTypeOf s n type → Typed (prepared_seen p) (Ok type)
 typed_of s n p type is h = subst (λ q. Typed (prepared_seen q) (Ok type)) is (s, refl, h)
+
+-- what holds after an outcome of records
+pub ends_of : (s : Set) (n : ℕ) (p : Set × ℕ) (type : RootType) (old new : Streams) (o : Outcome) → (s, n) ≡ p → EndsRecords (prepared_seen (s, n)) type old new o → EndsRecords (prepared_seen p) type old new o
+ends_of s n p type old new o is h = subst (λ q. EndsRecords (prepared_seen q) type old new o) is h
 
 -- a step that passes with a value, and an answer that is given of this value
 pub given : {C D : Type 0} (due : Result D Outcome → Type 0) (narrow wide : Outcome → Type 0) (view : C → D) (d : D) (v : Result C Outcome)

@@ -1,5 +1,5 @@
 -- Where contents are told, at most one outcome or result is due.
-use Rattle.std.proofs.Common.{◌≡◌, ℕ, ◌+◌, ◌≤◌, true, List, [], ◌∷◌, length, map, refl, sym, ap, ◌∙◌, subst, inl, inr, arith, Option, Some, None, Result, Ok, Err}
+use Rattle.std.proofs.Common.{◌≡◌, ℕ, ◌+◌, ◌≤◌, List, [], ◌∷◌, length, map, refl, sym, ap, ◌∙◌, subst, inl, inr, arith, Option, Some, None, Result, Ok, Err}
 use Rattle.base_texts.specs.Entries.{beside}
 use Rattle.base_texts.specs.declared.texts.Name.{Name}
 use Rattle.base_trees.specs.Rose as tree
@@ -13,16 +13,11 @@ use Rattle.transcode_words.specs.declared.outcome.Outcome.TheVariants.{SchemaFau
 use Rattle.transcode_words.specs.Order.{Give, Found, Then}
 use Rattle.schema_faults.specs.Faults.{first_fault, reasons}
 use Rattle.schema_faults.specs.declared.faults.DocumentFault.{DocumentFault}
-use Rattle.transcode_core.specs.Steps.{Loaded, Read, Faultless, Linked, Printed, ModuleIn, Schema, Schemas, Input, Judged, RootType, IsRootType, Typed, Valued, Encoding, Streamed, DecodedOf, Decoded, Written}
-use Rattle.transcode_core.specs.Due.{SetIn, Opened, ItemsIn, Checked, Encoded, Documented, Served, Tried, Answered, Due}
-use Rattle.transcode_core.specs.Private.Decided.{Decided}
+use Rattle.transcode_core.specs.Steps.{Loaded, Read, Faultless, Linked, ModuleIn, Schema, Schemas, Input, Judged, RootType, IsRootType, Typed, Valued, Encoding, Streamed, DecodedOf, Decoded, Written}
+use Rattle.transcode_core.specs.Due.{SetIn, Opened, ItemsIn, Checked, Encoded, Tried}
 use Rattle.transcode_words.specs.declared.tasks.Syntax.{Syntax}
 use Rattle.transcode_words.specs.declared.tasks.Syntax.TheVariants.{Aligned, Unaligned, Der}
-use Rattle.transcode_words.specs.declared.tasks.Task.{Task}
-use Rattle.transcode_words.specs.declared.tasks.Task.TheVariants.{Check, Send, Receive}
 use Rattle.transcode_core.specs.Syntaxes.{AreOctetsOf, AllSyntaxes}
-use Rattle.transcode_words.specs.Words.{Asked, Show, ShowBack, Serve, Trial}
-use Rattle.transcode_core.specs.Causes.{reads_input, ReadsInput, IsTold}
 use Rattle.schema_read.specs.Raw.{raw_of}
 use Rattle.schema_components.specs.SetParts.{SetParts, NamedSpace, named_spaces, parts_of}
 use Rattle.link_set.specs.Sets.{set_of}
@@ -42,14 +37,11 @@ use Rattle.map_subjects.specs.declared.subjects.NamedSubject.{NamedSubject}
 use Rattle.map_subjects.specs.Subjects.{AreEntries, place_in}
 use Rattle.transcode_core.specs.Trial.{trial_name, trial_schema, trial_root, trial_document}
 use Rattle.transcode_core.proofs.Octets.{one_whole, whole_or_none, one_refusal, value_or_none, one_no_encoding}
-use Rattle.transcode_core.proofs.Verdicts.{outcome_of, bytes_of, decided}
 use Rattle.validity_rules.specs.Laws.{AtMostOne}
 use Rattle.schema_components.specs.declared.components.SimpleDef.{SimpleDef}
 use Rattle.map_assignments.proofs.Once.{one-map, one-entries}
 use Rattle.map_assignments.proofs.SameSets.{AreSame, map-same, name-of-same}
-use Rattle.module_print.specs.Printed.{printed}
 use Rattle.module_read.specs.Tells.{OneAnswer}
-use Rattle.module_read.specs.Summary as back
 use Rattle.schema_components.specs.Raw.{Document}
 use Rattle.link_names.specs.declared.faults.LinkingFault as link
 use Rattle.link_schemas.specs.Passes.{passes}
@@ -173,7 +165,7 @@ spaces_in : (ts : List SimpleDef) → map (λ (n : NamedSpace). n.space) (named_
 spaces_in [] = refl
 spaces_in (t ∷ ts) = ap (λ l. space_of t.space ∷ l) (spaces_in ts)
 
-same_parts : (s t : Set) → parts_of s ≡ parts_of t → AreSame s t
+pub same_parts : (s t : Set) → parts_of s ≡ parts_of t → AreSame s t
 same_parts s t e =
     record {
       elements = ap (λ (p : SetParts). p.elements) e;
@@ -183,13 +175,6 @@ same_parts s t e =
       names = sym (names_in s.simples) ∙ (ap (λ (p : SetParts). map (λ (n : NamedSpace). n.name) p.simples) e ∙ names_in t.simples);
       spaces = sym (spaces_in s.simples) ∙ (ap (λ (p : SetParts). map (λ (n : NamedSpace). n.space) p.simples) e ∙ spaces_in t.simples);
     }
-
-pub Printed-single : (parts : SetParts) → IsSingle (Printed parts)
-Printed-single parts (Err o) w none also = absurd none
-Printed-single parts (Ok x) (Err o) due none = absurd none
-Printed-single parts (Ok x) (Ok y) (s, of_s, m, map_of_s, is) (t, of_t, n, map_of_t, was) =
-    let one : m ≡ n = one-map t m n (map-same s t (same_parts s t (of_s ∙ sym of_t)) m map_of_s) map_of_t in
-    ap (λ z. Ok z) (is ∙ (ap (λ z. printed z) one ∙ sym was))
 
 pub SetIn-single : PieceLaws → (entries : List (List ℕ × List ℕ)) (files : List (List ℕ)) → IsSingle (SetIn (Some entries) files)
 SetIn-single laws entries files = Then-single _ _ (Schemas-single laws entries 1 files) (λ documents. Linked-single documents)
@@ -315,47 +300,7 @@ Encoded-single laws syntax opened left =
     Then-single _ _ (Then-single _ _ (Judged-single laws.valid opened.0 opened.1 items) (λ treated. Valued-single laws.value opened.0 opened.1 type is treated)) (λ value.
     Encoding-single laws.octets syntax type value)))
 
-pub Documented-single : Laws → (syntax : Syntax) (opened : SetParts × ℕ) (left : List ℕ) → IsSingle (Documented syntax opened (Some left))
-Documented-single laws syntax opened left =
-    Then-with _ _ (Typed-single opened) (λ type is.
-    Then-single _ _ (Decoded-single laws.octets opened.0 opened.1 type syntax is left) (λ value.
-    Written-single type value))
-
-Served-single : Laws → (task : Task) (opened : SetParts × ℕ) (left : List ℕ) → IsSingle (Served task opened (Some left))
-Served-single laws Check opened left = Checked-single laws.valid laws.pieces opened left
-Served-single laws (Send syntax) opened left = Encoded-single laws syntax opened left
-Served-single laws (Receive syntax) opened left = Documented-single laws syntax opened left
-
--- a task over files and an input that are told
-task_single : Laws → (task : Task) (entries : List (List ℕ × List ℕ)) (root : Name) (files : List (List ℕ)) (left : List ℕ)
-    → IsSingle (Then (Opened (Some entries) root files) (λ opened. Served task opened (Some left)))
-task_single laws task entries root files left = Then-single _ _ (Opened-single laws.pieces entries root files) (λ opened. Served-single laws task opened left)
-
 pub Tried-single : Laws → (lines : ℕ) → IsSingle (Tried lines)
 Tried-single laws lines =
-    Then-single _ _ (task_single laws (Send Aligned) ((trial_name, trial_schema) ∷ []) trial_root (trial_name ∷ []) (trial_document lines)) (λ octets. Give-single _)
-
--- where what the command reads is told
-pub Answered-single : Laws → (entries : List (List ℕ × List ℕ)) (left : Option (List ℕ)) (request : Asked) → (reads_input request ≡ true → IsTold left)
-    → IsSingle (Answered (Some entries) left request)
-Answered-single laws entries left (Show files) told = Then-single _ _ (SetIn-single laws.pieces entries files) (λ parts. Printed-single parts)
-Answered-single laws entries left (ShowBack file) told =
-    Then-single _ _ (Loaded-single entries 1 file) (λ bytes. Then-single _ _ (ModuleIn-single laws.modules bytes) (λ M. Give-single (back.summary M)))
-Answered-single laws entries (Some left) (Serve task root files) told = task_single laws task entries root files left
-Answered-single laws entries None (Serve task root files) told = absurd (told refl)
-Answered-single laws entries left (Trial lines) told = Tried-single laws lines
-
--- at most one verdict is decided
-pub Decided-single : Laws → (words : List (List ℕ)) (entries : List (List ℕ × List ℕ)) (left : Option (List ℕ)) → (ReadsInput words → IsTold left)
-    → IsSingle (Decided words (Some entries) left)
-Decided-single laws words entries left told =
-    Then-with _ _ (Found-single _ _) (λ request asks. Answered-single laws entries left request (λ reads. told (request, asks, reads)))
-
--- at most one outcome is due, with one list of bytes
-pub Due-single : Laws → (words : List (List ℕ)) (entries : List (List ℕ × List ℕ)) (left : Option (List ℕ)) (o p : Outcome) (b c : List ℕ) → (ReadsInput words → IsTold left)
-    → Due words (Some entries) left o b → Due words (Some entries) left p c → (o ≡ p) × (b ≡ c)
-Due-single laws words entries left o p b c told due also =
-    let v = decided words (Some entries) left o b due in
-    let w = decided words (Some entries) left p c also in
-    let same : v.0 ≡ w.0 = Decided-single laws words entries left told v.0 w.0 v.1 w.1 in
-    (v.2 ∙ ap outcome_of same ∙ sym w.2, v.3 ∙ ap bytes_of same ∙ sym w.3)
+    Then-single _ _ (Then-single _ _ (Opened-single laws.pieces ((trial_name, trial_schema) ∷ []) trial_root (trial_name ∷ [])) (λ opened. Encoded-single laws Aligned opened (trial_document lines)))
+    (λ octets. Give-single _)

@@ -1,65 +1,60 @@
--- The trial, whose only file and whose input are there.
-use Rattle.std.proofs.Common.{◌≡◌, ◌⊎◌, ℕ, List, [], ◌∷◌, ◌++◌, length, refl, ◌∙◌, ap, subst, inl, inr, arith, Option, Some, None, Result, Ok, Err}
+-- The trial: its schema is the only file, and its document the input.
+use Rattle.std.proofs.Common.{◌≡◌, ◌⊎◌, ℕ, List, [], ◌∷◌, ◌++◌, length, refl, ◌∙◌, ap, subst, inl, inr, Some, None, Result, Ok, Err}
 use Rattle.std.specs.Prelude.{Vec, IsErrAnd, true}
 use Rattle.std.specs.declared.alloc.Global.{Global}
 use Rattle.base_texts.specs.Entries.{beside}
 use Rattle.transcode_words.specs.declared.outcome.Outcome.{Outcome}
 use Rattle.transcode_words.specs.declared.tasks.Syntax.TheVariants.{Aligned}
-use Rattle.transcode_words.specs.declared.tasks.Task.TheVariants.{Send}
-use Rattle.transcode_words.specs.Words.{Serve}
 use Rattle.base_trees.specs.Rose.{Rose}
 use Rattle.xml_items.specs.declared.label.ItemLabel.{ItemLabel}
 use Rattle.transcode_core.specs.Trial.{trial_name, trial_schema, trial_root, trial_document, summary}
 use Rattle.transcode_words.specs.Order.{Give, Then}
-use Rattle.transcode_core.specs.Due.{Opened, ItemsIn, Served, Answered, Tried}
+use Rattle.schema_components.specs.SetParts.{SetParts}
+use Rattle.transcode_core.specs.Due.{Opened, ItemsIn, Encoded, Tried}
 use Rattle.transcode_words.specs.Answers.{Answers, NoMemory, IsRefusal}
-use Rattle.transcode_core.specs.Causes.{Answering, StepsUpTo, StepsFrom}
+use Rattle.transcode_core.specs.Causes.{SomeLoad, StepsUpTo, StepsFrom}
 use Rattle.transcode_words.proofs.Joined.{passed}
 use Rattle.transcode_core.proofs.Exits.{refused_by}
 
 abbrev pub trial_files : List (List ℕ × List ℕ)
 trial_files = (trial_name, trial_schema) ∷ []
 
--- what `to-per` makes of an input over this schema
-abbrev pub SentOf : Option (List ℕ) → Result (List ℕ) Outcome → Type 0
-SentOf left = Then (Opened (Some trial_files) trial_root (trial_name ∷ [])) (λ opened. Served (Send Aligned) opened left)
+-- ---- the set of the trial, with its root
 
 -- the only file of a list of one
-only_name : (names : List (List ℕ)) (n name : List ℕ) (before after : List (List ℕ)) → n ∷ [] ≡ before ++ name ∷ after → name ≡ n
-only_name names n name [] after e = cc
-only_name names n name (b ∷ []) after e = let f : [] ≡ name ∷ after = cc in cc
-only_name names n name (b ∷ c ∷ before) after e = let f : [] ≡ c ∷ (before ++ name ∷ after) = cc in cc
+only_name : (n name : List ℕ) (before after : List (List ℕ)) → n ∷ [] ≡ before ++ name ∷ after → name ≡ n
+only_name n name [] after e = cc
+only_name n name (b ∷ []) after e = let f : [] ≡ name ∷ after = cc in cc
+only_name n name (b ∷ c ∷ before) after e = let f : [] ≡ c ∷ (before ++ name ∷ after) = cc in cc
 
--- it is there
+-- the library has it
 is_there : (name : List ℕ) → name ≡ trial_name → beside name trial_files ≡ None → ⊥
 is_there name e lacks = let f : Some trial_schema ≡ None = subst (λ n. beside n trial_files ≡ None) e lacks in cc
 
-pub answers : (loads loads_now : ℕ) (left : Option (List ℕ)) (v : Result (Vec ℕ Global) Outcome)
-    → Answers (λ (b : Vec ℕ Global). b.items) (Answered (Some trial_files) left (Serve (Send Aligned) trial_root (trial_name ∷ []))) (Answering loads loads_now true (Some trial_files) 0 0 (Serve (Send Aligned) trial_root (trial_name ∷ []))) v
-    → Answers (λ (b : Vec ℕ Global). b.items) (SentOf left) NoMemory v
-answers loads loads_now left (Ok v) due = due
-answers loads loads_now left (Err o) (inl due) = inl due
-answers loads loads_now left (Err o) (inr (inl (inl memory))) = inr memory
-answers loads loads_now left (Err o) (inr (inl (inr (k, name, load, reaches, fails)))) =
-    absurd (is_there name (only_name [] trial_name name reaches.before reaches.after reaches.split) (fails.lacks refl))
-answers loads loads_now left (Err o) (inr (inr (read, rose, opened))) = absurd (omega (arith, rose))
+-- so only memory can be missing
+only_memory : {C D : Type 0} (view : C → D) (due : Result D Outcome → Type 0) (loads loads_now : ℕ) (v : Result C Outcome)
+    → Answers view due (SomeLoad loads loads_now true (Some trial_files) (trial_name ∷ [])) v → Answers view due NoMemory v
+only_memory view due loads loads_now (Ok c) h = h
+only_memory view due loads loads_now (Err o) (inl h) = inl h
+only_memory view due loads loads_now (Err o) (inr (inl memory)) = inr memory
+only_memory view due loads loads_now (Err o) (inr (inr (k, name, is, reaches, fails))) =
+    absurd (is_there name (only_name trial_name name reaches.before reaches.after reaches.split) (fails.lacks refl))
 
--- the same, as the code sees its library, its name and its input
-pub answers_seen : (entries : List (List ℕ × List ℕ)) (name document given : List ℕ) (loads loads_now : ℕ) (v : Result (Vec ℕ Global) Outcome)
-    → entries ≡ trial_files → name ≡ trial_name → given ≡ document
-    → Answers (λ (b : Vec ℕ Global). b.items) (Answered (Some entries) (Some given) (Serve (Send Aligned) trial_root (name ∷ []))) (Answering loads loads_now true (Some entries) 0 0 (Serve (Send Aligned) trial_root (name ∷ []))) v
-    → Answers (λ (b : Vec ℕ Global). b.items) (SentOf (Some document)) NoMemory v
-answers_seen entries name document given loads loads_now v e f h due =
-    let one = subst (λ es. Answers (λ (b : Vec ℕ Global). b.items) (Answered (Some es) (Some given) (Serve (Send Aligned) trial_root (name ∷ []))) (Answering loads loads_now true (Some es) 0 0 (Serve (Send Aligned) trial_root (name ∷ []))) v) e due in
-    let two = subst (λ n. Answers (λ (b : Vec ℕ Global). b.items) (Answered (Some trial_files) (Some given) (Serve (Send Aligned) trial_root (n ∷ []))) (Answering loads loads_now true (Some trial_files) 0 0 (Serve (Send Aligned) trial_root (n ∷ []))) v) f one in
-    let three = subst (λ d. Answers (λ (b : Vec ℕ Global). b.items) (Answered (Some trial_files) (Some d) (Serve (Send Aligned) trial_root (trial_name ∷ []))) (Answering loads loads_now true (Some trial_files) 0 0 (Serve (Send Aligned) trial_root (trial_name ∷ []))) v) h two in
-    answers loads loads_now (Some document) v three
+-- the same of the library and the name that the code made
+pub opened_trial : {C : Type 0} (view : C → SetParts × ℕ) (entries : List (List ℕ × List ℕ)) (name : List ℕ) (loads loads_now : ℕ) (v : Result C Outcome)
+    → entries ≡ trial_files → name ≡ trial_name
+    → Answers view (Opened (Some entries) trial_root (name ∷ [])) (SomeLoad loads loads_now true (Some entries) (name ∷ [])) v
+    → Answers view (Opened (Some trial_files) trial_root (trial_name ∷ [])) NoMemory v
+opened_trial view entries name loads loads_now v e f due =
+    let one = subst (λ es. Answers view (Opened (Some es) trial_root (name ∷ [])) (SomeLoad loads loads_now true (Some es) (name ∷ [])) v) e due in
+    let two = subst (λ n. Answers view (Opened (Some trial_files) trial_root (n ∷ [])) (SomeLoad loads loads_now true (Some trial_files) (n ∷ [])) v) f one in
+    only_memory view (Opened (Some trial_files) trial_root (trial_name ∷ [])) loads loads_now v two
 
 -- ---- the line of a trial
 
--- what is due of a document over the schema of the trial
+-- the encoding of a document of the schema of the trial
 abbrev pub SentTrial : List ℕ → Result (List ℕ) Outcome → Type 0
-SentTrial document = SentOf (Some document)
+SentTrial document = Then (Opened (Some trial_files) trial_root (trial_name ∷ [])) (λ opened. Encoded Aligned opened (Some document))
 
 abbrev pub Line : ℕ → List ℕ → Result (List ℕ) Outcome → Type 0
 Line lines octets = Give (summary lines (length (trial_document lines)) (length octets))

@@ -6,7 +6,8 @@ pub mod Due
 pub mod Preparing
 pub mod Private
 pub mod ReadBack
-pub mod Again
 pub mod Each
 pub mod Runs
 pub mod Environments
+pub mod Digits
+pub mod Requests

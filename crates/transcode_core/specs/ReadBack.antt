@@ -1,5 +1,5 @@
--- What is written for octets is read back. This is promised of the text that is written, and is no part of what is due.
-use Rattle.std.specs.Prelude.{◌≡◌, ℕ, ⊤, List, Option, Some, Ok}
+-- The text that is written for octets reads back. This is promised of the text that is written, and is no part of what is required.
+use Rattle.std.specs.Prelude.{◌≡◌, ℕ, List, Option, Some, Ok}
 use Rattle.base_trees.specs.Rose.{Rose}
 use Rattle.simple_types.specs.declared.labels.ValueLabel.{ValueLabel}
 use Rattle.xml_items.specs.declared.label.ItemLabel.{ItemLabel}
@@ -11,10 +11,7 @@ use Rattle.xml_write.specs.ReadBack.{ReadsAs}
 use Rattle.schema_components.specs.SetParts.{SetParts}
 use Rattle.xer_items.specs.Items.{Xer}
 use Rattle.transcode_words.specs.declared.tasks.Syntax.{Syntax}
-use Rattle.transcode_words.specs.Tasks.{Reads, ADocument, Octets, reads}
 use Rattle.transcode_core.specs.Steps.{RootType, Typed, Decoded, Judged}
-use Rattle.transcode_words.specs.Words.{Asked, Show, ShowBack, Serve, Trial}
-use Rattle.transcode_core.specs.Due.{Requested, Opened}
 
 -- the text that is written of the items of the value (X.693) is read as a document with these items
 pub record WrittenBack (type : RootType) (v : Rose ValueLabel) (text : List ℕ) : Type 0 where
@@ -23,7 +20,7 @@ pub record WrittenBack (type : RootType) (v : Rose ValueLabel) (text : List ℕ)
   pub is_written : text ≡ written (unplaced items)
   pub is_read : ReadsAs text (unplaced items)
 
--- the same of the value of which all octets that are left, where they are told, are the encoding
+-- the same of the value of which the octets that are left, where they are known, are the encoding
 abbrev pub DecodedBack : Syntax → RootType → Option (List ℕ) → List ℕ → Type 0
 DecodedBack syntax type left text = (v : Rose ValueLabel) × Decoded syntax type left (Ok v) × WrittenBack type v text
 
@@ -31,7 +28,7 @@ DecodedBack syntax type left text = (v : Rose ValueLabel) × Decoded syntax type
 abbrev pub IsValidText : SetParts × ℕ → List ℕ → Rose Plain → Type 0
 IsValidText opened text treated = (again : Rose ItemLabel) × DocOf text again × Judged opened.0 opened.1 again (Ok treated)
 
--- the same by the type of the root in an opened set; and the document is valid, with the items of the value as its treated items
+-- the same by the type of the root in a set; and the document is valid, with the items of the value as its treated items
 pub record DocumentedBack (syntax : Syntax) (opened : SetParts × ℕ) (left : Option (List ℕ)) (text : List ℕ) : Type 0 where
   pub type : RootType
   pub typed : Typed opened (Ok type)
@@ -39,19 +36,3 @@ pub record DocumentedBack (syntax : Syntax) (opened : SetParts × ℕ) (left : O
   pub decoded : Decoded syntax type left (Ok value)
   pub back : WrittenBack type value text
   pub valid : IsValidText opened text back.items
-
--- the same of what a task reads; of documents nothing is said
-abbrev pub ServedBack : Reads → SetParts × ℕ → Option (List ℕ) → List ℕ → Type 0
-ServedBack ADocument opened left text = ⊤
-ServedBack (Octets syntax) opened left text = DocumentedBack syntax opened left text
-
--- the same of a task with its root and its files; of the other commands nothing is said
-abbrev pub AnsweredBack : Option (List (List ℕ × List ℕ)) → Option (List ℕ) → Asked → List ℕ → Type 0
-AnsweredBack entries left (Show files) text = ⊤
-AnsweredBack entries left (ShowBack file) text = ⊤
-AnsweredBack entries left (Serve task root files) text = (opened : SetParts × ℕ) × Opened entries root files (Ok opened) × ServedBack (reads task) opened left text
-AnsweredBack entries left (Trial lines) text = ⊤
-
--- the same of the words
-abbrev pub ReadBack : List (List ℕ) → Option (List (List ℕ × List ℕ)) → Option (List ℕ) → List ℕ → Type 0
-ReadBack words entries left text = (request : Asked) × Requested words (Ok request) × AnsweredBack entries left request text

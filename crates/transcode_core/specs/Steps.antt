@@ -30,7 +30,6 @@ use Rattle.schema_components.specs.Small.{AreSmall}
 use Rattle.map_assignments.specs.Mapped.{root_at, IsMapOf}
 use Rattle.xer_items.specs.Items.{Xer}
 use Rattle.xml_write.specs.Written.{written}
-use Rattle.module_print.specs.Printed.{printed}
 use Rattle.module_text.specs.declared.reasons.ModuleWhy.{ModuleWhy}
 use Rattle.module_text.specs.ReadBack.{IsBadAt}
 use Rattle.module_read.specs.Tells.{Tells}
@@ -95,11 +94,6 @@ number_named name (e ∷ es) = if name_eq e.name name then Some 0 else option_ma
 -- the number of the global element with the name
 abbrev pub Rooted : Name → SetParts → Result ℕ Outcome → Type 0
 Rooted root parts = Found (number_named root (take parts.globals parts.elements)) UnknownRoot
-
--- the text of the module that the set maps to
-abbrev pub Printed : SetParts → Result (List ℕ) Outcome → Type 0
-Printed parts (Ok bytes) = (s : Set) × (parts_of s ≡ parts) × (made : List Assignment) × IsMapOf s made × (bytes ≡ printed made)
-Printed parts (Err o) = ⊥
 
 -- the module of which the bytes are the print, or their first fault
 abbrev pub ModuleIn : List ℕ → Result (List Assignment) Outcome → Type 0

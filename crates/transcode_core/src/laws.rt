@@ -1,21 +1,23 @@
-//! What holds of what is due.
+//! Laws of what is required of requests, and of what `answer` promises.
 ghost use Rattle.std.specs.Prelude.{◌≡◌, ◌+◌, ◌*◌, ◌≤◌, ℕ, List, length, Option, Some, Ok};
-ghost use Rattle.xml_items.specs.Plain.{Plain};
 ghost use Rattle.base_trees.specs.Rose.{Rose};
-ghost use Rattle.schema_components.specs.SetParts.{SetParts};
-ghost use Rattle.transcode_words.specs.declared.outcome.Outcome.{Outcome};
-ghost use Rattle.transcode_words.specs.declared.outcome.Outcome.TheVariants as outcome;
-ghost use Rattle.transcode_words.specs.declared.tasks.Syntax.{Syntax};
-ghost use Rattle.transcode_core.specs.Causes.{ReadsInput, IsTold, IsInputOf, ReadsOfWords, StepsFrom};
-ghost use Rattle.transcode_core.specs.Syntaxes.{AllSyntaxes};
-ghost use Rattle.transcode_core.specs.Due.{Requested, Encoded, Documented, Due};
-ghost use Rattle.transcode_words.specs.Words.{Trial};
-ghost use Rattle.transcode_core.specs.Trial.{trial_document};
+ghost use Rattle.xml_items.specs.Plain.{Plain};
 ghost use Rattle.xml_items.specs.declared.label.ItemLabel.{ItemLabel};
-ghost use Rattle.xml_read.specs.Documents.{DocOf};
 ghost use Rattle.xml_items.specs.Counts.{element_count};
-ghost use Rattle.transcode_core.specs.ReadBack.{IsValidText, DocumentedBack, ReadBack};
-ghost use Rattle.transcode_core.specs.Again.{AreThereAndBack, AreSameDocuments};
+ghost use Rattle.xml_read.specs.Documents.{DocOf};
+ghost use Rattle.schema_components.specs.SetParts.{SetParts};
+ghost use Rattle.validity_rules.specs.Laws.{AtMostOne};
+ghost use Rattle.value_laws.specs.Statements.{OneValue};
+ghost use Rattle.module_read.specs.Tells as modules;
+ghost use Rattle.transcode_words.specs.declared.tasks.Syntax.{Syntax};
+ghost use Rattle.transcode_words.specs.Asked.{Trial};
+ghost use Rattle.transcode_core.specs.Syntaxes.{AllSyntaxes};
+ghost use Rattle.transcode_core.specs.Due.{Encoded, Documented};
+ghost use Rattle.transcode_core.specs.Causes.{StepsFrom};
+ghost use Rattle.transcode_core.specs.Trial.{trial_document};
+ghost use Rattle.transcode_core.specs.ReadBack.{IsValidText, DocumentedBack};
+ghost use Rattle.transcode_core.specs.Requests.Answers.{LooksAt};
+ghost use Rattle.transcode_core.specs.Requests.Laws as law;
 
 use der_fields::stops_first as stops_of_der;
 use link_exists::sets_of_documents;
@@ -37,25 +39,29 @@ pub fn exactly_one_of_both()
     stops_of_der();
 }
 
-/// Of all words, over files that are told, at most one outcome is due, with one list of bytes; where the words ask for the
-/// input, this is told too.
-pub fn one_answer()
-    ensures { (words : List (List ℕ)) (entries : List (List ℕ × List ℕ)) (left : Option (List ℕ)) (o p : Outcome) (b c : List ℕ) → (ReadsInput words → IsTold left)
-        → Due words (Some entries) left o b → Due words (Some entries) left p c → (o ≡ p) × (b ≡ c) }
+// The laws of the crates below from which it follows that at most one answer is required.
+fn laws_below()
+    ensures valid { AtMostOne }
+    ensures value { OneValue }
+    ensures octets { AllSyntaxes }
+    ensures modules { modules.OneAnswer }
 {
     at_most_one();
     one_value();
-    octets_of_either();
-    stops_of_either();
-    stops_of_der();
+    exactly_one_of_both();
     one_module();
 }
 
-/// Of all words, over files that are told, an outcome is due, with a list of bytes; where the words ask for the input, this is
-/// told too, and where they ask for octets in DER, it is of octets. So with the law above just one is due.
+/// Over known files and a known input, at most one outcome with one list of bytes is required of a request.
+pub fn one_answer()
+    ensures { law.OneAnswer }
+{
+    laws_below();
+}
+
+/// Over the same, an outcome with a list of bytes is required. So exactly one is.
 pub fn some_answer()
-    ensures { (words : List (List ℕ)) (entries : List (List ℕ × List ℕ)) (left : Option (List ℕ)) → (ReadsInput words → IsTold left) → IsInputOf words left
-        → (o : Outcome) × (bytes : List ℕ) × Due words (Some entries) left o bytes }
+    ensures { law.SomeAnswer }
 {
     document_answer();
     document_items();
@@ -67,35 +73,50 @@ pub fn some_answer()
     at_least_one();
     values_of_items();
     items_of_values();
-    octets_of_either();
-    stops_of_either();
-    stops_of_der();
+    exactly_one_of_both();
     some_module();
 }
 
-/// What `to-per` writes of a document, `to-xml` takes over the same files, unless it is too long to be an input; and so of the other
-/// transfer syntaxes. What it writes there, which by `run` is read back (`ReadBack`), is a valid document with the treated items of the first. Both are said of a
-/// set with its root, and of words.
+/// A fault of the schema files precedes an unknown root, this another stamp, and this every fault of the octets. A root that isn't
+/// named is the only global element.
+pub fn order()
+    ensures set { law.SetFirst }
+    ensures root { law.RootNext }
+    ensures stamp { law.StampNext }
+    ensures only { law.OnlyRoot }
+{}
+
+/// What `answer` promises is complete. Where no count of failures rose, its outcome is the required one, or memory is missing. The same
+/// holds over a sure library that has the files, an input that didn't fail and an output with room.
+pub fn complete()
+    ensures counts { law.Complete }
+    ensures room { law.Sure }
+{
+    laws_below();
+}
+
+/// What is written for a document is accepted again, unless it is too long for an input. The document that is written then is valid
+/// with the treated items of the first document. Both hold of requests, and of a set with its root.
 pub fn there_and_back()
+    ensures taken { law.ThereAndBack }
+    ensures same { law.SameAgain }
     ensures taken_in_set { (syntax : Syntax) (opened : SetParts × ℕ) (document octets : List ℕ) → Encoded syntax opened (Some document) (Ok octets) → length octets ≤ 16777216
         → (text : List ℕ) × Documented syntax opened (Some octets) (Ok text) }
     ensures same_in_set { (syntax : Syntax) (opened : SetParts × ℕ) (document octets text : List ℕ) → Encoded syntax opened (Some document) (Ok octets)
         → DocumentedBack syntax opened (Some octets) text → (treated : Rose Plain) × IsValidText opened document treated × IsValidText opened text treated }
-    ensures taken { (entries : List (List ℕ × List ℕ)) (there back : List (List ℕ)) → AreThereAndBack there back → (document octets : List ℕ)
-        → Due there (Some entries) (Some document) outcome.Done octets → length octets ≤ 16777216 → (text : List ℕ) × Due back (Some entries) (Some octets) outcome.Done text }
-    ensures same { (entries : List (List ℕ × List ℕ)) (there back : List (List ℕ)) (ways : AreThereAndBack there back) (document octets text : List ℕ)
-        → Due there (Some entries) (Some document) outcome.Done octets → ReadBack back (Some entries) (Some octets) text
-        → AreSameDocuments (Some entries) ways.root ways.files document text }
 {
-    octets_of_either();
-    stops_of_either();
-    stops_of_der();
+    laws_below();
 }
 
-/// The trial document has three elements for each of its lines, besides the root. So a `trial` that is Done, of whose document each
-/// element but the root took a step (`Runs`, `many`), took three for each line.
+/// For the document that is written for octets, exactly these octets are required.
+pub fn back_and_there()
+    ensures { law.BackAndThere }
+{}
+
+/// The trial document has three elements for each of its lines, besides the root. So a trial that is `Done`, with a step for each
+/// element but the root (`many` of `Answers`), took three for each line.
 pub fn trial_elements()
     ensures count { (lines : ℕ) (items : Rose ItemLabel) → 1 ≤ lines → lines ≤ 100000 → DocOf (trial_document lines) items → element_count items ≡ 3 * lines + 1 }
-    ensures steps { (words : List (List ℕ)) (left : Option (List ℕ)) (before now lines : ℕ) → Requested words (Ok (Trial lines)) → StepsFrom (ReadsOfWords words left) before now
+    ensures steps { (left : Option (List ℕ)) (before now lines : ℕ) → 1 ≤ lines → lines ≤ 100000 → StepsFrom (LooksAt (Trial lines) left) before now
         → before + 3 * lines ≤ now }
 {}

@@ -1,10 +1,12 @@
-//! Answers a command: from words, schema files and an input to an outcome and output bytes.
+//! Serves a request: from schema files and an input to an outcome and output bytes.
 //!
-//! Read first: docs/reference/ORDER.md and docs/internals/PROMISE.md; `specs/Runs` (the promise of `run`), `specs/Due` (the required result of a
-//! command) and `specs/Steps`, then `run` in `src/top.rt`.
+//! Read first: docs/reference/ORDER.md and docs/internals/PROMISE.md; `specs/Requests/Due` (what is required of a request) and
+//! `specs/Requests/Answers` (the promise of `answer`), then `answer` in `src/asking.rt`. `run` in `src/top.rt` is for words.
 #![tactic(auto)]
 
+mod asking;
 mod counting;
+mod delivering;
 mod documents;
 mod each;
 mod eight_bits;
@@ -20,14 +22,23 @@ mod prepared;
 mod receiving;
 mod schemas;
 mod sending;
+mod serving;
+mod showing;
+mod stamped;
+mod stamps;
 mod top;
 mod trial;
 mod typing;
 
+pub use asking::answer;
 pub use counting::run_in;
 pub use environments::Environment;
-pub use laws::{exactly_one_of_both, one_answer, some_answer, there_and_back, trial_elements};
+pub use laws::{
+    back_and_there, complete, exactly_one_of_both, one_answer, order, some_answer, there_and_back,
+    trial_elements,
+};
 pub use prepared::Prepared;
+pub use stamps::{STAMP_LENGTH, stamp_line, stamp_of};
 pub use top::run;
 pub use transcode_words::{Outcome, write_line};
 pub use trial::trial_document;

@@ -2,10 +2,12 @@
 ghost use Rattle.std.specs.Prelude.{◌≡◌, ◌≤◌, length, IfOk, IfErr, map};
 ghost use Rattle.schema_components.specs.Documents.{doc_of};
 ghost use Rattle.schema_components.specs.SetParts.{parts_of};
+ghost use Rattle.transcode_words.specs.AskedSeen.{chosen_seen};
 ghost use Rattle.transcode_words.specs.Seen.{root_seen};
 ghost use Rattle.transcode_core.specs.Private.Seen.{opened_seen};
 ghost use Rattle.transcode_core.specs.Steps.{Linked, Rooted};
-ghost use Rattle.transcode_words.specs.Order.{Give, Then};
+ghost use Rattle.transcode_core.specs.Requests.Due.{only_global, root_in};
+ghost use Rattle.transcode_words.specs.Order.{Give, Found, Then};
 ghost use Rattle.link_schemas.specs.Sets.{AreNumbered};
 ghost use Rattle.transcode_words.specs.Answers.{Answers, NoMemory};
 
@@ -14,9 +16,10 @@ use base_texts::{Name, Text};
 use link_schemas::{LinkError, link};
 use schema_components::{RawDoc, SchemaSet, find_root};
 use std::alloc::Global;
+use transcode_words::asked::Root as Chosen;
 use transcode_words::{Outcome, Root};
 
-/// The documents as one set.
+/// Returns the documents as one set.
 pub fn link_files(alloc: Global, documents: &[RawDoc]) -> Result<SchemaSet, Outcome>
     requires few { length documents.now ≤ 64 }
     requires numbered { AreNumbered (map doc_of documents.now) }
@@ -29,7 +32,7 @@ pub fn link_files(alloc: Global, documents: &[RawDoc]) -> Result<SchemaSet, Outc
     }
 }
 
-// A copy of a part of a word.
+// Returns a copy of a part of a word.
 fn part_of(alloc: Global, part: &str) -> Result<Text, Outcome>
     ensures ok { IfOk result (λ text. text ≡ part.now) }
     ensures err { IfErr result NoMemory }
@@ -49,7 +52,7 @@ fn name_of(alloc: Global, root: Root<'_>) -> Result<Name, Outcome>
     Ok(Name { space, local })
 }
 
-// The number of the root, where a global element has its name.
+// Returns the number of the global element with this name.
 fn root_number(alloc: Global, root: Root<'_>, set: &SchemaSet) -> Result<u32, Outcome>
     ensures { Answers (λ n. n) (Rooted (root_seen root.entry) (parts_of set.now)) NoMemory result }
 {
@@ -61,10 +64,31 @@ fn root_number(alloc: Global, root: Root<'_>, set: &SchemaSet) -> Result<u32, Ou
     }
 }
 
-/// The set with the number of the root in it.
-pub fn open_set(alloc: Global, root: Root<'_>, set: SchemaSet) -> Result<Opened, Outcome>
-    ensures { Answers opened_seen (Then (Rooted (root_seen root.entry) (parts_of set)) (λ n. Give (parts_of set, n))) NoMemory result }
+// Returns the number of the only global element, if there is exactly one.
+fn only_root(set: &SchemaSet) -> Result<u32, Outcome>
+    ensures { Answers (λ n. n) (Found (only_global (parts_of set.now)) Outcome.UnknownRoot) NoMemory result }
 {
-    let root = root_number(alloc, root, &set)?;
+    if set.global_count() == 1 {
+        Ok(0)
+    } else {
+        Err(Outcome::UnknownRoot)
+    }
+}
+
+// Returns the number of the global element that the request takes for the root.
+fn chosen_root(alloc: Global, root: Chosen<'_>, set: &SchemaSet) -> Result<u32, Outcome>
+    ensures { Answers (λ n. n) (Found (root_in (parts_of set.now) (chosen_seen root.entry)) Outcome.UnknownRoot) NoMemory result }
+{
+    match root {
+        Chosen::Named(name) => root_number(alloc, name, set),
+        Chosen::Only => only_root(set),
+    }
+}
+
+/// Returns the set with the number of its root.
+pub fn open_chosen(alloc: Global, root: Chosen<'_>, set: SchemaSet) -> Result<Opened, Outcome>
+    ensures { Answers opened_seen (Then (Found (root_in (parts_of set) (chosen_seen root.entry)) Outcome.UnknownRoot) (λ n. Give (parts_of set, n))) NoMemory result }
+{
+    let root = chosen_root(alloc, root, &set)?;
     Ok(Opened { set, root })
 }

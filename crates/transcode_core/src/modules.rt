@@ -1,4 +1,4 @@
-//! A printed module in a file, and what is told of it.
+//! A printed module in a file, and its summary.
 ghost use Rattle.std.specs.Prelude.{◌≡◌, ◌∷◌, [], ◌≤◌, length};
 ghost use Rattle.module_read.specs.Summary as back;
 ghost use Rattle.transcode_words.specs.Order.{Give, Then};
@@ -14,7 +14,7 @@ use module_read::{ModuleError, read_module, summary};
 use std::alloc::Global;
 use transcode_words::Outcome;
 
-// The module of which these bytes are the print.
+// Returns the module of which these bytes are the print.
 fn module_in(alloc: Global, bytes: &[u8]) -> Result<Module, Outcome>
     requires { length bytes.now ≤ 16777216 }
     ensures { Answers (λ M. M) (ModuleIn bytes.now) NoMemory result }
@@ -43,7 +43,7 @@ fn tell_of(alloc: Global, bytes: &[u8]) -> Result<Vec<u8>, Outcome>
     tell(alloc, &found)
 }
 
-/// What `show-back` answers for this file.
+/// Returns the result of `show-back` for this file.
 pub fn show_back<F: Library>(alloc: Global, files: &mut F, name: &Text) -> Result<Vec<u8>, Outcome>
     ensures due { Answers (λ bytes. bytes.items) (ShownBack (F.entries files.old) name.now)
         (SomeLoad (F.faults files.old) (F.faults files.new) (F.is_sure files.old) (F.entries files.old) (name.now ∷ [])) result }

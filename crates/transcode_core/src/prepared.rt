@@ -4,35 +4,38 @@ ghost use Rattle.std.specs.Io.KnownBytes.{IsAtEnd};
 ghost use Rattle.schema_components.specs.SetParts.{parts_of};
 ghost use Rattle.xml_items.specs.Counts.{element_count};
 ghost use Rattle.transcode_words.specs.Seen.{root_seen};
-ghost use Rattle.transcode_words.specs.Tasks.{Octets, reads, is_document};
 ghost use Rattle.transcode_words.specs.Order.{Give, Then};
 ghost use Rattle.transcode_words.specs.Answers.{Answers, NoMemory};
 ghost use Rattle.transcode_core.specs.Private.Seen.{opened_seen};
 ghost use Rattle.transcode_core.specs.Preparing.{prepared_seen};
 ghost use Rattle.transcode_core.specs.Steps.{RootType, Typed, Judged, ValueIn, Encoding};
 ghost use Rattle.transcode_core.specs.Due as due;
-ghost use Rattle.transcode_core.specs.Due.{ItemsIn, Checked, Encoded, Documented, Served};
-ghost use Rattle.transcode_core.specs.Each.{flow_between, EachEnds};
-ghost use Rattle.transcode_core.specs.ReadBack.{DocumentedBack, ServedBack};
-ghost use Rattle.transcode_core.specs.Causes.{SomeLoad, OneRead, Takes, LooksAt, StepsUpTo, IsOfInput, StepsFrom};
+ghost use Rattle.transcode_core.specs.Due.{ItemsIn, Checked, Encoded, Documented};
+ghost use Rattle.transcode_core.specs.Requests.Answers.{ReceivedBack, TakesRecords, TakesStamped};
+ghost use Rattle.transcode_core.specs.Requests.Due as request;
+ghost use Rattle.transcode_core.specs.Requests.Records.{EndsRecords, streams_of};
+ghost use Rattle.transcode_core.specs.ReadBack.{DocumentedBack};
+ghost use Rattle.transcode_core.specs.Causes.{SomeLoad, OneRead, TakesOctets, StepsUpTo, IsOfInput, StepsFrom};
 
 use crate::documents::{lent_items, read_items};
 use crate::each::write_records;
 use crate::judging::{check_input, judge};
 use crate::opened::{Opened, RootModule};
-use crate::opening::open_files;
+use crate::opening::open_asked;
 use crate::receiving::write_input;
 use crate::sending::{encode_value, value_of};
+use crate::stamped::{pass_stamp, with_stamp};
 use crate::typing::map_root;
 use base_texts::{Library, Sink, Source, Steps, Text};
 use std::alloc::Global;
 use std::marker::Model;
 use std::sync::ledger::Ledger;
-use transcode_words::{Outcome, Root, Syntax, Task};
+use transcode_words::asked::Root as Chosen;
+use transcode_words::{Outcome, Root, Syntax};
 use value_laws::documents_of_values;
 use xml_read::Items;
 
-/// Schemas that were read: a set with its root and its map, for any number of messages; seen as the set and the number of the root.
+/// Schemas that were read: a set with its root and its map, for any number of messages. Definitions see the set and the number of the root.
 /// No call changes it.
 #[derive(Drop)]
 pub struct Prepared {
@@ -59,7 +62,7 @@ impl Model for Prepared {
 }
 
 impl Prepared {
-    /// The set with its map.
+    /// Returns the set with its map.
     pub fn of(alloc: Global, opened: Opened) -> Result<Prepared, Outcome>
         ensures { Answers prepared_seen (Give (opened_seen opened)) NoMemory result }
     {
@@ -67,7 +70,7 @@ impl Prepared {
         Ok(Prepared { opened, typed })
     }
 
-    /// The set that these files are, with the root in it, and its map: or the first fault.
+    /// Returns the set that these files are, with its root and its map, or the first fault.
     pub fn open<F: Library>(
         alloc: Global,
         files: &mut F,
@@ -80,11 +83,11 @@ impl Prepared {
         ensures files { (F.entries files.new ≡ F.entries files.old) × (F.is_sure files.new ≡ F.is_sure files.old) }
         ensures later { F.faults files.old ≤ F.faults files.new }
     {
-        let opened = open_files(alloc, files, root, names)?;
+        let opened = open_asked(alloc, files, Chosen::Named(root), names)?;
         Prepared::of(alloc, opened)
     }
 
-    // Whether the document is valid for the root: it has no bytes to write.
+    // Checks whether the document is valid for the root. A valid document has no bytes to write.
     fn judge<L: Ledger>(
         &self,
         alloc: Global,
@@ -100,7 +103,7 @@ impl Prepared {
         judge(alloc, &self.opened, items, steps)
     }
 
-    /// Whether these bytes are a valid document: it has no bytes to write.
+    /// Checks whether these bytes are a valid document. A valid document has no bytes to write.
     pub fn check<L: Ledger>(
         &self,
         alloc: Global,
@@ -116,7 +119,7 @@ impl Prepared {
         self.judge(alloc, &items, steps)
     }
 
-    /// Whether the document in the input is valid.
+    /// Checks whether the document in the input is valid.
     pub fn check_input<S: Source, L: Ledger>(
         &self,
         alloc: Global,
@@ -140,7 +143,7 @@ impl Prepared {
         let _number = self.typed.number;
     }
 
-    // The encoding of the value of the document, if it is valid.
+    // Returns the encoding of the value of the document, if it is valid.
     fn encode_items<L: Ledger>(
         &self,
         alloc: Global,
@@ -159,7 +162,7 @@ impl Prepared {
         encode_value(alloc, syntax, &self.typed, &value)
     }
 
-    /// The encoding, in a transfer syntax, of the value of the document that these bytes are.
+    /// Returns the encoding of the value of the document that these bytes are.
     pub fn encode<L: Ledger>(
         &self,
         alloc: Global,
@@ -177,7 +180,7 @@ impl Prepared {
         self.encode_items(alloc, syntax, &items, steps)
     }
 
-    /// The encoding of the value of the document in the input.
+    /// Returns the encoding of the value of the document in the input.
     pub fn encode_input<S: Source, L: Ledger>(
         &self,
         alloc: Global,
@@ -197,7 +200,7 @@ impl Prepared {
         self.encode_items(alloc, syntax, &items, steps)
     }
 
-    /// The document of the value of which the input is the encoding.
+    /// Returns the document of the value of which the input is the encoding.
     pub fn decode<S: Source>(
         &self,
         alloc: Global,
@@ -208,34 +211,70 @@ impl Prepared {
         ensures back { IfOk result (λ bytes. DocumentedBack syntax (prepared_seen self.now) (S.left input.old) bytes.items) }
         ensures end { OnOk result (IsAtEnd (S.left input.new)) }
         ensures stage { IfErr result IsOfInput }
-        ensures taken { Takes (Octets syntax) (prepared_seen self.now) (S.left input.old) (S.left input.new) }
+        ensures taken { (type : RootType) × Typed (prepared_seen self.now) (Ok type) × TakesOctets syntax type (S.left input.old) (S.left input.new) }
         ensures later { S.faults input.old ≤ S.faults input.new }
     {
         documents_of_values();
         write_input(alloc, syntax, &self.typed, input)
     }
 
-    /// What the task makes of the input.
-    pub fn serve<S: Source, L: Ledger>(
+    /// Returns the encoding of the value of the document in the input, after the stamp of the set where `stamped` holds.
+    pub fn send<S: Source, L: Ledger>(
         &self,
         alloc: Global,
-        task: Task,
+        syntax: Syntax,
+        stamped: bool,
         input: &mut S,
         steps: &mut Steps<L>,
     ) -> Result<Vec<u8>, Outcome>
-        ensures due { Answers (λ bytes. bytes.items) (Served task (prepared_seen self.now) (S.left input.old)) (OneRead (S.faults input.old) (S.faults input.new)) result }
-        ensures back { IfOk result (λ bytes. ServedBack (reads task) (prepared_seen self.now) (S.left input.old) bytes.items) }
+        ensures due { Answers (λ bytes. bytes.items) (request.Encoded syntax stamped (prepared_seen self.now) (S.left input.old)) (OneRead (S.faults input.old) (S.faults input.new)) result }
         ensures end { OnOk result (IsAtEnd (S.left input.new)) }
         ensures stage { IfErr result IsOfInput }
-        ensures taken { Takes (reads task) (prepared_seen self.now) (S.left input.old) (S.left input.new) }
         ensures later { S.faults input.old ≤ S.faults input.new }
-        ensures few { StepsUpTo (LooksAt (reads task) (S.left input.old)) steps.old steps.new }
-        ensures many { is_document (reads task) ≡ true → OnOk result (StepsFrom (LooksAt (reads task) (S.left input.old)) steps.old steps.new) }
+        ensures few { StepsUpTo (λ items. ItemsIn (S.left input.old) (Ok items)) steps.old steps.new }
+        ensures many { OnOk result (StepsFrom (λ items. ItemsIn (S.left input.old) (Ok items)) steps.old steps.new) }
     {
-        match task {
-            Task::Check => self.check_input(alloc, input, steps),
-            Task::Send(syntax) => self.encode_input(alloc, syntax, input, steps),
-            Task::Receive(syntax) => self.decode(alloc, syntax, input),
+        let octets = self.encode_input(alloc, syntax, input, steps)?;
+        with_stamp(alloc, stamped, &self.typed, octets)
+    }
+
+    // Returns the document of the value of which the input after the stamp of the set is the encoding.
+    fn receive_stamped<S: Source>(
+        &self,
+        alloc: Global,
+        syntax: Syntax,
+        input: &mut S,
+    ) -> Result<Vec<u8>, Outcome>
+        ensures due { Answers (λ bytes. bytes.items) (request.Documented syntax true (prepared_seen self.now) (S.left input.old)) (OneRead (S.faults input.old) (S.faults input.new)) result }
+        ensures back { IfOk result (λ bytes. ReceivedBack syntax true (prepared_seen self.now) (S.left input.old) bytes.items) }
+        ensures end { OnOk result (IsAtEnd (S.left input.new)) }
+        ensures stage { IfErr result IsOfInput }
+        ensures taken { (type : RootType) × Typed (prepared_seen self.now) (Ok type) × TakesStamped true syntax type (S.left input.old) (S.left input.new) }
+        ensures later { S.faults input.old ≤ S.faults input.new }
+    {
+        pass_stamp(alloc, &self.typed, input)?;
+        self.decode(alloc, syntax, input)
+    }
+
+    /// Returns the document of the value of which the input is the encoding, after the stamp of the set where `stamped` holds.
+    pub fn receive<S: Source>(
+        &self,
+        alloc: Global,
+        syntax: Syntax,
+        stamped: bool,
+        input: &mut S,
+    ) -> Result<Vec<u8>, Outcome>
+        ensures due { Answers (λ bytes. bytes.items) (request.Documented syntax stamped (prepared_seen self.now) (S.left input.old)) (OneRead (S.faults input.old) (S.faults input.new)) result }
+        ensures back { IfOk result (λ bytes. ReceivedBack syntax stamped (prepared_seen self.now) (S.left input.old) bytes.items) }
+        ensures end { OnOk result (IsAtEnd (S.left input.new)) }
+        ensures stage { IfErr result IsOfInput }
+        ensures taken { (type : RootType) × Typed (prepared_seen self.now) (Ok type) × TakesStamped stamped syntax type (S.left input.old) (S.left input.new) }
+        ensures later { S.faults input.old ≤ S.faults input.new }
+    {
+        if stamped {
+            self.receive_stamped(alloc, syntax, input)
+        } else {
+            self.decode(alloc, syntax, input)
         }
     }
 
@@ -246,12 +285,13 @@ impl Prepared {
         input: &mut S,
         output: &mut K,
     ) -> Outcome
-        ensures answer { (type : RootType) × Typed (prepared_seen self.now) (Ok type) × EachEnds type
-            (flow_between S.Source K.Sink input.old output.old) (flow_between S.Source K.Sink input.new output.new) result }
+        ensures streams { (type : RootType) × Typed (prepared_seen self.now) (Ok type) × EndsRecords (prepared_seen self.now) type
+            (streams_of S.Source K.Sink input.old output.old) (streams_of S.Source K.Sink input.new output.new) result
+            × TakesRecords type (S.left input.old) (S.left input.new) }
         ensures end { result ≡ Outcome.Done → IsAtEnd (S.left input.new) }
         ensures reads { S.faults input.old ≤ S.faults input.new }
         ensures writes { K.faults output.old ≤ K.faults output.new }
     {
-        write_records(alloc, &self.typed, input, output)
+        write_records(alloc, &self.opened, &self.typed, input, output)
     }
 }

@@ -1,254 +1,19 @@
-//! The top call.
-ghost use Rattle.std.specs.Prelude.{◌≡◌, ◌⊎◌, ℕ, ◌≤◌, true, [], ◌∷◌, length, OnOk, IfOk, IfErr, Ok, Err, Some};
-ghost use Rattle.std.specs.Io.KnownBytes.{Appends, IsAtEnd};
+//! The call of the program for scripts.
+ghost use Rattle.std.specs.Prelude.{◌≡◌, ◌⊎◌, ◌≤◌};
+ghost use Rattle.std.specs.Io.KnownBytes.{Appends};
 ghost use Rattle.base_texts.specs.Faults.{HasRisen};
 ghost use Rattle.base_texts.specs.Bytes.{AppendsFront};
-ghost use Rattle.schema_components.specs.SetParts.{parts_of};
 ghost use Rattle.transcode_words.specs.Lines.{line};
-ghost use Rattle.transcode_words.specs.Seen.{root_seen, seen};
-ghost use Rattle.transcode_core.specs.Private.Seen.{opened_seen};
-ghost use Rattle.transcode_words.specs.Words as command;
-ghost use Rattle.transcode_words.specs.Tasks.{reads, is_document};
-ghost use Rattle.transcode_core.specs.Private.Decided.{Decided};
-ghost use Rattle.transcode_core.specs.Trial as trial;
-ghost use Rattle.transcode_core.specs.Trial.{trial_name, trial_schema, trial_root};
-ghost use Rattle.transcode_core.specs.Steps.{Printed};
-ghost use Rattle.transcode_words.specs.Order.{Give, Then};
-ghost use Rattle.transcode_core.specs.Due as due;
-ghost use Rattle.transcode_core.specs.Due.{SetIn, ItemsIn, Served, Tried, Answered};
-ghost use Rattle.transcode_core.specs.Runs.{outside, Runs, RunsEach, RunsAs};
-ghost use Rattle.transcode_core.specs.Environments.{on_entry, on_exit};
-ghost use Rattle.transcode_core.specs.ReadBack.{ServedBack, AnsweredBack, ReadBack};
-ghost use Rattle.transcode_words.specs.Answers.{Answers, NoMemory};
-ghost use Rattle.transcode_core.specs.Causes.{SomeLoad, OneRead, reads_input, ReadsInput, Takes, TakesInput, LooksAt, TakesOfWords, ReadsItems, ReadsOfWords, StepsUpTo, IsOfInput, Answering, Deciding, StepsFrom, reads_document, ReadsDocument};
+ghost use Rattle.transcode_core.specs.Environments.{RunsIn};
 
+use crate::asking::answer;
 use crate::environments::Environment;
-use crate::judging::check_input;
-use crate::laws::one_answer;
-use crate::modules::show_back;
-use crate::opened::Opened;
-use crate::opening::{open_files, read_set};
-use crate::prepared::Prepared;
-use crate::trial::{self, schema_files, schema_name, summary, trial_document};
-use base_texts::{Failed, Library, Sink, Source, Steps, SureSource, Text, write_all};
-use map_assignments::map_set;
-use module_print::print_module;
-use schema_components::SchemaSet;
+use base_texts::{Library, Sink, Source, Steps, Text};
 use std::alloc::Global;
 use std::sync::ledger::Ledger;
-use transcode_words::{Outcome, Request, Root, Syntax, Task, read_each, read_words, write_line};
+use transcode_words::{Outcome, read_asked, write_line};
 
-// The text of the module of the set.
-fn print(alloc: Global, set: &SchemaSet) -> Result<Vec<u8>, Outcome>
-    ensures { Answers (λ bytes. bytes.items) (Printed (parts_of set.now)) NoMemory result }
-{
-    let Ok(module) = map_set(alloc, set) else {
-        return Err(Outcome::OutOfMemory);
-    };
-    match print_module(alloc, &module) {
-        Ok(text) => Ok(text),
-        Err(_) => Err(Outcome::OutOfMemory),
-    }
-}
-
-// What `show` answers for these files.
-fn show<F: Library>(alloc: Global, files: &mut F, names: &[Text]) -> Result<Vec<u8>, Outcome>
-    requires { length names.now ≤ 64 }
-    ensures due { Answers (λ bytes. bytes.items) (Then (SetIn (F.entries files.old) names.now) (λ parts. Printed parts))
-        (SomeLoad (F.faults files.old) (F.faults files.new) (F.is_sure files.old) (F.entries files.old) names.now) result }
-    ensures files { (F.entries files.new ≡ F.entries files.old) × (F.is_sure files.new ≡ F.is_sure files.old) }
-    ensures later { F.faults files.old ≤ F.faults files.new }
-{
-    let set = read_set(alloc, files, names)?;
-    print(alloc, &set)
-}
-
-// Serves a task that needs the map of the set.
-fn serve_prepared<S: Source, L: Ledger>(
-    alloc: Global,
-    task: Task,
-    opened: Opened,
-    input: &mut S,
-    steps: &mut Steps<L>,
-) -> Result<Vec<u8>, Outcome>
-    ensures due { Answers (λ bytes. bytes.items) (Served task (opened_seen opened) (S.left input.old)) (OneRead (S.faults input.old) (S.faults input.new)) result }
-    ensures back { IfOk result (λ bytes. ServedBack (reads task) (opened_seen opened) (S.left input.old) bytes.items) }
-    ensures end { OnOk result (IsAtEnd (S.left input.new)) }
-    ensures stage { IfErr result IsOfInput }
-    ensures taken { (input.new ≡ input.old) ⊎ Takes (reads task) (opened_seen opened) (S.left input.old) (S.left input.new) }
-    ensures later { S.faults input.old ≤ S.faults input.new }
-    ensures few { StepsUpTo (LooksAt (reads task) (S.left input.old)) steps.old steps.new }
-    ensures many { is_document (reads task) ≡ true → OnOk result (StepsFrom (LooksAt (reads task) (S.left input.old)) steps.old steps.new) }
-{
-    let prepared = Prepared::of(alloc, opened)?;
-    prepared.serve(alloc, task, input, steps)
-}
-
-// What the task makes of this set and the input.
-fn serve_input<S: Source, L: Ledger>(
-    alloc: Global,
-    task: Task,
-    opened: Opened,
-    input: &mut S,
-    steps: &mut Steps<L>,
-) -> Result<Vec<u8>, Outcome>
-    ensures due { Answers (λ bytes. bytes.items) (Served task (opened_seen opened) (S.left input.old)) (OneRead (S.faults input.old) (S.faults input.new)) result }
-    ensures back { IfOk result (λ bytes. ServedBack (reads task) (opened_seen opened) (S.left input.old) bytes.items) }
-    ensures end { OnOk result (IsAtEnd (S.left input.new)) }
-    ensures stage { IfErr result IsOfInput }
-    ensures taken { (input.new ≡ input.old) ⊎ Takes (reads task) (opened_seen opened) (S.left input.old) (S.left input.new) }
-    ensures later { S.faults input.old ≤ S.faults input.new }
-    ensures few { StepsUpTo (LooksAt (reads task) (S.left input.old)) steps.old steps.new }
-    ensures many { is_document (reads task) ≡ true → OnOk result (StepsFrom (LooksAt (reads task) (S.left input.old)) steps.old steps.new) }
-{
-    match task {
-        Task::Check => check_input(alloc, &opened, input, steps),
-        Task::Send(_) | Task::Receive(_) => serve_prepared(alloc, task, opened, input, steps),
-    }
-}
-
-// A task, with the root and the schema files that it is for.
-#[derive(Clone, Copy)]
-struct Service<'a> {
-    task: Task,
-    root: Root<'a>,
-    names: &'a [Text],
-}
-
-// What the task makes of the root, the files and the input.
-fn serve<F: Library, S: Source, L: Ledger>(
-    alloc: Global,
-    service: Service<'_>,
-    files: &mut F,
-    input: &mut S,
-    steps: &mut Steps<L>,
-) -> Result<Vec<u8>, Outcome>
-    requires { length service.names.now ≤ 64 }
-    ensures due { Answers (λ bytes. bytes.items) (Answered (F.entries files.old) (S.left input.old) (command.Serve service.entry.task (root_seen service.entry.root) service.entry.names.now))
-        (Answering (F.faults files.old) (F.faults files.new) (F.is_sure files.old) (F.entries files.old) (S.faults input.old) (S.faults input.new) (command.Serve service.entry.task (root_seen service.entry.root) service.entry.names.now)) result }
-    ensures back { IfOk result (λ bytes. AnsweredBack (F.entries files.old) (S.left input.old) (command.Serve service.entry.task (root_seen service.entry.root) service.entry.names.now) bytes.items) }
-    ensures end { OnOk result (IsAtEnd (S.left input.new)) }
-    ensures untouched { (input.new ≡ input.old) ⊎ (TakesInput (F.entries files.old) (command.Serve service.entry.task (root_seen service.entry.root) service.entry.names.now) (S.left input.old) (S.left input.new) × IfErr result IsOfInput) }
-    ensures files { (F.entries files.new ≡ F.entries files.old) × (F.is_sure files.new ≡ F.is_sure files.old) }
-    ensures loads { F.faults files.old ≤ F.faults files.new }
-    ensures reads { S.faults input.old ≤ S.faults input.new }
-    ensures few { StepsUpTo (LooksAt (reads service.entry.task) (S.left input.old)) steps.old steps.new }
-    ensures many { is_document (reads service.entry.task) ≡ true → OnOk result (StepsFrom (LooksAt (reads service.entry.task) (S.left input.old)) steps.old steps.new) }
-{
-    let opened = open_files(alloc, files, service.root, service.names)?;
-    serve_input(alloc, service.task, opened, input, steps)
-}
-
-// What `to-per` makes of a document over the schema of the trial.
-fn encode_trial<L: Ledger>(
-    alloc: Global,
-    document: Vec<u8>,
-    steps: &mut Steps<L>,
-) -> Result<Vec<u8>, Outcome>
-    ensures due { Answers (λ bytes. bytes.items) (Then (due.Opened (Some ((trial_name, trial_schema) ∷ [])) trial_root (trial_name ∷ [])) (λ opened. Served (Task.Send Syntax.Aligned) opened (Some document.items))) NoMemory result }
-    ensures few { StepsUpTo (λ items. ItemsIn (Some document.items) (Ok items)) steps.old steps.new }
-    ensures many { OnOk result (StepsFrom (λ items. ItemsIn (Some document.items) (Ok items)) steps.old steps.new) }
-{
-    let (Ok(name), Ok(mut files)) = (schema_name(alloc), schema_files(alloc)) else {
-        return Err(Outcome::OutOfMemory);
-    };
-    let mut input = SureSource::new(document, Vec::new(alloc));
-    let service = Service {
-        task: Task::Send(Syntax::Aligned),
-        root: trial::ROOT,
-        names: &[name],
-    };
-    serve(alloc, service, &mut files, &mut input, steps)
-}
-
-// How many bytes there are.
-fn length_of(bytes: &[u8]) -> u64
-    ensures { result ≡ length bytes.now }
-{
-    bytes.len() as u64
-}
-
-// The line that tells how long the encoding is of a trial document of this length.
-fn tell(alloc: Global, lines: u32, document: u64, octets: &[u8]) -> Result<Vec<u8>, Outcome>
-    ensures { Answers (λ bytes. bytes.items) (Give (trial.summary lines document (length octets.now))) NoMemory result }
-{
-    match summary(alloc, lines, document, octets.len() as u64) {
-        Ok(line) => Ok(line),
-        Err(_) => Err(Outcome::OutOfMemory),
-    }
-}
-
-// What `trial` answers for so many lines.
-fn try_out<L: Ledger>(alloc: Global, lines: u32, steps: &mut Steps<L>) -> Result<Vec<u8>, Outcome>
-    requires { (1 ≤ lines) × (lines ≤ 100000) }
-    ensures due { Answers (λ bytes. bytes.items) (Tried lines) NoMemory result }
-    ensures few { StepsUpTo (λ items. ItemsIn (Some (trial.trial_document lines)) (Ok items)) steps.old steps.new }
-    ensures many { OnOk result (StepsFrom (λ items. ItemsIn (Some (trial.trial_document lines)) (Ok items)) steps.old steps.new) }
-{
-    let Ok(document) = trial_document(alloc, lines) else {
-        return Err(Outcome::OutOfMemory);
-    };
-    let length = length_of(&document);
-    let octets = encode_trial(alloc, document, steps)?;
-    tell(alloc, lines, length, &octets)
-}
-
-// What the command answers.
-fn answer<F: Library, S: Source, L: Ledger>(
-    alloc: Global,
-    request: Request<'_>,
-    files: &mut F,
-    input: &mut S,
-    steps: &mut Steps<L>,
-) -> Result<Vec<u8>, Outcome>
-    requires { command.IsWithin (seen request) }
-    ensures due { Answers (λ bytes. bytes.items) (Answered (F.entries files.old) (S.left input.old) (seen request.entry))
-        (Answering (F.faults files.old) (F.faults files.new) (F.is_sure files.old) (F.entries files.old) (S.faults input.old) (S.faults input.new) (seen request.entry)) result }
-    ensures back { IfOk result (λ bytes. AnsweredBack (F.entries files.old) (S.left input.old) (seen request.entry) bytes.items) }
-    ensures end { reads_input (seen request.entry) ≡ true → OnOk result (IsAtEnd (S.left input.new)) }
-    ensures untouched { (input.new ≡ input.old) ⊎ (TakesInput (F.entries files.old) (seen request.entry) (S.left input.old) (S.left input.new) × IfErr result IsOfInput) }
-    ensures files { (F.entries files.new ≡ F.entries files.old) × (F.is_sure files.new ≡ F.is_sure files.old) }
-    ensures loads { F.faults files.old ≤ F.faults files.new }
-    ensures reads { S.faults input.old ≤ S.faults input.new }
-    ensures few { StepsUpTo (ReadsItems (S.left input.old) (seen request.entry)) steps.old steps.new }
-    ensures many { reads_document (seen request.entry) ≡ true → OnOk result (StepsFrom (ReadsItems (S.left input.old) (seen request.entry)) steps.old steps.new) }
-{
-    match request {
-        Request::Show { files: names } => show(alloc, files, names),
-        Request::ShowBack { file } => show_back(alloc, files, file),
-        Request::Serve {
-            task,
-            root,
-            files: names,
-        } => serve(alloc, Service { task, root, names }, files, input, steps),
-        Request::Trial { lines } => try_out(alloc, lines, steps),
-    }
-}
-
-// All that comes before writing: the whole result, or the refusal.
-fn decide<F: Library, S: Source, L: Ledger>(
-    alloc: Global,
-    words: &[Text],
-    files: &mut F,
-    input: &mut S,
-    steps: &mut Steps<L>,
-) -> Result<Vec<u8>, Outcome>
-    ensures due { Answers (λ bytes. bytes.items) (Decided words.now (F.entries files.old) (S.left input.old))
-        (Deciding (F.faults files.old) (F.faults files.new) (F.is_sure files.old) (F.entries files.old) (S.faults input.old) (S.faults input.new) words.now) result }
-    ensures back { IfOk result (λ bytes. ReadBack words.now (F.entries files.old) (S.left input.old) bytes.items) }
-    ensures end { ReadsInput words.now → OnOk result (IsAtEnd (S.left input.new)) }
-    ensures untouched { (input.new ≡ input.old) ⊎ (TakesOfWords words.now (F.entries files.old) (S.left input.old) (S.left input.new) × IfErr result IsOfInput) }
-    ensures files { (F.entries files.new ≡ F.entries files.old) × (F.is_sure files.new ≡ F.is_sure files.old) }
-    ensures loads { F.faults files.old ≤ F.faults files.new }
-    ensures reads { S.faults input.old ≤ S.faults input.new }
-    ensures few { StepsUpTo (ReadsOfWords words.now (S.left input.old)) steps.old steps.new }
-    ensures many { ReadsDocument words.now → OnOk result (StepsFrom (ReadsOfWords words.now (S.left input.old)) steps.old steps.new) }
-{
-    let request = read_words(words)?;
-    answer(alloc, request, files, input, steps)
-}
-
-// Writes the line of the outcome, and returns the outcome whatever becomes of the line.
+// Writes the line of the outcome, and returns the outcome even if that fails.
 fn complain<E: Sink>(outcome: Outcome, complaints: &mut E) -> Outcome
     ensures same { result ≡ outcome }
     ensures complaint { Appends (E.written complaints.old) (E.written complaints.new) (line outcome)
@@ -259,105 +24,30 @@ fn complain<E: Sink>(outcome: Outcome, complaints: &mut E) -> Outcome
     outcome
 }
 
-// Does what `each-to-xml` asks for.
-fn run_each<F: Library, S: Source, K: Sink, E: Sink>(
-    alloc: Global,
-    root: Root<'_>,
-    names: &[Text],
-    environment: Environment<'_, F, S, K, E>,
-) -> Outcome
-    requires { length names.now ≤ 64 }
-    ensures { (steps : ℕ) → RunsEach (root_seen root.entry) names.now
-        (on_entry F.Library S.Source K.Sink E.Sink environment.entry steps) (on_exit F.Library S.Source K.Sink E.Sink environment.exit steps)
-        (environment.exit.1.0.now ≡ environment.entry.input.now) (environment.exit.1.1.0.now ≡ environment.entry.output.now) result }
-{
-    let Environment {
-        files,
-        input,
-        output,
-        complaints,
-    } = environment;
-    let prepared = match Prepared::open(alloc, files, root, names) {
-        Ok(prepared) => prepared,
-        Err(failure) => return complain(failure, complaints),
-    };
-    let outcome = prepared.write_each(alloc, input, output);
-    complain(outcome, complaints)
-}
-
-// Does what the commands ask for that answer whole, or not at all.
-fn run_whole<F: Library, S: Source, K: Sink, E: Sink, L: Ledger>(
-    alloc: Global,
-    words: &[Text],
-    environment: Environment<'_, F, S, K, E>,
-    steps: &mut Steps<L>,
-) -> Outcome
-    ensures { Runs words.now
-        (on_entry F.Library S.Source K.Sink E.Sink environment.entry steps.old) (on_exit F.Library S.Source K.Sink E.Sink environment.exit steps.new)
-        (environment.exit.1.0.now ≡ environment.entry.input.now) (environment.exit.1.1.0.now ≡ environment.entry.output.now) result }
-{
-    // At most one outcome is due, with one list of bytes.
-    one_answer();
-    let Environment {
-        files,
-        input,
-        output,
-        complaints,
-    } = environment;
-    match decide(alloc, words, files, input, steps) {
-        Ok(bytes) => match write_all(output, &bytes) {
-            Ok(()) => complain(Outcome::Done, complaints),
-            Err(Failed) => complain(Outcome::WriteFault, complaints),
-        },
-        Err(outcome) => complain(outcome, complaints),
-    }
-}
-
-/// Does what the words ask for. `show FILE...`, `check ROOT FILE...`, `to-per ROOT FILE...`, `to-xml ROOT FILE...` and, with
-/// the words of `to-per` and `to-xml`, `to-per-u` and `to-xml-u`, `to-der` and `from-der` load the schema files in turn and
-/// end at the first that can't be loaded, has over 16,777,216 bytes, or has a fault in its text or as a schema document. Then
-/// the files are linked into one set, or the answer is the first fault of linking. `show` writes the module that the set maps
-/// to and leaves the input alone. The others look for the root in the set.
+/// Serves the request that the words make by `answer`, and writes the line of the outcome to the complaints. Other words are `Usage`,
+/// and nothing is loaded, read or written for them.
 ///
-/// `check`, `to-per`, `to-per-u` and `to-der` read the input, of as many bytes at most, as a document, which is valid against
-/// that element or has a first fault. `check` writes nothing. `to-per` writes the complete encoding, in canonical aligned PER,
-/// of the one value whose items by EXTENDED-XER are the document's treated items, unless it has too many nodes; `to-per-u` the
-/// one in canonical unaligned PER, `to-der` the one in DER. `to-xml` takes the complete aligned encoding of a value and nothing
-/// else, octet by octet as they come, `to-xml-u` the unaligned one, `from-der` the one in DER, of which it reads the whole
-/// input, as `to-der` does; and they write a document with the items of that value. `trial N` does what `to-per` does with an
-/// order of N lines, over a file and an input of its own, and writes one line.
-///
-/// `show-back FILE` loads a file of as many bytes at most, reads the module of which it is the print, or answers its first
-/// fault, and writes a line for each assignment. It leaves the input alone.
-///
-/// `each-to-xml ROOT FILE...` takes complete encodings that follow one another to the end of the input, of at most
-/// 1,073,741,824 octets in all, and writes the document of each before it takes an octet behind it. So a refusal stands behind
-/// the documents of the records before it.
-///
-/// Otherwise the whole result is made before writing begins. Complaints receive the line of the outcome. A fault outside is one that
-/// raises the count of its object.
+/// The words are `show FILE...`, `show-back FILE`, `check ROOT FILE...`, `to-per ROOT FILE...`, `to-xml ROOT FILE...`, `trial N`,
+/// `each-to-xml ROOT FILE...`, and with the words of `to-per` and `to-xml` also `to-per-u`, `to-xml-u`, `to-der` and `from-der`.
 pub fn run<F: Library, S: Source, K: Sink, E: Sink, L: Ledger>(
     alloc: Global,
     words: &[Text],
-    files: &mut F,
-    input: &mut S,
-    output: &mut K,
-    complaints: &mut E,
+    environment: Environment<'_, F, S, K, E>,
     steps: &mut Steps<L>,
 ) -> Outcome
-    ensures { RunsAs (command.each_asked words.now) words.now
-        (outside F.Library S.Source K.Sink E.Sink files.old input.old output.old complaints.old steps.old)
-        (outside F.Library S.Source K.Sink E.Sink files.new input.new output.new complaints.new steps.new)
-        (input.new ≡ input.old) (output.new ≡ output.old) result }
+    ensures { RunsIn F.Library S.Source K.Sink E.Sink words.now environment.entry environment.exit steps.old steps.new result }
 {
-    let environment = Environment {
+    let Environment {
         files,
         input,
         output,
         complaints,
-    };
-    match read_each(words) {
-        Some((root, names)) => run_each(alloc, root, names, environment),
-        None => run_whole(alloc, words, environment, steps),
+    } = environment;
+    match read_asked(words) {
+        Ok(asked) => complain(
+            answer(alloc, asked, files, input, output, steps),
+            complaints,
+        ),
+        Err(outcome) => complain(outcome, complaints),
     }
 }

@@ -1,22 +1,30 @@
-//! The trial document, and the line that tells how long its encoding is.
-ghost use Rattle.std.specs.Prelude.{◌≡◌, ◌++◌, ◌+◌, ◌%◌, ◌<◌, ◌≤◌, [], ◌∷◌, decimal, OnOk, IfOk};
+//! The trial: a document, its encoding, and the line that states how long they are.
+ghost use Rattle.std.specs.Prelude.{◌≡◌, ◌++◌, ◌+◌, ◌%◌, ◌<◌, ◌≤◌, [], ◌∷◌, decimal, length, OnOk, IfOk, Ok, Some};
+ghost use Rattle.transcode_words.specs.Order.{Give, Then};
+ghost use Rattle.transcode_words.specs.Answers.{Answers, NoMemory};
+ghost use Rattle.transcode_core.specs.Preparing.{prepared_seen};
 ghost use Rattle.transcode_core.specs.Trial as trial;
+ghost use Rattle.transcode_core.specs.Trial.{trial_name, trial_schema, trial_root};
+ghost use Rattle.transcode_core.specs.Due.{Opened, ItemsIn, Encoded, Tried};
+ghost use Rattle.transcode_core.specs.Causes.{StepsUpTo, StepsFrom};
 
-use base_texts::{Entry, Memory, SureLibrary, Text};
+use crate::prepared::Prepared;
+use base_texts::{Entry, Memory, Steps, SureLibrary, Text};
 use itoa::Buffer;
 use std::alloc::Global;
-use transcode_words::Root;
+use std::sync::ledger::Ledger;
+use transcode_words::{Outcome, Root, Syntax};
 
-// The name under which the schema stands.
+// The name of the schema file.
 const NAME: &str = "order.xsd";
 
-/// The root of the trial document.
-pub const ROOT: Root<'static> = Root {
+// The root of the trial document.
+const ROOT: Root<'static> = Root {
     space: "urn:po",
     local: "order",
 };
 
-// The schema of an order, by which the trial document is valid.
+// The schema of an order. The trial document is valid against it.
 const SCHEMA: &[u8] =
     b"<xs:schema xmlns:xs=\"http://www.w3.org/2001/XMLSchema\" xmlns=\"urn:po\" targetNamespace=\"urn:po\" elementFormDefault=\"qualified\">
 <xs:element name=\"order\" type=\"Order\"/>
@@ -25,15 +33,15 @@ const SCHEMA: &[u8] =
 <xs:simpleType name=\"Qty\"><xs:restriction base=\"xs:int\"><xs:minInclusive value=\"1\"/><xs:maxInclusive value=\"100\"/></xs:restriction></xs:simpleType>
 </xs:schema>";
 
-/// The name of the schema.
-pub fn schema_name(alloc: Global) -> Result<Text, Memory>
+// Returns the name of the schema file.
+fn schema_name(alloc: Global) -> Result<Text, Memory>
     ensures { IfOk result (λ name. name ≡ trial.trial_name) }
 {
     Text::from_str(alloc, NAME)
 }
 
-/// A library of the schema alone.
-pub fn schema_files(alloc: Global) -> Result<SureLibrary, Memory>
+// Returns a library of the schema alone.
+fn schema_files(alloc: Global) -> Result<SureLibrary, Memory>
     ensures { IfOk result (λ files. (files.entries ≡ (trial.trial_name, trial.trial_schema) ∷ []) × (files.faults ≡ 0)) }
 {
     let name = schema_name(alloc)?;
@@ -43,7 +51,7 @@ pub fn schema_files(alloc: Global) -> Result<SureLibrary, Memory>
     Ok(SureLibrary::new(entries))
 }
 
-// Puts the digits of a number.
+// Appends the digits of a number.
 fn put_number(out: &mut Vec<u8>, number: u64) -> Result<(), Memory>
     ensures { OnOk result (out.new.items ≡ out.old.items ++ decimal number) }
 {
@@ -52,7 +60,7 @@ fn put_number(out: &mut Vec<u8>, number: u64) -> Result<(), Memory>
     Ok(())
 }
 
-// Puts line i.
+// Appends line i.
 fn put_line(out: &mut Vec<u8>, i: u32) -> Result<(), Memory>
     ensures { OnOk result (out.new.items ≡ out.old.items ++ trial.trial_line i) }
 {
@@ -64,7 +72,7 @@ fn put_line(out: &mut Vec<u8>, i: u32) -> Result<(), Memory>
     Ok(())
 }
 
-/// The trial document of so many lines, from 1 to 100,000: an order without white space between its elements.
+/// Returns the trial document of this number of lines, from 1 to 100,000: an order without white space between its elements.
 pub fn trial_document(alloc: Global, lines: u32) -> Result<Vec<u8>, Memory>
     requires { (1 ≤ lines) × (lines ≤ 100000) }
     ensures { IfOk result (λ text. text.items ≡ trial.trial_document lines) }
@@ -77,8 +85,8 @@ pub fn trial_document(alloc: Global, lines: u32) -> Result<Vec<u8>, Memory>
     Ok(text)
 }
 
-/// The line that the trial writes: the number of lines, and the lengths of the document and of its encoding in bytes.
-pub fn summary(alloc: Global, lines: u32, document: u64, encoding: u64) -> Result<Vec<u8>, Memory>
+// Returns the line that the trial writes: the number of lines, and the lengths of the document and of its encoding in bytes.
+fn summary(alloc: Global, lines: u32, document: u64, encoding: u64) -> Result<Vec<u8>, Memory>
     ensures { IfOk result (λ text. text.items ≡ trial.summary lines document encoding) }
 {
     let mut text = Vec::from_slice(alloc, b"lines ")?;
@@ -89,4 +97,64 @@ pub fn summary(alloc: Global, lines: u32, document: u64, encoding: u64) -> Resul
     put_number(&mut text, encoding)?;
     text.push(b'\n')?;
     Ok(text)
+}
+
+// Returns the set of the schema of the trial, with its root and its map.
+fn open_trial(alloc: Global) -> Result<Prepared, Outcome>
+    ensures { Answers prepared_seen (Opened (Some ((trial_name, trial_schema) ∷ [])) trial_root (trial_name ∷ [])) NoMemory result }
+{
+    let (Ok(name), Ok(mut files)) = (schema_name(alloc), schema_files(alloc)) else {
+        return Err(Outcome::OutOfMemory);
+    };
+    Prepared::open(alloc, &mut files, ROOT, &[name])
+}
+
+// Returns the encoding of a document of the schema of the trial.
+fn encode_trial<L: Ledger>(
+    alloc: Global,
+    document: &[u8],
+    steps: &mut Steps<L>,
+) -> Result<Vec<u8>, Outcome>
+    ensures due { Answers (λ bytes. bytes.items) (Then (Opened (Some ((trial_name, trial_schema) ∷ [])) trial_root (trial_name ∷ [])) (λ opened. Encoded Syntax.Aligned opened (Some document.now))) NoMemory result }
+    ensures few { StepsUpTo (λ items. ItemsIn (Some document.now) (Ok items)) steps.old steps.new }
+    ensures many { OnOk result (StepsFrom (λ items. ItemsIn (Some document.now) (Ok items)) steps.old steps.new) }
+{
+    let prepared = open_trial(alloc)?;
+    prepared.encode(alloc, Syntax::Aligned, document, steps)
+}
+
+// Returns the number of bytes.
+fn length_of(bytes: &[u8]) -> u64
+    ensures { result ≡ length bytes.now }
+{
+    bytes.len() as u64
+}
+
+// Returns the line that states how long the encoding of a trial document of this length is.
+fn tell(alloc: Global, lines: u32, document: u64, octets: &[u8]) -> Result<Vec<u8>, Outcome>
+    ensures { Answers (λ bytes. bytes.items) (Give (trial.summary lines document (length octets.now))) NoMemory result }
+{
+    match summary(alloc, lines, document, octets.len() as u64) {
+        Ok(line) => Ok(line),
+        Err(_) => Err(Outcome::OutOfMemory),
+    }
+}
+
+/// Returns the summary of the trial document of this number of lines.
+pub fn try_out<L: Ledger>(
+    alloc: Global,
+    lines: u32,
+    steps: &mut Steps<L>,
+) -> Result<Vec<u8>, Outcome>
+    requires { (1 ≤ lines) × (lines ≤ 100000) }
+    ensures due { Answers (λ bytes. bytes.items) (Tried lines) NoMemory result }
+    ensures few { StepsUpTo (λ items. ItemsIn (Some (trial.trial_document lines)) (Ok items)) steps.old steps.new }
+    ensures many { OnOk result (StepsFrom (λ items. ItemsIn (Some (trial.trial_document lines)) (Ok items)) steps.old steps.new) }
+{
+    let Ok(document) = trial_document(alloc, lines) else {
+        return Err(Outcome::OutOfMemory);
+    };
+    let length = length_of(&document);
+    let octets = encode_trial(alloc, &document, steps)?;
+    tell(alloc, lines, length, &octets)
 }

@@ -1,5 +1,5 @@
--- Schema files in memory, and the line that is told of an outcome.
-use Rattle.std.specs.Prelude.{◌≡◌, ◌⊎◌, ℕ, List, [], ◌∷◌}
+-- Schema files in memory, and the line of an outcome.
+use Rattle.std.specs.Prelude.{◌≡◌, ℕ, List, [], ◌∷◌}
 use Rattle.transcode_words.specs.declared.outcome.Outcome.{Outcome}
 use Rattle.transcode_words.specs.declared.outcome.Outcome.TheVariants.{Usage}
 use Rattle.transcode_words.specs.Lines.{line}
@@ -9,6 +9,7 @@ abbrev pub names_of : List (List ℕ × List ℕ) → List (List ℕ)
 names_of [] = []
 names_of (file ∷ files) = file.0 ∷ names_of files
 
--- the line of the outcome, or nothing; of words, which there are none of, nothing
+-- the line of the outcome; of `Usage`, whose line is about the program's words, nothing
 abbrev pub IsLine : Outcome → List ℕ → Type 0
-IsLine o text = ((text ≡ line o) ⊎ (text ≡ [])) × (o ≡ Usage → text ≡ [])
+IsLine Usage text = text ≡ []
+IsLine o text = text ≡ line o

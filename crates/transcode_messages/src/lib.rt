@@ -6,11 +6,9 @@
 
 mod converting;
 mod lent;
-mod lines;
 mod schema_files;
 
 pub use converting::{Message, check, decode, encode};
-pub use lines::{LINE_ROOM, line_of};
 pub use schema_files::{AddError, SchemaFiles};
 pub use transcode_core::Prepared;
-pub use transcode_words::{Outcome, Root, Syntax};
+pub use transcode_words::{Outcome, Root, Syntax, line_of};

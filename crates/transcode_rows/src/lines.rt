@@ -3,15 +3,15 @@ use crate::error::LineError;
 use crate::row::{NamedText, find_text};
 use std::alloc::Global;
 
-/// What a line of a text stands for.
+/// The bytes that a line of a text denotes.
 #[derive(Drop)]
 pub struct Piece {
     pub bytes: Vec<u8>,
-    /// Where a `^` stood, which is left out.
+    /// The place of a `^` in the line. The character itself is dropped.
     pub mark: Option<usize>,
 }
 
-/// What a line stands for. None where it is no line of a text.
+/// Returns what a line denotes, or None where it is no line of a text.
 pub fn piece_of_line(
     alloc: Global,
     texts: &[NamedText<'_>],
@@ -26,7 +26,7 @@ pub fn piece_of_line(
     }
 }
 
-// `> TEXT` stands for the text, `| TEXT` for the text and a line feed.
+// `> TEXT` denotes the text, `| TEXT` the text and a line feed.
 fn written(alloc: Global, line: &str) -> Result<Option<Piece>, LineError> {
     if let Some(text) = line.strip_prefix('>') {
         return Ok(Some(marked(alloc, behind_space(text))?));

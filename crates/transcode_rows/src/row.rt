@@ -1,9 +1,9 @@
-//! A row: what the call is given, and what is due.
+//! A row: what the call is given, and its required result.
 use crate::error::LineError;
 use base_texts::{Entry, Text};
 use std::alloc::Global;
 
-/// A text that stands under a name, as a file or to be copied.
+/// A text with a name, as a file or to be copied.
 #[derive(Drop)]
 pub struct NamedText<'a> {
     pub name: &'a str,

@@ -1,4 +1,4 @@
-//! A row is run, and what came is compared with what is due.
+//! Runs a row, and compares its result with the required one.
 
 use crate::error::LineError;
 use crate::row::{Call, Calls, Due, Row};
@@ -92,7 +92,7 @@ fn print_bytes(rt: &(impl Print + AllocGlobal), what: &str, bytes: &[u8]) -> any
     Ok(())
 }
 
-/// Runs a row, and prints what came and what was due where they differ.
+/// Runs a row, and prints its result and the required one where they differ.
 pub fn passes(rt: &(impl Print + AllocGlobal), row: Row<'_>) -> anyhow::Result<bool> {
     let answer = call_run(rt.alloc(), row.call)?;
     if is_due(&answer, &row.due) {

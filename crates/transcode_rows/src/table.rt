@@ -25,7 +25,7 @@ struct Table<'a> {
     texts: Vec<NamedText<'a>>,
     rows: Vec<Row<'a>>,
     place: Place,
-    /// Where the last `^` stood in its text.
+    /// The place of the last `^` in its text.
     mark: usize,
 }
 

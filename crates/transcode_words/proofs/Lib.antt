@@ -1,4 +1,5 @@
-pub mod Fronts
+pub mod Pieces
+pub mod Short
 pub mod WordLemmas
-pub mod FewFiles
+pub mod FewAsked
 pub mod Joined

@@ -1,8 +1,10 @@
-pub mod Tasks
 pub mod Words
+pub mod Asked
+pub mod Commands
 pub mod Status
 pub mod Lines
 pub mod Order
 pub mod Answers
 pub mod Seen
+pub mod AskedSeen
 pub mod Private

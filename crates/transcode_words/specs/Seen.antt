@@ -1,15 +1,6 @@
--- What the code reads of the words.
+-- What definitions see of a root of the code.
 use Rattle.base_texts.specs.declared.texts.Name.{Name}
-use Rattle.transcode_words.specs.declared.words.Root.{Root}
-use Rattle.transcode_words.specs.declared.words.Request.{Request}
-use Rattle.transcode_words.specs.declared.words.Request.TheVariants as request
-use Rattle.transcode_words.specs.Words.{Asked, Show, ShowBack, Serve, Trial}
+use Rattle.transcode_words.specs.declared.asked.RootName.{RootName}
 
-abbrev pub root_seen : Root → Name
+abbrev pub root_seen : RootName → Name
 root_seen root = record { space = root.space.now; local = root.local.now }
-
-abbrev pub seen : Request → Asked
-seen (request.Show files) = Show files.now
-seen (request.ShowBack file) = ShowBack file.now
-seen (request.Serve task root files) = Serve task (root_seen root) files.now
-seen (request.Trial lines) = Trial lines

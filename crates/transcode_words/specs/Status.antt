@@ -1,7 +1,7 @@
 -- The exit status of an outcome, and its name.
 use Rattle.std.specs.Prelude.{◌≡◌, ◌⊎◌, ℕ, List, ◌++◌, codes}
 use Rattle.transcode_words.specs.declared.outcome.Outcome.{Outcome}
-use Rattle.transcode_words.specs.declared.outcome.Outcome.TheVariants.{Done, Usage, SchemaSyntax, SchemaFault, LinkFault, UnknownRoot, DocSyntax, Invalid, PerFault, RecordFault, DerFault, ModuleFault, Trailing, TooLong, TooManyNodes, LoadFault, ReadFault, WriteFault, OutOfMemory}
+use Rattle.transcode_words.specs.declared.outcome.Outcome.TheVariants.{Done, Usage, SchemaSyntax, SchemaFault, LinkFault, UnknownRoot, Stamp, DocSyntax, Invalid, PerFault, RecordFault, DerFault, ModuleFault, Trailing, TooLong, TooManyNodes, LoadFault, ReadFault, WriteFault, OutOfMemory}
 use Rattle.transcode_words.specs.Lines as lines
 
 abbrev pub status : Outcome → ℕ
@@ -11,6 +11,7 @@ status (SchemaSyntax _ _ _) = 3
 status (SchemaFault _ _ _) = 4
 status (LinkFault _ _ _) = 5
 status UnknownRoot = 6
+status Stamp = 9
 status (DocSyntax _ _) = 7
 status (Invalid _ _) = 8
 status (PerFault _ _) = 9
@@ -39,6 +40,7 @@ IsNamed (ModuleFault at why) name = name ≡ lines.module_reason why
 IsNamed Done name = name ≡ codes "Done"
 IsNamed Usage name = name ≡ codes "Usage"
 IsNamed UnknownRoot name = name ≡ codes "UnknownRoot"
+IsNamed Stamp name = name ≡ codes "Stamp"
 IsNamed (Trailing at) name = name ≡ codes "Trailing"
 IsNamed (TooLong k) name = name ≡ codes "TooLong"
 IsNamed (TooManyNodes count) name = name ≡ codes "TooManyNodes"

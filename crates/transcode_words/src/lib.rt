@@ -1,14 +1,18 @@
 //! Reads the words of a command line, and writes the line that reports an outcome.
 //!
-//! Read first: `specs/Words`, then `read_words` in `src/words.rt`; `specs/Lines`, then `write_line` in `src/lines.rt`.
+//! Read first: `specs/Asked` and `specs/Commands`, then `read_asked` in `src/commands.rt`; `specs/Lines`, then `write_line` in `src/lines.rt`.
 #![tactic(auto)]
 
+pub mod asked;
+mod commands;
 mod lines;
 mod outcome;
 mod tasks;
 mod words;
 
-pub use lines::write_line;
+pub use asked::RootName as Root;
+pub use commands::read_asked;
+pub use lines::{line_of, write_line};
 pub use outcome::Outcome;
-pub use tasks::{Syntax, Task};
-pub use words::{Request, Root, read_each, read_words};
+pub use tasks::Syntax;
+pub use words::{are_files, count_of, root_of};

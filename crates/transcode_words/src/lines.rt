@@ -1,11 +1,11 @@
 //! The line that complaints receive.
-ghost use Rattle.std.specs.Prelude.{◌≡◌, ◌++◌, IsErr, OnOk, OnErr, map, codes, decimal};
-ghost use Rattle.std.specs.Option.{IfSome};
+ghost use Rattle.std.specs.Prelude.{◌≡◌, ◌≤◌, ◌++◌, IsErr, OnOk, OnErr, map, codes, decimal, length};
 ghost use Rattle.std.specs.List.{concat};
 ghost use Rattle.std.specs.Io.KnownBytes.{Appends};
 ghost use Rattle.base_texts.specs.Faults.{Counts};
 ghost use Rattle.base_texts.specs.Bytes.{AppendsFront};
 ghost use Rattle.transcode_words.specs.Lines as lines;
+ghost use Rattle.transcode_words.specs.Lines.{IsShort};
 ghost use Rattle.transcode_words.specs.Private.Parts.{spelled};
 
 use crate::outcome::Outcome;
@@ -16,42 +16,17 @@ use itoa::Buffer;
 // The room for a line. The longest, that of the usage, has 233 bytes.
 const ROOM: usize = 256;
 
-// The pieces as one, if there is room for them.
-fn joined(parts: &[&[u8]]) -> Option<ArrayVec<u8, ROOM>>
-    ensures { IfSome result (λ line. line.items ≡ concat (map (λ part. part.now) parts.now)) }
+// Joins the pieces, for which there is room.
+fn joined(parts: &[&[u8]]) -> ArrayVec<u8, ROOM>
+    requires { length (concat (map (λ part. part.now) parts.now)) ≤ 256 }
+    ensures { result.items ≡ concat (map (λ part. part.now) parts.now) }
 {
     let mut line = ArrayVec::new();
     for part in parts {
-        match line.try_extend_from_slice(part) {
-            Ok(()) => {}
-            Err(_) => return None,
-        }
+        // There is room for it, so this doesn't fail.
+        let _ = line.try_extend_from_slice(part);
     }
-    Some(line)
-}
-
-// Writes the pieces, one after another.
-fn write_parts<E: Sink>(sink: &mut E, parts: &[&[u8]]) -> Result<(), Failed>
-    ensures ok { OnOk result (Appends (E.written sink.old) (E.written sink.new) (concat (map (λ part. part.now) parts.now))) }
-    ensures prefix { OnErr result (AppendsFront (E.written sink.old) (E.written sink.new) (concat (map (λ part. part.now) parts.now))) }
-    ensures cause { Counts (E.faults sink.old) (E.faults sink.new) (IsErr result) }
-{
-    for part in parts {
-        write_all(sink, part)?;
-    }
-    Ok(())
-}
-
-// Writes the pieces at once, if there is room for them in one.
-fn write_joined<E: Sink>(sink: &mut E, parts: &[&[u8]]) -> Result<(), Failed>
-    ensures ok { OnOk result (Appends (E.written sink.old) (E.written sink.new) (concat (map (λ part. part.now) parts.now))) }
-    ensures prefix { OnErr result (AppendsFront (E.written sink.old) (E.written sink.new) (concat (map (λ part. part.now) parts.now))) }
-    ensures cause { Counts (E.faults sink.old) (E.faults sink.new) (IsErr result) }
-{
-    match joined(parts) {
-        Some(line) => write_all(sink, line.as_slice()),
-        None => write_parts(sink, parts),
-    }
+    line
 }
 
 // A line as its parts: text with up to two numbers and the name of a reason in it.
@@ -108,11 +83,10 @@ pub(crate) fn numbered(head: &'static [u8], number: u64, tail: &'static [u8]) ->
     }
 }
 
-/// Writes the line of the outcome, at once, and nothing for `Done`. It takes no memory.
-pub fn write_line<E: Sink>(outcome: &Outcome, complaints: &mut E) -> Result<(), Failed>
-    ensures ok { OnOk result (Appends (E.written complaints.old) (E.written complaints.new) (lines.line outcome.now)) }
-    ensures prefix { OnErr result (AppendsFront (E.written complaints.old) (E.written complaints.new) (lines.line outcome.now)) }
-    ensures cause { Counts (E.faults complaints.old) (E.faults complaints.new) (IsErr result) }
+/// Returns the line of the outcome, and nothing for `Done`. It takes no memory. A line has at most 128 bytes, except that of `Usage`.
+pub fn line_of(outcome: &Outcome) -> ArrayVec<u8, ROOM>
+    ensures line { result.items ≡ lines.line outcome.now }
+    ensures short { IsShort outcome.now (length result.items) }
 {
     let parts = outcome.parts();
     let mut first = Buffer::new();
@@ -125,16 +99,22 @@ pub fn write_line<E: Sink>(outcome: &Outcome, complaints: &mut E) -> Result<(), 
         Some(at) => second.format(at).as_bytes(),
         None => b"".as_slice(),
     };
-    write_joined(
-        complaints,
-        &[
-            parts.head,
-            file,
-            parts.middle,
-            at,
-            parts.tail,
-            parts.reason,
-            parts.end,
-        ],
-    )
+    joined(&[
+        parts.head,
+        file,
+        parts.middle,
+        at,
+        parts.tail,
+        parts.reason,
+        parts.end,
+    ])
+}
+
+/// Writes the line of the outcome, at once, and nothing for `Done`. It takes no memory.
+pub fn write_line<E: Sink>(outcome: &Outcome, complaints: &mut E) -> Result<(), Failed>
+    ensures ok { OnOk result (Appends (E.written complaints.old) (E.written complaints.new) (lines.line outcome.now)) }
+    ensures prefix { OnErr result (AppendsFront (E.written complaints.old) (E.written complaints.new) (lines.line outcome.now)) }
+    ensures cause { Counts (E.faults complaints.old) (E.faults complaints.new) (IsErr result) }
+{
+    write_all(complaints, line_of(outcome).as_slice())
 }

@@ -1,7 +1,8 @@
 //! What a call of the program ends with.
-ghost use Rattle.std.specs.Prelude.{◌≡◌, ◌++◌, codes};
+ghost use Rattle.std.specs.Prelude.{◌≡◌, ◌++◌, codes, length};
 ghost use Rattle.link_names.specs.Reasons.{own_name};
 ghost use Rattle.transcode_words.specs.Lines as lines;
+ghost use Rattle.transcode_words.specs.Lines.{IsShort};
 ghost use Rattle.transcode_words.specs.Private.Parts.{spelled};
 ghost use Rattle.transcode_words.specs.Status.{status, IsNamed};
 
@@ -18,9 +19,9 @@ use xml_read::DocWhy;
 /// What a call of the program ends with. Files are numbered from 1 in the order of the words; number 0 is the input.
 #[derive(Clone, Copy)]
 pub enum Outcome {
-    /// The whole result was written.
+    /// The complete result was written.
     Done,
-    /// The words are none that are taken.
+    /// The words are no request.
     Usage,
     /// The first fault of the text of a schema file, at this byte.
     SchemaSyntax { file: u32, at: u64, why: DocWhy },
@@ -30,6 +31,8 @@ pub enum Outcome {
     LinkFault { file: u32, at: u64, why: LinkWhy },
     /// No global element has the name of the root.
     UnknownRoot,
+    /// The input doesn't begin with the stamp of the set.
+    Stamp,
     /// The first fault of the text of the input, at this byte.
     DocSyntax { at: u64, why: DocWhy },
     /// The document in the input isn't valid: its first fault, at this byte.
@@ -47,15 +50,15 @@ pub enum Outcome {
     RecordFault { number: u64, bit: u64, why: Why },
     /// The file has more than 16,777,216 bytes.
     TooLong { file: u32 },
-    /// The document is valid, but its value has so many nodes, more than 1,048,576.
+    /// The document is valid, but its value has this number of nodes, more than 1,048,576.
     TooManyNodes { count: u64 },
     /// The file could not be loaded.
     LoadFault { file: u32 },
     /// The input could not be read.
     ReadFault,
-    /// The result could not be written whole.
+    /// The result could not be written in full.
     WriteFault,
-    /// Memory is missing.
+    /// Out of memory.
     OutOfMemory,
 }
 
@@ -83,7 +86,7 @@ impl Outcome {
             Outcome::UnknownRoot => 6,
             Outcome::DocSyntax { .. } => 7,
             Outcome::Invalid { .. } => 8,
-            Outcome::PerFault { .. } => 9,
+            Outcome::Stamp | Outcome::PerFault { .. } => 9,
             Outcome::Trailing { .. } => 10,
             Outcome::TooLong { .. } => 11,
             Outcome::TooManyNodes { .. } => 12,
@@ -99,7 +102,8 @@ impl Outcome {
 
     /// Returns the line as its parts.
     pub(crate) fn parts(self) -> Parts
-        ensures { spelled result ≡ lines.line self }
+        ensures line { spelled result ≡ lines.line self }
+        ensures short { IsShort self (length (lines.line self)) }
     {
         match self {
             Outcome::Done => plain(b""),
@@ -134,6 +138,7 @@ impl Outcome {
                 end: b"\n",
             },
             Outcome::UnknownRoot => plain(b"unknown root\n"),
+            Outcome::Stamp => plain(b"input: another stamp\n"),
             Outcome::DocSyntax { at, why } => Parts {
                 head: b"input, byte ",
                 file: None,
@@ -225,6 +230,11 @@ impl Outcome {
                 name: "UnknownRoot",
                 means: "no global element of the schemas has this name",
                 remedy: "--root with one of the names below; ROOT is {namespace}name where the schema has a namespace",
+            },
+            Outcome::Stamp => Reason {
+                name: "Stamp",
+                means: "these octets don't begin with the stamp of these schemas: others wrote them",
+                remedy: "read them with the schemas that they were written with; show --stamp prints the stamp",
             },
             Outcome::Trailing { .. } => Reason {
                 name: "Trailing",

@@ -11,13 +11,13 @@ use content_models::Particle;
 use schema_components::{Content, SchemaSet, TypeOf};
 use simple_types::Simple;
 
-/// What may stand in an element.
+/// What an element may contain.
 #[derive(Clone, Copy)]
 pub enum Inside<'a> {
     Nothing,
     /// A text of the simple type, and no child element.
     Simple(&'a Simple),
-    /// Child elements by the content model of the complex type with this number, and whether texts may stand between them.
+    /// Child elements by the content model of the complex type with this number, and whether texts may appear between them.
     Children {
         mixed: bool,
         complex: u32,
@@ -33,7 +33,7 @@ pub struct Declared<'a> {
     pub inside: Inside<'a>,
 }
 
-// What may stand in an element whose complex type has this content and this number.
+// What an element may contain whose complex type has this content and this number.
 fn inside_of<'a>(set: &'a SchemaSet, complex: u32, content: &'a Content) -> Inside<'a>
     requires linked { IsLinked set.now }
     requires content { IsContent set.now content.now }

@@ -1,4 +1,4 @@
-//! The kids of an element that has no content model.
+//! The children of an element without a content model.
 ghost use Rattle.std.specs.Prelude.{◌≡◌, true, Some, MatchResult};
 ghost use Rattle.base_trees.specs.Rose.{roses_of, none};
 ghost use Rattle.xml_read.specs.Sound.{are_sound};
@@ -20,7 +20,7 @@ fn why_kid(label: &ItemRef<'_>) -> InvalidWhy
     }
 }
 
-/// An element that is nil has no kids.
+/// Checks that an element that is nil has no children.
 pub fn check_empty(mut kids: ItemKids<'_>) -> Result<(), Invalidity>
     ensures { MatchResult result
         (λ _. roses_of kids.entry ≡ none)
@@ -35,7 +35,7 @@ pub fn check_empty(mut kids: ItemKids<'_>) -> Result<(), Invalidity>
     }
 }
 
-/// An element in which nothing may stand has no kids.
+/// Checks that an element that may contain nothing has no children.
 pub fn check_no_content(mut kids: ItemKids<'_>) -> Result<(), Invalidity>
     ensures { MatchResult result
         (λ _. roses_of kids.entry ≡ none)
@@ -53,7 +53,7 @@ pub fn check_no_content(mut kids: ItemKids<'_>) -> Result<(), Invalidity>
     }
 }
 
-/// The characters of an element that has no child elements, none where it has no kids.
+/// Returns the characters of an element that has no child elements; none if it has no children.
 pub fn only_text<'a>(mut kids: ItemKids<'a>) -> Result<Characters<'a>, Invalidity>
     requires { are_sound (roses_of kids) ≡ true }
     ensures { MatchResult result

@@ -1,5 +1,5 @@
-//! Where the use of a name stands among the uses of a type.
-ghost use Rattle.std.specs.Prelude.{◌≡◌, ℕ, List, ◌<◌, ◌≤◌, length, slice_index_or};
+//! The position of a name's use among the uses of a type.
+ghost use Rattle.std.specs.Prelude.{◌≡◌, ℕ, List, ◌-◌, ◌^◌, ◌<◌, ◌≤◌, length, slice_index_or};
 ghost use Rattle.schema_components.specs.declared.components.AttributeUse.{AttributeUse};
 ghost use Rattle.base_texts.specs.Names.{name_eq, name_cmp};
 ghost use Rattle.validity_check.specs.Ascending.{Ascend};
@@ -9,7 +9,7 @@ use base_texts::Name;
 use schema_components::AttributeUse;
 use std::cmp::Ordering;
 
-// So many uses are looked through one by one.
+// Up to this number of uses are searched one by one.
 const FEW: usize = 8;
 
 /// Whether the names are the same. Their local names are compared first: a namespace may be much longer, and is that of
@@ -61,14 +61,11 @@ impl Run {
     }
 
     // With one more use of the namespace, and with those between.
-    fn with(self, place: usize, uses: &[AttributeUse], name: &Name) -> Run
-        requires ascending { Ascend uses.now }
-        requires place { place < length uses.now }
-        requires space { (u : AttributeUse) → (slice_index_or uses.now place u).name.space ≡ name.now.space }
-        requires run { IsRunOf uses.now name.now.space self }
-        ensures { IsRunOf uses.now name.now.space result }
+    fn with(self, place: usize) -> Run
+        requires { place < 2 ^ 64 - 1 }
+        ensures { (us : List AttributeUse) (space : List ℕ) → Ascend us → place < length us → ((u : AttributeUse) → (slice_index_or us place u).name.space ≡ space)
+            → IsRunOf us space self → IsRunOf us space result }
     {
-        let _ = name;
         if self.end <= self.start {
             Run {
                 start: place,
@@ -107,7 +104,7 @@ impl Run {
     }
 }
 
-// How the name of a use stands to another in the order of names. The namespaces aren't compared where they are known to
+// How the name of a use compares with another in the order of names. The namespaces aren't compared where they are known to
 // be the same.
 fn compare(uses: &[AttributeUse], place: usize, name: &Name, run: &mut Run) -> Ordering
     requires ascending { Ascend uses.now }
@@ -124,7 +121,7 @@ fn compare(uses: &[AttributeUse], place: usize, name: &Name, run: &mut Run) -> O
         Ordering::Less => Ordering::Less,
         Ordering::Greater => Ordering::Greater,
         Ordering::Equal => {
-            *run = run.with(place, uses, name);
+            *run = run.with(place);
             found.local.cmp(&name.local)
         }
     }
@@ -150,15 +147,15 @@ fn middle(low: usize, high: usize) -> usize
     low + (high - low) / 2
 }
 
-// Where a search among so many uses begins: at this number, or else in the middle.
+// Where a search among `count` uses begins: at `next` if there is such a use, else in the middle.
 fn first_look(count: usize, next: usize) -> usize
     ensures { 0 < count → result < count }
 {
     if next < count { next } else { middle(0, count) }
 }
 
-/// The number of the use of this name, if there is one, among uses that ascend. Many are searched by halves, from where the
-/// name may stand by where the last ones stood, and what is learnt of their namespaces is kept for the next name.
+/// Returns the number of the use of this name, if there is one, among uses in ascending order. Many uses are searched by
+/// halves, beginning where the last names were found. What is learnt of their namespaces is kept for the next name.
 pub(crate) fn place_of(uses: &[AttributeUse], name: &Name, run: &mut Run) -> Option<usize>
     requires ascending { Ascend uses.now }
     requires run { IsRun uses.now run.old }

@@ -13,7 +13,7 @@ use std::alloc::Global;
 use std::marker::Model;
 use std::rc::Rc;
 
-/// The plans of a set's content models, each compiled when it is first wanted; seen as the set.
+/// The plans of a set's content models, each compiled when it is first needed; seen as the set.
 #[derive(Drop)]
 pub struct Plans<'a> {
     alloc: Global,
@@ -72,7 +72,7 @@ impl<'a> Plans<'a> {
         }
     }
 
-    /// Takes lists back. Where there is no memory to keep them they go.
+    /// Keeps these lists for the next matcher, or drops them if memory runs out.
     #[inline(always)]
     pub fn give_back(&mut self, lists: Lists)
         ensures { self.new ≡ self.old }

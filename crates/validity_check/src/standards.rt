@@ -1,4 +1,4 @@
-//! Texts of attributes beside default and fixed values.
+//! Texts of attributes compared with default and fixed values.
 ghost use Rattle.std.specs.Prelude.{◌≡◌, ◌&&◌, not, IfOk, MatchOption, bytes_eq};
 ghost use Rattle.base_trees.specs.Rose.{Rose};
 ghost use Rattle.simple_types.specs.Seen.{space_of};
@@ -30,7 +30,7 @@ fn is_spelled(alloc: Global, simple: &Simple, text: &Text, spelling: &Text) -> R
     }
 }
 
-/// Why a text that the type accepts isn't taken beside a default or fixed value, if it isn't (XML Schema Part 1, section 3.5.4).
+/// Returns why a default or fixed value rejects a text that the type accepts, if it does (XML Schema Part 1, section 3.5.4).
 /// The text is read again where there is a fixed value, and not looked at where there is none.
 pub(crate) fn fixed_fault(
     alloc: Global,

@@ -12,8 +12,6 @@ ghost use Rattle.validity_check.specs.Answers.{Tells, TagFault, IsGoodTag};
 
 use crate::declarations::Declared;
 use crate::error::CheckError;
-use crate::judging::Judged;
-use crate::uses::Uses;
 use base_texts::{Memory, Name, Text, WhiteSpace, XSI_SPACE};
 use schema_components::SchemaSet;
 use simple_types::{Simple, SimpleError, ValueLabel, accept};
@@ -31,8 +29,8 @@ fn is_called(name: &Name, local: &[u8]) -> bool
     name.space.bytes() == XSI_SPACE.as_bytes() && name.local.bytes() == local
 }
 
-/// The text of the attribute of XML Schema for documents with this local name, if it stands (XML Schema Part 1, section
-/// 2.6).
+/// Returns the text of the attribute of XML Schema for documents with this local name, if it is present (XML Schema Part 1,
+/// section 2.6).
 pub fn special<'a>(attributes: &'a [(Name, Text)], local: &[u8]) -> Option<&'a Text>
     ensures { MatchOption result
         (rule.text_of attributes.now (rule.xsi local.now) ≡ None)
@@ -61,7 +59,7 @@ fn truth(alloc: Global, text: &Text) -> Result<Option<bool>, Memory>
     }
 }
 
-/// Whether the element is nil. `None` where `xsi:nil` may not stand, or has a text that is no truth value.
+/// Returns whether the element is nil, or `None` if `xsi:nil` is not allowed or its text is no truth value.
 pub fn nil_of(
     alloc: Global,
     nillable: bool,
@@ -81,21 +79,7 @@ pub fn nil_of(
     }
 }
 
-// Whether an attribute that is required is missing, those of XML Schema for documents left out: none of these is required.
-fn lacks(set: &SchemaSet, uses: &Uses<'_>, attributes: &[(Name, Text)], judged: &Judged) -> bool
-    requires uses { All (IsUse set.now) uses.now.list.now }
-    requires lacks { judged.now.lacks ≡ true → (s : SetParts) → rule.OneMissing (map (attribute_in s) uses.now.list.now) attributes.now }
-    requires stand { judged.now.lacks ≡ false → (s : SetParts) → rule.AllStand (map (attribute_in s) uses.now.list.now) attributes.now }
-    ensures lacks { IsTrue result → rule.OneMissing (map (attribute_in (parts_of set.now)) uses.now.list.now) (rule.left attributes.now) }
-    ensures stand { IsFalse result → rule.AllStand (map (attribute_in (parts_of set.now)) uses.now.list.now) (rule.left attributes.now) }
-{
-    let _ = set;
-    let _ = uses;
-    let _ = attributes;
-    judged.lacks
-}
-
-// Whether no attribute stands, and none is declared.
+// Whether no attribute is present, and none is declared.
 fn is_bare(declared: &Declared, attributes: &[(Name, Text)]) -> bool
     ensures attributes { IsTrue result → attributes.now ≡ [] }
     ensures uses { IsTrue result → declared.now.uses.list.now ≡ [] }
@@ -103,7 +87,7 @@ fn is_bare(declared: &Declared, attributes: &[(Name, Text)]) -> bool
     attributes.is_empty() && declared.uses.list.is_empty()
 }
 
-/// Whether an element that is declared so is nil; or the first fault of its start tag, which stands at this place.
+/// Returns whether an element with this declaration is nil, or the first fault of its start tag, which is at this place.
 pub fn check_tag(
     alloc: Global,
     set: &SchemaSet,
@@ -136,7 +120,7 @@ pub fn check_tag(
     if let Some(why) = judged.wrong {
         return Err(CheckError::Invalid { at, why });
     }
-    if lacks(set, &declared.uses, attributes, &judged) {
+    if judged.lacks {
         return Err(CheckError::Invalid {
             at,
             why: InvalidWhy::MissingAttribute,

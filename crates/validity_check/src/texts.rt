@@ -11,12 +11,12 @@ use std::alloc::Global;
 // Where no more comparisons than these can come of it, each attribute is looked for one by one.
 const FEW_COMPARISONS: usize = 64;
 
-/// Whether there are so few attributes and uses that to put them in order costs more than to compare each with each.
+/// Returns whether the attributes and uses are so few that sorting them costs more than comparing each with each.
 pub fn are_few(uses: &[AttributeUse], attributes: &[(Name, Text)]) -> bool {
     uses.len().saturating_mul(attributes.len()) <= FEW_COMPARISONS
 }
 
-// So many places of texts, in which none stands.
+// This number of places of texts, all empty.
 pub(crate) fn no_texts<'a>(alloc: Global, count: usize) -> Result<Vec<Option<&'a Text>>, Memory>
     ensures { IfOk result (λ texts. texts.items ≡ replicate count None) }
 {
@@ -24,7 +24,7 @@ pub(crate) fn no_texts<'a>(alloc: Global, count: usize) -> Result<Vec<Option<&'a
     Ok(texts)
 }
 
-/// For each of these uses, which ascend, the text of its attribute, if it stands. Each attribute is looked up once.
+/// Returns for each of these uses, which ascend, the text of its attribute, if it is present. Each attribute is looked up once.
 pub(crate) fn texts_of<'a>(
     alloc: Global,
     uses: &[AttributeUse],

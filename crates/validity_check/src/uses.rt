@@ -41,7 +41,7 @@ impl<'a> Uses<'a> {
         judge(alloc, set, self.list, attributes)
     }
 
-    /// For each use the text of its attribute, if it stands. Each attribute is looked up once.
+    /// Returns for each use the text of its attribute, if it is present. Each attribute is looked up once.
     pub fn texts_of<'t>(
         &self,
         alloc: Global,

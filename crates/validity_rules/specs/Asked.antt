@@ -1,4 +1,4 @@
--- What a set of schemas asks of an element, by the number of its declaration (XML Schema Part 1, sections 3.3 and 3.4).
+-- What a set of schemas requires of an element, by the number of its declaration (XML Schema Part 1, sections 3.3 and 3.4).
 use Rattle.std.specs.Prelude.{ℕ, Bool, true, false, List, [], map, Option, Some, None, slice_get}
 use Rattle.std.specs.Option.{option_map}
 use Rattle.base_texts.specs.declared.texts.Name.{Name}
@@ -15,24 +15,24 @@ use Rattle.schema_components.specs.declared.components.Content.TheVariants as co
 use Rattle.schema_components.specs.declared.components.ComplexDef.{ComplexDef}
 use Rattle.schema_components.specs.SetParts.{SetParts}
 
--- an attribute that may stand, with the texts that it may have, and its value constraint
+-- An attribute that may appear, with the texts that it may have, and its value constraint.
 pub record Attribute : Type 0 where
   pub name : Name
   pub space : Space
   pub required : Bool
   pub standard : Standard
 
--- what may stand in the element
+-- The content that the element may have.
 pub data Inside : Type 0 where
   nothing : Inside
-  -- a text of the simple type, and no child element
+  -- A text of the simple type, and no child element.
   simple : Space → Inside
-  -- child elements by a content model, and whether texts may stand between them
+  -- Child elements by a content model, and whether texts may appear between them.
   children : Bool → Particle → Inside
 
 pub record Asked : Type 0 where
   pub nillable : Bool
-  -- in the order of the declaration
+  -- In the order of the declaration.
   pub attributes : List Attribute
   pub inside : Inside
 
@@ -40,7 +40,7 @@ abbrev pub asked : Bool → List Attribute → Inside → Asked
 asked nillable attributes inside = record { nillable = nillable; attributes = attributes; inside = inside }
 
 module _ (s : SetParts) where
-  -- A linked set has no number that names nothing. Where one did, a truth value is asked for.
+  -- In a linked set each number names something. Otherwise a truth value would be required.
   abbrev pub space_at : ℕ → Space
   space_at n = elim (slice_get s.simples n) [ None ↦ Booleans | Some t ↦ t.space ]
 
@@ -57,7 +57,7 @@ module _ (s : SetParts) where
   asked_by_complex nillable None = asked nillable [] nothing
   asked_by_complex nillable (Some c) = asked nillable (map attribute_in c.uses) (inside_of c.content)
 
-  -- an element of a simple type has no attributes
+  -- An element of a simple type has no attributes.
   abbrev pub asked_by_type : Bool → TypeOf → Asked
   asked_by_type nillable (kind.Simple n) = asked nillable [] (simple (space_at n))
   asked_by_type nillable (kind.Complex n) = asked_by_complex nillable (slice_get s.complexes n)
@@ -66,7 +66,7 @@ module _ (s : SetParts) where
   asked_by None = asked false [] (simple Booleans)
   asked_by (Some e) = asked_by_type e.nillable e.kind
 
-  -- of an element with this declaration
+  -- What is required of an element with this declaration.
   abbrev pub asked_at : ℕ → Asked
   asked_at d = asked_by (slice_get s.elements d)
 

@@ -29,18 +29,18 @@ xsi_type = xsi (codes "type")
 abbrev pub xsi_nil : Name
 xsi_nil = xsi (codes "nil")
 
--- they tell where a schema may be found, and nothing of the element
+-- They state where a schema may be found, and nothing about the element.
 abbrev pub location_hints : List Name
 location_hints = xsi (codes "schemaLocation") ∷ xsi (codes "noNamespaceSchemaLocation") ∷ []
 
 abbrev pub is_special : Name → Bool
 is_special name = list_any (name_eq name) (xsi_type ∷ xsi_nil ∷ location_hints)
 
--- the text of the attribute of this name, if it stands
+-- The text of the attribute of this name, if it is present.
 abbrev pub text_of : List (Name × List ℕ) → Name → Option (List ℕ)
 text_of xs name = value_of name.space name.local xs
 
--- the attributes that are left to be declared
+-- The other attributes, which must be declared.
 abbrev pub left : List (Name × List ℕ) → List (Name × List ℕ)
 left xs = filter (λ x. not (is_special x.0)) xs
 
@@ -49,7 +49,7 @@ left xs = filter (λ x. not (is_special x.0)) xs
 pub data Nil : Type 0 where
   not_nil is_nil bad_nil : Nil
 
--- by a boolean text
+-- What a boolean text states.
 abbrev pub nil_from : Option Bool → Nil
 nil_from None = bad_nil
 nil_from (Some true) = is_nil
@@ -70,13 +70,13 @@ abbrev pub declared : List Attribute → Name → Option Attribute
 declared [] name = None
 declared (a ∷ wanted) name = if name_eq a.name name then Some a else declared wanted name
 
--- why a text isn't accepted, where Bad stands for the reason that is given
+-- Why a text isn't accepted. `bad` is the reason for Bad.
 abbrev pub Refuses : Reading → InvalidWhy → InvalidWhy → Type 0
 Refuses (Ok value) bad why = ⊥
 Refuses (Err Bad) bad why = why ≡ bad
 Refuses (Err Wide) bad why = why ≡ TooWide
 
--- a fixed value is the one that the attribute has (section 3.5.4); values are told apart by their spellings
+-- The attribute has its fixed value, if it has one (section 3.5.4). Values are distinguished by their spellings.
 abbrev pub IsFixedTo : Standard → List ℕ → Type 0
 IsFixedTo Free text = Unit {0}
 IsFixedTo (Default other) text = Unit {0}
@@ -87,24 +87,24 @@ IsOtherThanFixed Free text = ⊥
 IsOtherThanFixed (Default other) text = ⊥
 IsOtherThanFixed (Fixed other) text = text ≡ other → ⊥
 
--- the attribute takes the text: its type accepts it, and where it has a fixed value, that is the value
+-- The attribute accepts the text: its type accepts it, and if the attribute has a fixed value, that is the value.
 abbrev pub Takes : Attribute → List ℕ → Type 0
 Takes a text = (value : Rose ValueLabel) × Accepts a.space text value × IsFixedTo a.standard (spelled a.space value)
 
--- why it doesn't
+-- Why the attribute doesn't accept the text.
 abbrev pub Declines : Attribute → List ℕ → InvalidWhy → Type 0
 Declines a text why =
     Refuses (reads a.space text) BadAttribute why
     ⊎ ((value : Rose ValueLabel) × Accepts a.space text value × IsOtherThanFixed a.standard (spelled a.space value) × (why ≡ BadAttribute))
 
--- the attribute is declared and takes its text
+-- The attribute is declared and accepts its text.
 abbrev pub IsRight : List Attribute → Name × List ℕ → Type 0
 IsRight wanted x = elim (declared wanted x.0) [ None ↦ ⊥ | Some a ↦ Takes a x.1 ]
 
 abbrev pub IsWrong : List Attribute → InvalidWhy → Name × List ℕ → Type 0
 IsWrong wanted why x = elim (declared wanted x.0) [ None ↦ why ≡ UnknownAttribute | Some a ↦ Declines a x.1 why ]
 
--- the first that is wrong
+-- The first attribute that is wrong.
 abbrev pub FirstWrong : List Attribute → InvalidWhy → List (Name × List ℕ) → Type 0
 FirstWrong wanted why [] = ⊥
 FirstWrong wanted why (x ∷ xs) = IsWrong wanted why x ⊎ (IsRight wanted x × FirstWrong wanted why xs)
@@ -124,13 +124,13 @@ AllStand wanted xs = All (Stands xs) wanted
 abbrev pub OneMissing : List Attribute → List (Name × List ℕ) → Type 0
 OneMissing wanted xs = Any (IsMissing xs) wanted
 
--- ---- as they are treated
+-- ---- treated attributes
 
 abbrev pub spelled_read : Space → Reading → Option (List ℕ)
 spelled_read space (Ok value) = Some (spelled space value)
 spelled_read space (Err why) = None
 
--- the canonical spelling of the text, if it stands
+-- The canonical spelling of the text, if it is present.
 abbrev pub treated_text : Space → Option (List ℕ) → Option (List ℕ)
 treated_text space None = None
 treated_text space (Some text) = spelled_read space (reads space text)
@@ -139,13 +139,13 @@ abbrev pub put_attribute : Name → Option (List ℕ) → List (Name × List ℕ
 put_attribute name None others = others
 put_attribute name (Some text) others = (name, text) ∷ others
 
--- the text is that of the value constraint
+-- The text is that of the value constraint.
 abbrev pub has_spelling : Standard → List ℕ → Bool
 has_spelling Free text = false
 has_spelling (Default other) text = bytes_eq text other
 has_spelling (Fixed other) text = bytes_eq text other
 
--- An attribute that may be absent says nothing by its default or fixed value, which it has anyway.
+-- An attribute that may be absent is dropped if its value is the default or fixed one, which it has in any case.
 abbrev pub unless_standard : Attribute → Option (List ℕ) → Option (List ℕ)
 unless_standard a None = None
 unless_standard a (Some text) = if not a.required && has_spelling a.standard text then None else Some text
@@ -153,12 +153,12 @@ unless_standard a (Some text) = if not a.required && has_spelling a.standard tex
 abbrev pub treated_attribute : Attribute → List (Name × List ℕ) → Option (List ℕ)
 treated_attribute a xs = unless_standard a (treated_text a.space (text_of xs a.name))
 
--- in the order of the declaration, in canonical spelling
+-- The attributes in the order of the declaration, in canonical spelling.
 abbrev pub treated_attributes : List Attribute → List (Name × List ℕ) → List (Name × List ℕ)
 treated_attributes [] xs = []
 treated_attributes (a ∷ wanted) xs = put_attribute a.name (treated_attribute a xs) (treated_attributes wanted xs)
 
--- `xsi:nil` stands first, and only where it is true
+-- `xsi:nil` comes first, and appears only if it is true.
 abbrev pub with_nil : Nil → List (Name × List ℕ) → List (Name × List ℕ)
 with_nil is_nil xs = (xsi_nil, codes "true") ∷ xs
 with_nil _ xs = xs

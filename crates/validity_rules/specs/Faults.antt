@@ -1,5 +1,5 @@
--- The first fault of an element that isn't valid by XML Schema Part 1 (sections 3.3.4, 3.4.4 and 3.8.4). The order of the
--- faults is the profile's own: each stands only where none before it does.
+-- The first fault of an element that isn't valid by XML Schema Part 1 (sections 3.3.4, 3.4.4 and 3.8.4). The order of the faults is
+-- the profile's own: each counts only if there is none before.
 use Rattle.std.specs.Prelude.{◌≡◌, ℕ, zero, suc, ◌⊎◌, List, [], ◌∷◌, ◌++◌, Some, None, Bool, false}
 use Rattle.base_texts.specs.declared.texts.Name.{Name}
 use Rattle.base_texts.specs.WhiteSpace.{is_blank}
@@ -18,25 +18,25 @@ use Rattle.validity_rules.specs.Valid.{only_text, KidsValid, HasName}
 use Rattle.validity_rules.specs.declared.why.InvalidWhy.{InvalidWhy}
 use Rattle.validity_rules.specs.declared.why.InvalidWhy.TheVariants.{WrongRoot, XsiType, BadNil, MissingAttribute, NilWithContent, TextNotAllowed, ElementNotAllowed, BadText, UnexpectedElement, MissingElement}
 
--- some list of the particle begins with these leaves
+-- Some list of the particle begins with these leaves.
 abbrev pub Begins : Particle → List Leaf → Type 0
 Begins p us = (w : List Leaf) × Lang p 0 [] (us ++ w)
 
--- no list of the particle has just these names
+-- No list of the particle has exactly these names.
 abbrev pub Unfinished : Particle → List Name → Type 0
 Unfinished p xs = (w : List Leaf) → Lang p 0 [] w → names w ≡ xs → ⊥
 
--- the first i of them
+-- The first i of them.
 abbrev pub front : {L : Type 0} → ℕ → Roses L → Roses L
 front zero ts = none
 front (suc i) none = none
 front (suc i) (more t ts) = more t (front i ts)
 
--- the first of two faults, where the second counts if the first can't be
+-- The first of two faults. The second counts only if `well` holds: then there is no first.
 abbrev pub Then : (ℕ → InvalidWhy → Type 0) → Type 0 → (ℕ → InvalidWhy → Type 0) → ℕ → InvalidWhy → Type 0
 Then F well G at why = F at why ⊎ (well × G at why)
 
--- a fault with this reason at this place, where P holds
+-- A fault with this reason at this place, if P holds.
 abbrev pub At : ℕ → InvalidWhy → Type 0 → ℕ → InvalidWhy → Type 0
 At place reason P at why = (at ≡ place) × (why ≡ reason) × P
 
@@ -44,7 +44,7 @@ abbrev pub IsBad : Nil → Type 0
 IsBad bad_nil = Unit {0}
 IsBad _ = ⊥
 
--- the first child is a fault, for the reason that its label has
+-- The first child is a fault, for the reason that its label gives.
 abbrev pub FirstKid : Roses ItemLabel → (ItemLabel → InvalidWhy) → ℕ → InvalidWhy → Type 0
 FirstKid none reason at why = ⊥
 FirstKid (more t ts) reason at why = (at ≡ item_place (label_of t)) × (why ≡ reason (label_of t))
@@ -53,7 +53,7 @@ abbrev pub why_kid : ItemLabel → InvalidWhy
 why_kid (Element name xs declares at) = ElementNotAllowed
 why_kid (Text words at) = TextNotAllowed
 
--- the first child element stands there
+-- The first child element is a fault.
 abbrev pub FirstElement : Roses ItemLabel → ℕ → InvalidWhy → Type 0
 FirstElement none at why = ⊥
 FirstElement (more t ts) at why =
@@ -61,7 +61,7 @@ FirstElement (more t ts) at why =
 
 module _ (asks : ℕ → Asked) where
   abbrev mutual
-    -- the first fault of the element under the declaration d
+    -- The first fault of the element under the declaration d.
     pub FaultBy : ℕ → Rose ItemLabel → ℕ → InvalidWhy → Type 0
     FaultBy d (node l ts) at why = elim l [
       | Text words place ↦ ⊥
@@ -78,16 +78,16 @@ module _ (asks : ℕ → Asked) where
               | simple space ↦
                   FirstElement ts at why ⊎ ((words : List ℕ) × (only_text ts ≡ Some words) × (at ≡ place) × Refuses (reads space words) BadText why)
               | children mixed p ↦ (us : List Leaf) × Begins p us × (
-                  -- all kids are well, and more are wanted
+                  -- All children are valid, and more are required.
                   ((vs : Roses Plain) × KidsValid asks mixed ts us vs × Unfinished p (names us) × (at ≡ place) × (why ≡ MissingElement))
-                  -- or the kids before number i are well, and it isn't
+                  -- Or the children before number i are valid, and child i isn't.
                   ⊎ ((i : ℕ) × (vs : Roses Plain) × KidsValid asks mixed (front i ts) us vs × KidFault mixed p us ts i at why)
                   )
             ]
           ])))) at why
     ]
 
-    -- the kid number i, behind these leaves, has this first fault
+    -- The child with number i, after these leaves, has this first fault.
     pub KidFault : Bool → Particle → List Leaf → Roses ItemLabel → ℕ → ℕ → InvalidWhy → Type 0
     KidFault mixed p us none i at why = ⊥
     KidFault mixed p us (more t ts) (suc i) at why = KidFault mixed p us ts i at why
@@ -98,7 +98,7 @@ module _ (asks : ℕ → Asked) where
           ⊎ ((l : Leaf) × (l.name ≡ name) × Begins p (us ++ l ∷ []) × FaultBy l.decl t at why)
     ]
 
--- the first fault of the element under this declaration of the set stands at this place and has this reason
+-- The first fault of the element under this declaration of the set is at this place and has this reason.
 abbrev pub FirstFault : SetParts → ℕ → Rose ItemLabel → ℕ → InvalidWhy → Type 0
 FirstFault s d t at why =
     Then (At (item_place (label_of t)) WrongRoot (HasName (name_at s d) (label_of t) → ⊥)) (HasName (name_at s d) (label_of t)) (FaultBy (asked_at s) d t) at why

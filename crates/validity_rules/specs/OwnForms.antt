@@ -16,7 +16,7 @@ module _ (asks : ℕ → Asked) where
   abbrev pub IsOwnForm : ℕ → Rose Plain → Type 0
   IsOwnForm d b = (u : Rose ItemLabel) → plain_of u ≡ b → ValidBy asks d u b
 
-  -- elements with the names of these leaves, each for the declaration of its leaf
+  -- Elements with the names of these leaves, each valid for the declaration of its leaf, with itself as treated form.
   abbrev pub AreOwnForms : List Leaf → Roses Plain → Type 0
   AreOwnForms [] none = Unit {0}
   AreOwnForms (l ∷ ls) (more b bs) = IsNamed l.name (label_of b) × IsOwnForm l.decl b × AreOwnForms ls bs

@@ -3,7 +3,7 @@ use Rattle.std.specs.Prelude.{ℕ, List, codes}
 use Rattle.validity_rules.specs.declared.why.InvalidWhy.{InvalidWhy}
 use Rattle.validity_rules.specs.declared.why.InvalidWhy.TheVariants as invalid
 
--- the name of a reason against a document
+-- The name of a reason for rejecting a document.
 abbrev pub invalid_reason : InvalidWhy → List ℕ
 invalid_reason invalid.WrongRoot = codes "WrongRoot"
 invalid_reason invalid.XsiType = codes "XsiType"

@@ -17,33 +17,33 @@ abbrev pub put_before : List ℕ → Option (List ℕ) → Option (List ℕ)
 put_before words None = None
 put_before words (Some others) = Some (words ++ others)
 
--- the text of the element, empty where it has none; nothing where it has a child element
+-- The text of the element, empty if it has none. There is none if it has a child element.
 abbrev pub only_text : Roses ItemLabel → Option (List ℕ)
 only_text none = Some []
 only_text (more t ts) = elim (label_of t) [ Element name xs declares at ↦ None | Text words at ↦ put_before words (only_text ts) ]
 
--- a text as a child; the empty text is none
+-- A text as a child. The empty text gives no child.
 abbrev pub text_kids : List ℕ → Roses Plain
 text_kids [] = none
 text_kids (b ∷ bs) = more (node (text (b ∷ bs)) none) none
 
--- what was read, in canonical spelling
+-- The children are what was read, in canonical spelling.
 abbrev pub Spells : Space → Reading → Roses Plain → Type 0
 Spells space (Ok value) us = us ≡ text_kids (spelled space value)
 Spells space (Err why) us = ⊥
 
--- a text among child elements is kept in mixed content; elsewhere it is white space and is dropped
+-- A text among child elements is kept in mixed content. In other content it is white space and is dropped.
 abbrev pub Between : Bool → Bool → List ℕ → Roses Plain → Roses Plain → Type 0
 Between true blank words vs us = us ≡ more (node (text words) none) vs
 Between false blank words vs us = (blank ≡ true) × (us ≡ vs)
 
--- the treated element: its attributes as they are declared, and these kids
+-- The treated element: its attributes as they are declared, and these children.
 abbrev pub treated_element : Asked → Name → List (Name × List ℕ) → Roses Plain → Rose Plain
 treated_element a name xs vs = node (element name (with_nil (nil_of a.nillable xs) (treated_attributes a.attributes (left xs)))) vs
 
 module _ (asks : ℕ → Asked) where
   abbrev mutual
-    -- the element is valid for the declaration d, and b is its treated form
+    -- The element is valid for the declaration d, and b is its treated form.
     pub ValidBy : ℕ → Rose ItemLabel → Rose Plain → Type 0
     ValidBy d (node l ts) b = elim l [
       | Text words at ↦ ⊥
@@ -62,7 +62,7 @@ module _ (asks : ℕ → Asked) where
           ]
     ]
 
-    -- the child elements have the names of these leaves, and each is valid for the declaration of its leaf
+    -- The child elements have the names of these leaves, and each is valid for the declaration of its leaf.
     pub KidsValid : Bool → Roses ItemLabel → List Leaf → Roses Plain → Type 0
     KidsValid mixed none w us = (w ≡ []) × (us ≡ none)
     KidsValid mixed (more t ts) w us = elim (label_of t) [
@@ -76,6 +76,6 @@ abbrev pub HasName : Option Name → ItemLabel → Type 0
 HasName wanted (Element name xs declares at) = wanted ≡ Some name
 HasName wanted (Text words at) = ⊥
 
--- the element is valid for this declaration of the set, and these are its treated items
+-- The element is valid for this declaration of the set, and these are its treated items.
 abbrev pub Valid : SetParts → ℕ → Rose ItemLabel → Rose Plain → Type 0
 Valid s d t b = HasName (name_at s d) (label_of t) × ValidBy (asked_at s) d t b

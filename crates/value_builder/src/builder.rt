@@ -1,4 +1,4 @@
-//! What is put down of a value.
+//! Appends a value node by node.
 ghost use Rattle.std.specs.Prelude.{◌≡◌, length, ◌<◌, ◌+◌, ◌-◌, ◌^◌, ◌≤◌, min, ◌↔◌, ℕ, Err, IsTrue, IsUtf8, IfOk, List, OnOk, MatchResult, take};
 ghost use Rattle.base_trees.specs.Rose.{Rose, node, none};
 ghost use Rattle.base_flat_trees.specs.Zips.{Zip, zip_count, opened, added, added_all, closed};
@@ -17,12 +17,11 @@ use std::alloc::Global;
 use std::marker::Model;
 use xml_items::Characters;
 
-// So many flags lie in their value.
+// The greatest number of flags that a label stores without a list.
 const FEW: usize = 22;
 
-/// A value as far as it is put down. The nodes are counted, where 2^64 - 1 stands for that number and every greater one; as long
-/// as there are no more than `most`, they are kept. With `most` 0 nothing is kept, so that a document is judged and its value
-/// isn't made.
+/// A value as far as it is appended. The nodes are counted, where 2^64 - 1 means that number or a greater one. They are kept if
+/// there are at most `most`. With `most` 0 nothing is kept, so a document is judged without making its value.
 #[derive(Drop)]
 pub struct ValueBuilder {
     alloc: Global,
@@ -42,7 +41,7 @@ impl Model for ValueBuilder {
 }
 
 impl ValueBuilder {
-    /// Nothing is put down yet.
+    /// Returns an empty builder.
     pub fn new(alloc: Global, most: u32) -> ValueBuilder
         ensures { result ≡ nothing_of most }
     {
@@ -67,21 +66,21 @@ impl ValueBuilder {
         })
     }
 
-    /// How many nodes may be kept.
+    /// Returns the number of nodes that may be kept.
     pub fn most(&self) -> u32
         ensures { result ≡ self.now.most }
     {
         self.most
     }
 
-    /// How many nodes were put down.
+    /// Returns the number of nodes that were appended.
     pub fn count(&self) -> u64
         ensures { result ≡ self.now.nodes }
     {
         self.nodes
     }
 
-    /// Whether all of them are kept.
+    /// Returns whether all of them are kept.
     #[inline(always)]
     pub fn is_kept(&self) -> bool
         ensures { IsTrue result ↔ (self.now.nodes ≤ self.now.most) }
@@ -89,7 +88,7 @@ impl ValueBuilder {
         self.nodes <= u64::from(self.most)
     }
 
-    /// Whether no node may be kept. Then nothing that is put down counts, so that a caller needn't put it down.
+    /// Returns whether no node may be kept. Then nothing that is appended counts, so a caller need not append it.
     #[inline(always)]
     pub fn keeps_nothing(&self) -> bool
         ensures { IsTrue result ↔ (self.now.most ≡ 0) }
@@ -97,7 +96,7 @@ impl ValueBuilder {
         self.most == 0
     }
 
-    /// Puts down a node that has kids, which come next.
+    /// Appends a node with children, which come next.
     #[inline(always)]
     pub fn open(&mut self, label: ValueLabel) -> Result<(), Memory>
         ensures { OnOk result (Puts (opened label) self.old self.new) }
@@ -109,7 +108,7 @@ impl ValueBuilder {
         Ok(())
     }
 
-    /// Puts down a node that has no kids.
+    /// Appends a node without children.
     #[inline(always)]
     pub fn leaf(&mut self, label: ValueLabel) -> Result<(), Memory>
         ensures { OnOk result (Puts (added (node label none)) self.old self.new) }
@@ -121,7 +120,7 @@ impl ValueBuilder {
         Ok(())
     }
 
-    /// The innermost node that is open, if one is, has no more kids.
+    /// Closes the innermost open node, if there is one: it has no more children.
     #[inline(always)]
     pub fn close(&mut self)
         ensures { Puts closed self.old self.new }
@@ -131,7 +130,7 @@ impl ValueBuilder {
         }
     }
 
-    /// The innermost node that is open, a SEQUENCE, has one component more, which is present or isn't.
+    /// Adds one component to the innermost open node, a SEQUENCE. The component is present or absent.
     #[inline(always)]
     pub fn part(&mut self, present: bool) -> Result<(), Memory>
         ensures { OnOk result (Puts (flagged present) self.old self.new) }
@@ -142,8 +141,8 @@ impl ValueBuilder {
         add_flag(self.alloc, self.kept.innermost_mut(), present)
     }
 
-    /// Puts down the value that the type gives to the text. Where the type is a list or a union, and the text so long that its
-    /// value may have too many nodes to be kept, they are counted first, and no value is made if they are.
+    /// Appends the value that the type gives to the text. The value of a long list or union may have too many nodes to be kept.
+    /// Then they are counted first, and no value is made if they are too many.
     #[inline(always)]
     pub fn text(&mut self, simple: &Simple, text: &Text) -> Result<(), SimpleError>
         requires { Sound (space_of simple.now) }
@@ -167,7 +166,7 @@ impl ValueBuilder {
         Ok(())
     }
 
-    // Appends the value of the text that the first `len` bytes are. The bytes are copied only where they are kept.
+    // Appends the value of the text in the first `len` bytes. The bytes are copied only if they are kept.
     #[inline(always)]
     fn front(&mut self, simple: &Simple, bytes: &[u8], len: usize) -> Result<(), SimpleError>
         requires sound { Sound (space_of simple.now) }
@@ -208,7 +207,7 @@ impl ValueBuilder {
         }
     }
 
-    /// Moves all that another holds, which is all kept and has no node open, behind what is there.
+    /// Moves the contents of another builder after the nodes of this one. The other has kept all its nodes, and none is open.
     pub fn append(&mut self, other: ValueBuilder) -> Result<(), Memory>
         requires some { 1 ≤ other.most }
         requires kept { other.nodes ≤ other.most }
@@ -222,7 +221,7 @@ impl ValueBuilder {
         Ok(())
     }
 
-    /// So many nodes more are put down, which are too many: they are counted alone.
+    /// Counts this number of nodes without appending them, because they are too many.
     pub fn count_alone(&mut self, nodes: u64)
         requires { self.old.most < min (self.old.nodes + nodes) (2 ^ 64 - 1) }
         ensures { (f : Zip ValueLabel → Zip ValueLabel) (more : ℕ) → nodes ≡ min more (2 ^ 64 - 1) → ((z : Zip ValueLabel) → zip_count (f z) ≡ zip_count z + more) → Puts f self.old self.new }
@@ -230,7 +229,7 @@ impl ValueBuilder {
         self.nodes = self.nodes.saturating_add(nodes);
     }
 
-    /// Whether so many more may be kept.
+    /// Returns whether this number of nodes more may be kept.
     #[inline(always)]
     pub fn has_room(&self, nodes: u64) -> bool
         ensures { IsTrue result ↔ (min (self.now.nodes + nodes) (2 ^ 64 - 1) ≤ self.now.most) }
@@ -238,7 +237,7 @@ impl ValueBuilder {
         self.nodes.saturating_add(nodes) <= u64::from(self.most)
     }
 
-    /// The value, where one was put down and all of it is kept.
+    /// Returns the value, if one was appended and all of it is kept.
     pub fn finish(self) -> Flat<ValueLabel>
         requires some { 1 ≤ self.most }
         requires kept { self.nodes ≤ self.most }
@@ -249,7 +248,7 @@ impl ValueBuilder {
     }
 }
 
-// A SEQUENCE has one component more.
+// Adds one component to a SEQUENCE.
 #[inline(always)]
 fn add_flag(alloc: Global, label: &mut ValueLabel, present: bool) -> Result<(), Memory>
     ensures { OnOk result (label.new ≡ flagged_label present label.old) }
@@ -260,8 +259,8 @@ fn add_flag(alloc: Global, label: &mut ValueLabel, present: bool) -> Result<(), 
     }
 }
 
-// Flags of just their number, where they don't lie in their value: the list to which they were put grew by doubling. Where there is
-// no memory for it they stay as they are.
+// Shrinks the list of flags to its number of flags, if they are in a list, because it grew by doubling. If there is no memory for
+// it, the flags stay as they are.
 fn cut(alloc: Global, flags: Flags) -> Flags
     ensures { result ≡ flags }
 {
@@ -282,7 +281,7 @@ fn with_flags_cut(alloc: Global, label: ValueLabel) -> ValueLabel
     }
 }
 
-// Whether the innermost open node is a SEQUENCE of more components than have room in their value.
+// Returns whether the innermost open node is a SEQUENCE with more components than its label stores without a list.
 #[inline(always)]
 fn has_many_flags(kept: &Builder<ValueLabel>) -> bool {
     match kept.innermost() {

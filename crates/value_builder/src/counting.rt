@@ -13,7 +13,7 @@ use base_texts::{Text, is_treated};
 use simple_types::{Class, Simple, SimpleError, accept, accept_label, has_characters};
 use std::alloc::Global;
 
-// How many nodes the value has of a text that is read as it is, of which no copy is made.
+// Returns the number of nodes of the value of a text that is read as it is. It makes no copy.
 fn count_text(min: u32, max: Option<u32>, class: Class, text: &Text) -> Result<u64, SimpleError>
     ensures { MatchResult result
         (λ nodes. (value : Rose ValueLabel) × (read_characters min max class text.now ≡ Ok value) × (nodes ≡ shown_count value))
@@ -26,8 +26,8 @@ fn count_text(min: u32, max: Option<u32>, class: Class, text: &Text) -> Result<u
     }
 }
 
-/// How many nodes the value has that the type gives to the text, or why it gives none. 2^64 - 1 stands for that number and
-/// every greater one. No items of a list are kept.
+/// Returns the number of nodes of the value that the type gives to the text, or why it gives none. 2^64 - 1 means that number or a
+/// greater one. No items of a list are kept.
 pub fn count(alloc: Global, simple: &Simple, text: &Text) -> Result<u64, SimpleError>
     requires { Sound (space_of simple.now) }
     ensures { MatchResult result

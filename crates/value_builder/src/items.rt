@@ -14,8 +14,8 @@ use base_texts::Text;
 use simple_types::{Simple, SimpleError, ValueLabel, accept};
 use std::alloc::Global;
 
-/// How many items of a list were read, and how many nodes their values have. 2^64 - 1 stands for that number and every
-/// greater one.
+/// The number of items of a list that were read, and the number of nodes of their values. 2^64 - 1 means that number or a greater
+/// one.
 #[derive(Drop)]
 pub(crate) struct Items {
     count: u64,
@@ -23,14 +23,14 @@ pub(crate) struct Items {
 }
 
 impl Items {
-    /// None yet.
+    /// Returns no items.
     pub(crate) fn none() -> Items
         ensures { AreCounted [] result }
     {
         Items { count: 0, nodes: 0 }
     }
 
-    /// One more, with this value.
+    /// Counts one more item, with this value.
     pub(crate) fn add(&mut self, value: &Node<'_, ValueLabel>)
         ensures { (values : List (Rose ValueLabel)) → AreCounted values self.old → AreCounted (values ++ value.now ∷ []) self.new }
     {
@@ -38,14 +38,14 @@ impl Items {
         self.nodes = self.nodes.saturating_add(value.count());
     }
 
-    /// Whether there are none.
+    /// Returns whether there are none.
     pub(crate) fn are_none(&self) -> bool
         ensures { (values : List (Rose ValueLabel)) → AreCounted values self.now → result ≡ nat_le (length values) 0 }
     {
         self.count == 0
     }
 
-    /// Whether a list may have so many.
+    /// Returns whether a list of these bounds may have this number of items.
     pub(crate) fn are_within(&self, min: u32, max: Option<u32>) -> bool
         ensures { (values : List (Rose ValueLabel)) → AreCounted values self.now → result ≡ (nat_le min (length values) && is_at_most (length values) max) }
     {
@@ -56,7 +56,7 @@ impl Items {
         u64::from(min) <= self.count && within
     }
 
-    /// How many nodes the list of them has.
+    /// Returns the number of nodes of the list of these items.
     pub(crate) fn list_nodes(&self) -> u64
         ensures { (values : List (Rose ValueLabel)) → AreCounted values self.now → result ≡ shown_count (node ValueLabel.SequenceOf (roses_of values)) }
     {
@@ -64,7 +64,7 @@ impl Items {
     }
 }
 
-/// The value of one item of a list.
+/// Returns the value of one item of a list.
 pub(crate) fn read_item(
     alloc: Global,
     item: &Simple,

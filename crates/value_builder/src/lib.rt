@@ -1,7 +1,7 @@
 //! Builds a value node by node, in document order, and counts its nodes.
 //!
-//! Where only the count is needed, a list is read word by word and no value of a word is kept, so a list of millions of items
-//! costs no memory.
+//! If only the count is needed, a list is read word by word, and no value of a word is kept. So a list of millions of items costs
+//! no memory.
 //!
 //! Read first: `specs/Built`, then `src/builder.rt`; `count` in `src/counting.rt`, over `Reading` of `simple_types`.
 #![tactic(auto)]

@@ -1,4 +1,4 @@
-//! Lists, whose items are let go once they are counted.
+//! Lists whose items are dropped once they are counted.
 ghost use Rattle.std.specs.Prelude.{◌≡◌, ◌++◌, ◌∷◌, [], Ok, Err, List, MatchResult, OnOk, length, nat_le, string_bytes, if◌then◌else◌};
 ghost use Rattle.base_trees.specs.Rose.{Rose};
 ghost use Rattle.base_texts.specs.WhiteSpace.{words_of};
@@ -17,7 +17,7 @@ use base_texts::{Memory, Text, first_word};
 use simple_types::{Simple, SimpleError, ValueLabel, spell};
 use std::alloc::Global;
 
-// The items of the text, as the item type reads them.
+// Counts the items of the text, as the item type reads them.
 fn count_items(alloc: Global, item: &Simple, text: &str) -> Result<Items, SimpleError>
     requires { Sound (space_of item.now) }
     ensures { MatchResult result
@@ -34,7 +34,7 @@ fn count_items(alloc: Global, item: &Simple, text: &str) -> Result<Items, Simple
     Ok(items)
 }
 
-/// How many nodes the list has that the text stands for.
+/// Returns the number of nodes of the list that the text represents.
 pub(crate) fn count_list(
     alloc: Global,
     item: &Simple,
@@ -55,7 +55,7 @@ pub(crate) fn count_list(
     }
 }
 
-// A space, unless there are no items before.
+// Appends a space, unless there are no items before.
 fn write_space(spelling: &mut String, items: &Items) -> Result<(), Memory>
     ensures { OnOk result ((values : List (Rose ValueLabel)) → AreCounted values items.now
         → string_bytes spelling.new ≡ (if nat_le (length values) 0 then string_bytes spelling.old else string_bytes spelling.old ++ 0x20 ∷ [])) }
@@ -67,7 +67,7 @@ fn write_space(spelling: &mut String, items: &Items) -> Result<(), Memory>
     Ok(())
 }
 
-// The spelling of the next item, behind a space where these items stand before it.
+// Appends the spelling of the next item, after a space if these items precede it.
 fn write_item(
     alloc: Global,
     spelling: &mut String,
@@ -86,7 +86,7 @@ fn write_item(
     Ok(())
 }
 
-// The items of the text, and their spellings with a space between each two.
+// Returns the items of the text, counted, and their spellings with a space between each two.
 fn spell_items(alloc: Global, item: &Simple, text: &str) -> Result<(Items, String), SimpleError>
     requires { Sound (space_of item.now) }
     ensures { MatchResult result
@@ -105,7 +105,7 @@ fn spell_items(alloc: Global, item: &Simple, text: &str) -> Result<(Items, Strin
     Ok((items, spelling))
 }
 
-/// What is kept of the list that the text stands for.
+/// Returns what is kept of the list that the text represents.
 pub(crate) fn keep_list(
     alloc: Global,
     item: &Simple,

@@ -1,4 +1,4 @@
-//! Unions, whose members' values are known by their spellings.
+//! Unions. The value of a member is known by its spelling.
 ghost use Rattle.std.specs.Prelude.{◌<◌, Err, IfOk, MatchResult, length};
 ghost use Rattle.simple_types.specs.Seen.{space_of, spaces_in};
 ghost use Rattle.simple_types.specs.Sound.{Sound, AreSound};
@@ -19,7 +19,7 @@ pub(crate) struct MemberReading {
     pub(crate) spelling: Text,
 }
 
-// What is kept of the value that a member makes of the text.
+// Returns what is kept of the value that a member gives to the text.
 fn keep(alloc: Global, member: &Simple, text: &Text) -> Result<MemberReading, SimpleError>
     requires { Sound (space_of member.now) }
     ensures { MatchResult result
@@ -39,7 +39,7 @@ fn keep(alloc: Global, member: &Simple, text: &Text) -> Result<MemberReading, Si
     }
 }
 
-// The number of the first member that accepts the text or finds its number too wide, with what is kept of its value.
+// Returns the number of the first member that accepts the text or finds its number too wide, with what is kept of its value.
 fn take(
     alloc: Global,
     members: &[Simple],
@@ -62,7 +62,7 @@ fn take(
     Err(SimpleError::BadText)
 }
 
-/// How many nodes the value of the union of these members has.
+/// Returns the number of nodes of the value of the union of these members.
 pub(crate) fn count_union(
     alloc: Global,
     members: &[Simple],

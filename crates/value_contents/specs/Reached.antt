@@ -1,6 +1,6 @@
--- What is put down of a content model's value when the way to a leaf is open: the child elements before it stand in their
--- parts, and each group on the way is begun, with empty parts for what stands empty before the leaf. The child element at the
--- leaf comes next. In an all no way is open: its child elements come in any order, and each has a value of its own.
+-- What is appended of a content model's value when the path to a leaf is open. The child elements before the leaf are in their
+-- parts. Each group on the path is open, with empty parts for its empty particles before the leaf. The child element at the leaf
+-- comes next. In an all no path is open: its child elements come in any order, and each has a value of its own.
 use Rattle.std.specs.Prelude.{◌≡◌, ℕ, zero, suc, Bool, true, false, List, [], ◌∷◌, ◌++◌, length, Option, Some, None}
 use Rattle.base_trees.specs.Rose.{Rose}
 use Rattle.base_flat_trees.specs.Zips.{Zip, opened, added, added_all}
@@ -15,14 +15,14 @@ use Rattle.value_builder.specs.Built.{flagged, with_parts}
 use Rattle.value_contents.specs.Bounds.{is_single, is_parted}
 use Rattle.value_contents.specs.Made.{Child, Each, TermMade, PartsMade}
 
--- the occurrences of a SEQUENCE OF before this one are made of the child elements a
+-- The occurrences of a SEQUENCE OF before this one are made from the child elements a.
 pub record Before (B : Rose ValueLabel → List Child → Type 0) (most : Option ℕ) (i : ℕ) (vs : List (Rose ValueLabel)) (a : List Child) : Type 0 where
   pub count : length vs ≡ i
   pub within : is_at_most (suc i) most ≡ true
   pub each : Each B vs a
 
 abbrev mutual
-  -- A particle, from what was put down before it: gs are the child elements in it before the leaf, which is one of the
+  -- The path in a particle, after what was appended so far. gs are the child elements in it before the leaf. The leaf is one of the
   -- declaration d.
   pub Reached : Bool → Particle → Spot → List Child → ℕ → Zip ValueLabel → Zip ValueLabel → Type 0
   Reached in_choice (occurs t least most) (at i s) gs d before now =
@@ -32,7 +32,7 @@ abbrev mutual
             × TermReached t s b d (added_all vs (opened value.SequenceOf before)) now
       ]
 
-  -- one occurrence
+  -- The path in one occurrence.
   pub TermReached : Term → Inner → List Child → ℕ → Zip ValueLabel → Zip ValueLabel → Type 0
   TermReached (element e a) here gs d before now = (gs ≡ []) × (e ≡ d) × (now ≡ before)
   TermReached (element e a) (inside j s) gs d before now = ⊥
@@ -43,7 +43,7 @@ abbrev mutual
   TermReached (choice ps) (among j ms) gs d before now = ⊥
   TermReached (all ps) s gs d before now = ⊥
 
-  -- the particles of a sequence, whose parts are those of the innermost open SEQUENCE
+  -- The path in the particles of a sequence, whose parts are those of the innermost open SEQUENCE.
   pub OrderReached : Particles → Inner → List Child → ℕ → Zip ValueLabel → Zip ValueLabel → Type 0
   OrderReached none s gs d before now = ⊥
   OrderReached (more p ps) here gs d before now = ⊥
@@ -53,7 +53,7 @@ abbrev mutual
       (flags : List Bool) × (vs : List (Rose ValueLabel)) × (a : List Child) × (b : List Child) × (gs ≡ a ++ b) × PartsMade (more p none) flags vs a
       × OrderReached ps (inside j s) b d (with_parts flags vs before) now
 
-  -- the alternative with this number
+  -- The path in the alternative with this number.
   pub OneReached : Particles → ℕ → Spot → List Child → ℕ → Zip ValueLabel → Zip ValueLabel → Type 0
   OneReached none j s gs d before now = ⊥
   OneReached (more p ps) zero s gs d before now = Reached true p s gs d before now
@@ -63,7 +63,7 @@ abbrev pub PartedReached : Term → Spot → List Child → ℕ → Zip ValueLab
 PartedReached (sequence ps) (at i s) gs d before now = (i ≡ 0) × OrderReached ps s gs d before now
 PartedReached _ s gs d before now = ⊥
 
--- a content model, whose parts are those of the innermost open SEQUENCE
+-- The path in a content model, whose parts are those of the innermost open SEQUENCE.
 abbrev pub TopReached : Particle → Spot → List Child → ℕ → Zip ValueLabel → Zip ValueLabel → Type 0
 TopReached (occurs t least most) s gs d before now =
     elim (is_parted t least most) as (λ _. Type 0) [
@@ -71,15 +71,15 @@ TopReached (occurs t least most) s gs d before now =
       | false ↦ OrderReached (more (occurs t least most) none) (inside 0 s) gs d before now
     ]
 
--- These child elements were put down: none yet, or the last of them at the leaf of the spot.
+-- These child elements were appended: none yet, or the last of them at the leaf of the spot.
 abbrev pub Put : Particle → Option Spot → List Child → Zip ValueLabel → Zip ValueLabel → Type 0
 Put p None gs before now = (gs ≡ []) × (now ≡ before)
 Put p (Some s) gs before now =
     (front : List Child) × (last : Child) × (way : Zip ValueLabel) × (gs ≡ front ++ last ∷ []) × TopReached p s front last.decl before way × (now ≡ added last.value way)
 
--- ---- what is asked of a content model
+-- ---- what is required of a content model
 
--- the bounds of each particle are 1 and 1, or no occurrence of it is empty; and none is an all
+-- The bounds of each particle are 1 and 1, or no occurrence of it is empty. None is an all.
 abbrev mutual
   pub KeepsRule1 : Particle → Type 0
   KeepsRule1 (occurs t least most) = Rule1 t least most × TermKeepsRule1 t

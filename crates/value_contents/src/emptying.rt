@@ -1,4 +1,4 @@
-//! The parts for particles that stand empty.
+//! The parts for particles without child elements.
 ghost use Rattle.std.specs.Prelude.{◌≡◌, ℕ, ◌^◌, ◌<◌, ◌≤◌, [], true, OnOk, length, slice_get, Some};
 ghost use Rattle.base_trees.specs.Rose.{Rose, node_count, count_all, roses_of};
 ghost use Rattle.base_flat_trees.specs.Zips.{added};
@@ -16,7 +16,7 @@ use content_models::{ParticleKind, ParticleLabel};
 use simple_types::{Flags, ValueLabel};
 use value_builder::ValueBuilder;
 
-// The first alternative that may be empty.
+// Returns the number of the first alternative that may be empty.
 fn empty_alternative(particles: &[Tree<ParticleLabel>]) -> usize
     requires { any_empty (all_seen (roses_of particles.now)) ≡ true }
     ensures within { result < length particles.now }
@@ -32,7 +32,7 @@ fn empty_alternative(particles: &[Tree<ParticleLabel>]) -> usize
     unreachable!()
 }
 
-// One occurrence of a particle, as a value.
+// Appends one occurrence of a particle, as a value.
 #[cycle(emptying)]
 fn put_empty_term(particle: &Tree<ParticleLabel>, values: &mut ValueBuilder) -> Result<(), Memory>
     requires few { node_count particle.now < 2 ^ 31 }
@@ -57,12 +57,12 @@ fn put_empty_term(particle: &Tree<ParticleLabel>, values: &mut ValueBuilder) -> 
             values.close();
             Ok(())
         }
-        // It stands at the top alone, and there its particles are parts by themselves.
+        // An all appears only at the top, where its particles are parts by themselves.
         ParticleKind::All => values.leaf(ValueLabel::SequenceOf),
     }
 }
 
-// The value of a particle that can't be left out.
+// Appends the value of a particle that can't be absent.
 #[cycle(emptying)]
 fn put_empty_value(particle: &Tree<ParticleLabel>, values: &mut ValueBuilder) -> Result<(), Memory>
     requires few { node_count particle.now < 2 ^ 31 }
@@ -76,7 +76,7 @@ fn put_empty_value(particle: &Tree<ParticleLabel>, values: &mut ValueBuilder) ->
     }
 }
 
-// The part for a particle.
+// Appends the part for a particle.
 #[cycle(emptying)]
 pub(crate) fn put_empty_part(
     particle: &Tree<ParticleLabel>,
@@ -93,7 +93,7 @@ pub(crate) fn put_empty_part(
     put_empty_value(particle, values)
 }
 
-// The parts for particles side by side.
+// Appends the parts for particles of one group.
 #[cycle(emptying)]
 pub(crate) fn put_empty_parts(
     particles: &[Tree<ParticleLabel>],

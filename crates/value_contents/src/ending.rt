@@ -1,4 +1,4 @@
-//! What is open behind a leaf.
+//! Closes what is open after a leaf.
 ghost use Rattle.std.specs.Prelude.{◌≡◌, ◌^◌, ◌<◌, length, true, OnOk};
 ghost use Rattle.base_trees.specs.Rose.{node_count, count_all, roses_of};
 ghost use Rattle.content_models.specs.Seen.{seen, all_seen};
@@ -26,7 +26,7 @@ fn close_items(label: &ParticleLabel, in_choice: bool, values: &mut ValueBuilder
     }
 }
 
-// Closes what is open of a particle, of which nothing more comes.
+// Closes what is open of a particle that has no more child elements.
 #[cycle(ending)]
 pub(crate) fn end(
     particle: &Tree<ParticleLabel>,
@@ -117,7 +117,7 @@ pub(crate) fn end_parts(
     }
 }
 
-// The leaf is a particle of a sequence itself.
+// The leaf is itself a particle of a sequence.
 #[inline(always)]
 fn end_beside(
     particles: &[Tree<ParticleLabel>],

@@ -1,4 +1,4 @@
-//! The way into a particle.
+//! Opens the path into a particle.
 ghost use Rattle.std.specs.Prelude.{◌≡◌, ◌^◌, ◌<◌, length, Some, OnOk};
 ghost use Rattle.base_trees.specs.Rose.{node_count, count_all, roses_of};
 ghost use Rattle.base_texts.specs.declared.texts.Name.{Name};
@@ -33,7 +33,7 @@ fn open_items(
     values.open(ValueLabel::SequenceOf)
 }
 
-// Opens the way into a particle to the first leaf of a name.
+// Opens the path into a particle to the first leaf of a name.
 #[cycle(entering)]
 pub(crate) fn enter(
     particle: &Tree<ParticleLabel>,
@@ -124,7 +124,7 @@ pub(crate) fn enter_parts(
     }
 }
 
-// The leaf is a particle of a sequence itself.
+// The leaf is itself a particle of a sequence.
 #[inline(always)]
 fn enter_beside(
     particles: &[Tree<ParticleLabel>],

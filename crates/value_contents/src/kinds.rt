@@ -1,4 +1,4 @@
-//! Which form the part for a particle has, and whether it may be empty.
+//! The form of the part for a particle, and whether it may be empty.
 ghost use Rattle.std.specs.Prelude.{◌≡◌, ◌&&◌, false};
 ghost use Rattle.base_trees.specs.Rose.{roses_of};
 ghost use Rattle.content_models.specs.Clear.{empties, all_empty, any_empty};
@@ -9,7 +9,7 @@ ghost use Rattle.value_contents.specs.Bounds as bounds;
 use base_trees::Tree;
 use content_models::{ParticleKind, ParticleLabel};
 
-// The bounds 1 and 1.
+// Returns whether the bounds are 1 and 1.
 pub(crate) fn is_once(label: &ParticleLabel) -> bool
     ensures { result ≡ bounds.is_once label.now.min label.now.max }
 {
@@ -19,7 +19,7 @@ pub(crate) fn is_once(label: &ParticleLabel) -> bool
     }
 }
 
-// The bounds 0 and 1.
+// Returns whether the bounds are 0 and 1.
 pub(crate) fn is_optional(label: &ParticleLabel) -> bool
     ensures { result ≡ bounds.is_optional label.now.min label.now.max }
 {
@@ -29,7 +29,7 @@ pub(crate) fn is_optional(label: &ParticleLabel) -> bool
     }
 }
 
-// Whether a particle that stands is its one occurrence, and no SEQUENCE OF.
+// Returns whether the value of a present particle is its one occurrence, not a SEQUENCE OF.
 pub(crate) fn is_single(label: &ParticleLabel, in_choice: bool) -> bool
     ensures { result ≡ bounds.is_single in_choice label.now.min label.now.max }
 {
@@ -42,7 +42,7 @@ pub(crate) fn is_single(label: &ParticleLabel, in_choice: bool) -> bool
     is_optional(label)
 }
 
-// Whether two particles of a sequence are both single.
+// Returns whether two particles of a sequence are both single.
 #[inline(always)]
 pub(crate) fn are_single(first: &ParticleLabel, second: &ParticleLabel) -> bool
     ensures { result ≡ bounds.is_single false first.now.min first.now.max && bounds.is_single false second.now.min second.now.max }
@@ -50,7 +50,7 @@ pub(crate) fn are_single(first: &ParticleLabel, second: &ParticleLabel) -> bool
     is_single(first, false) && is_single(second, false)
 }
 
-// Whether the particles of a top particle are parts by themselves: it is a sequence that stands once, or an all.
+// Returns whether the particles of a top particle are parts by themselves: it is a sequence that occurs once, or an all.
 pub(crate) fn is_parted(label: &ParticleLabel) -> bool
     ensures { (ps : Particles) → result ≡ bounds.is_parted (term_seen label.now.kind ps) label.now.min label.now.max }
 {
@@ -61,7 +61,7 @@ pub(crate) fn is_parted(label: &ParticleLabel) -> bool
     }
 }
 
-// Whether no name need stand for the particle.
+// Returns whether the particle may be without child elements.
 #[cycle(emptiness)]
 pub(crate) fn may_be_empty(particle: &Tree<ParticleLabel>) -> bool
     ensures { result ≡ empties (seen particle.now) }

@@ -1,4 +1,4 @@
-//! From one leaf of a particle to the next.
+//! Moves from one leaf of a particle to the next.
 ghost use Rattle.std.specs.Prelude.{◌≡◌, ◌^◌, ◌<◌, length, Some, OnOk};
 ghost use Rattle.base_trees.specs.Rose.{node_count, count_all, roses_of};
 ghost use Rattle.base_texts.specs.declared.texts.Name.{Name};
@@ -19,7 +19,7 @@ use base_trees::Tree;
 use content_models::{ParticleKind, ParticleLabel};
 use value_builder::ValueBuilder;
 
-// It is among the parts of a content model. Most often both leaves are parts themselves, and neither is in a group of its own.
+// Moves among the parts of a content model. Most often both leaves are parts themselves, and neither is in a group of its own.
 #[inline(always)]
 pub(crate) fn step_parts(
     particles: &[Tree<ParticleLabel>],
@@ -38,8 +38,8 @@ pub(crate) fn step_parts(
     }
 }
 
-// Both leaves are particles of a sequence themselves: nothing is put for the same one again, and a flag alone from one that is
-// single to the next, which is single too.
+// Moves between leaves that are themselves particles of a sequence. It writes nothing for one particle again, and only a flag from
+// a single particle to the next one, if that is single too.
 #[inline(always)]
 fn step_beside(
     particles: &[Tree<ParticleLabel>],
@@ -63,7 +63,7 @@ fn step_beside(
     step_order(particles, from, to, values)
 }
 
-// The next leaf is in the same particle.
+// Moves to a leaf in one particle.
 #[cycle(moving)]
 pub(crate) fn step(
     particle: &Tree<ParticleLabel>,
@@ -82,7 +82,7 @@ pub(crate) fn step(
     enter_term(particle, to, values)
 }
 
-// It is in the same occurrence.
+// Moves to a leaf in one occurrence.
 #[cycle(moving)]
 fn step_term(
     particle: &Tree<ParticleLabel>,
@@ -110,7 +110,7 @@ fn step_term(
     }
 }
 
-// It is among the same particles of a sequence.
+// Moves to a leaf among the particles of one sequence.
 #[cycle(moving)]
 pub(crate) fn step_order(
     particles: &[Tree<ParticleLabel>],
@@ -134,7 +134,7 @@ pub(crate) fn step_order(
     }
 }
 
-// It is in a later particle of a sequence. Those between stand empty.
+// Moves to a leaf in a later particle of a sequence. The particles between are empty.
 fn step_over(
     particles: &[Tree<ParticleLabel>],
     from: Lower<'_>,

@@ -1,4 +1,4 @@
-//! The way to a leaf of a content model.
+//! The path to a leaf of a content model.
 ghost use Rattle.std.specs.Prelude.{◌≡◌, ◌<◌, MatchOption, length};
 ghost use Rattle.content_models.specs.Spots.{here, inside};
 ghost use Rattle.content_match.specs.Private.Standing.{spot_of};
@@ -6,22 +6,22 @@ ghost use Rattle.value_contents.specs.Private.Moves.{turn_in, inner_in};
 
 use content_match::Turn;
 
-/// The way to a leaf of a content model: the turns of the particles from the top to it, and between each two of them the place of
-/// the lower in its group, from 0. Before the first leaf there are none.
+/// The path to a leaf of a content model: the occurrences of the particles from the top to it. Between each two of them is the
+/// place of the lower in its group, from 0. Before the first leaf the path is empty.
 #[derive(Clone, Copy)]
 pub struct Path<'a> {
     pub turns: &'a [Turn],
     pub kids: &'a [u32],
 }
 
-// The kid of a group that is on the way, and the way from there.
+// The child of a group that is on the path, and the path from there.
 #[derive(Clone, Copy)]
 pub(crate) struct Lower<'a> {
     pub kid: u32,
     pub path: Path<'a>,
 }
 
-// Which occurrence of the uppermost particle is on the way, from 0.
+// Returns the number of the uppermost particle's occurrence that is on the path, from 0.
 pub(crate) fn turn_of(path: Path<'_>) -> u32
     ensures { result ≡ turn_in (spot_of path.entry.turns.now path.entry.kids.now) }
 {
@@ -31,7 +31,7 @@ pub(crate) fn turn_of(path: Path<'_>) -> u32
     }
 }
 
-// The kid of the uppermost group that is on the way, if the way goes on below it.
+// Returns the child of the uppermost group that is on the path, if the path continues below the group.
 pub(crate) fn below<'a>(path: Path<'a>) -> Option<Lower<'a>>
     ensures { MatchOption result
         (inner_in (spot_of path.entry.turns.now path.entry.kids.now) ≡ here)

@@ -1,4 +1,4 @@
-//! From one leaf of a content model to the next.
+//! Moves from one leaf of a content model to the next.
 ghost use Rattle.std.specs.Prelude.{◌≡◌, ◌^◌, ◌<◌, ℕ, Bool, List, Some, true, OnOk};
 ghost use Rattle.base_trees.specs.Rose.{Rose, node_count};
 ghost use Rattle.base_flat_trees.specs.Zips.{Zip};
@@ -28,8 +28,8 @@ use base_trees::Tree;
 use content_models::{Particle, ParticleLabel};
 use value_builder::ValueBuilder;
 
-/// The next leaf of the content model comes behind the child elements so far: the way to it is opened, and its element can be
-/// put down.
+/// Opens the path to the next leaf of the content model, after the child elements so far. Then the element of the leaf can be
+/// appended.
 #[inline(always)]
 pub fn put_step(
     model: &Particle,
@@ -51,7 +51,7 @@ pub fn put_step(
     }
 }
 
-/// No child element comes more: what is open of the content model is closed, and the parts behind are put down empty.
+/// Ends the child elements: closes what is open of the content model, and appends the parts after it as empty.
 pub fn put_end(model: &Particle, from: Path<'_>, values: &mut ValueBuilder) -> Result<(), Memory>
     requires fillable { IsFillable (seen model.now) }
     requires few { node_count model.now < 2 ^ 31 }
@@ -67,7 +67,7 @@ pub fn put_end(model: &Particle, from: Path<'_>, values: &mut ValueBuilder) -> R
     }
 }
 
-// The way to the first leaf.
+// Opens the path to the first leaf.
 fn put_first(
     top: &Tree<ParticleLabel>,
     to: Path<'_>,
@@ -88,7 +88,7 @@ fn put_first(
     enter(top, false, to, values)
 }
 
-// From a leaf to the next.
+// Moves from a leaf to the next.
 #[inline(always)]
 fn put_next(
     top: &Tree<ParticleLabel>,
@@ -111,7 +111,7 @@ fn put_next(
     }
 }
 
-// What is due behind the last leaf.
+// Closes what is open after the last leaf.
 fn put_last(
     top: &Tree<ParticleLabel>,
     from: Path<'_>,
@@ -132,7 +132,7 @@ fn put_last(
     }
 }
 
-// What is due where there is no leaf.
+// Appends the parts if there is no leaf.
 fn put_none(top: &Tree<ParticleLabel>, values: &mut ValueBuilder) -> Result<(), Memory>
     requires few { node_count top.now < 2 ^ 31 }
     requires no_all { IsNoAll (seen top.now) }

@@ -1,4 +1,4 @@
--- What the items of the values of a map keep, and the documents that are written of them.
+-- Laws of the items of the values of a map, and of the documents that are written from them.
 use Rattle.std.specs.Prelude.{◌≡◌, ℕ, ◌<◌, List, Some, IsSomeAnd}
 use Rattle.base_trees.specs.Rose.{Rose}
 use Rattle.simple_types.specs.declared.labels.ValueLabel.{ValueLabel}
@@ -24,8 +24,7 @@ SoundItems =
     (s : Set) (M : List Assignment) → IsLinked s → AreSmall s → (is_map : IsMapOf s M) (d : ℕ) → d < s.globals
     → (v : Rose ValueLabel) → Fits M (root_at s M is_map d) v → IsSomeAnd (Xer M (root_at s M is_map d) v) IsSound
 
--- Bytes that are read as the items of such a value, which stand in no text, are a valid document, whose treated items are
--- these.
+-- Bytes that are read as the items of such a value, without places, are a valid document. Its treated items are these.
 abbrev pub DocumentsOfValues : Type 0
 DocumentsOfValues =
     (s : Set) (M : List Assignment) → IsLinked s → AreSmall s → (is_map : IsMapOf s M) (d : ℕ) → d < s.globals

@@ -16,7 +16,7 @@ use Rattle.asn_values.specs.Values.{Fits}
 use Rattle.map_assignments.specs.Mapped.{IsMapOf, root_at}
 use Rattle.xer_items.specs.Items.{Xer}
 
--- the items are valid, wherever they are placed, with themselves as treated items
+-- The items are valid, wherever they are placed, and are their own treated items.
 abbrev pub IsItsOwn : Set → ℕ → Rose Plain → Type 0
 IsItsOwn s d b = (u : Rose ItemLabel) → plain_of u ≡ b → Valid (parts_of s) d u b
 
@@ -27,21 +27,21 @@ ValuesOfItems =
     → (t : Rose ItemLabel) (b : Rose Plain) → AreItems t → Valid (parts_of s) d t b
     → (v : Rose ValueLabel) × Fits M (root_at s M is_map d) v × (Xer M (root_at s M is_map d) v ≡ Some b)
 
--- (2) The items of a value that fits are valid with themselves as treated items.
+-- (2) The items of a value that fits are valid, and are their own treated items.
 abbrev pub ItemsOfValues : Type 0
 ItemsOfValues =
     (s : Set) (M : List Assignment) → IsLinked s → AreSmall s → (is_map : IsMapOf s M) (d : ℕ) → d < s.globals
     → (v : Rose ValueLabel) → Fits M (root_at s M is_map d) v
     → (b : Rose Plain) × (Xer M (root_at s M is_map d) v ≡ Some b) × IsItsOwn s d b
 
--- (3) Two values that fit and have the same items are equal.
+-- (3) Two values that fit and have equal items are equal.
 abbrev pub OneValue : Type 0
 OneValue =
     (s : Set) (M : List Assignment) → IsLinked s → AreSmall s → (is_map : IsMapOf s M) (d : ℕ) → d < s.globals
     → (v w : Rose ValueLabel) → Fits M (root_at s M is_map d) v → Fits M (root_at s M is_map d) w
     → Xer M (root_at s M is_map d) v ≡ Xer M (root_at s M is_map d) w → v ≡ w
 
--- (3) once more, for items that differ in places, bindings and the order of attributes; it follows from (2) and (3)
+-- (3) for items that differ in places, bindings and the order of attributes. It follows from (2) and (3).
 abbrev pub OneValueOfSame : Type 0
 OneValueOfSame =
     (s : Set) (M : List Assignment) → IsLinked s → AreSmall s → (is_map : IsMapOf s M) (d : ℕ) → d < s.globals

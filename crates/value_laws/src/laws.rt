@@ -3,18 +3,18 @@ ghost use Rattle.value_laws.specs.Statements.{OneValue, OneValueOfSame, ItemsOfV
 
 use validity_rules::{at_most_one, same_validity};
 
-/// Two values of the type of a global element that have the same items are equal.
+/// States that two values of the type of a global element are equal if their items are equal.
 pub fn one_value()
     ensures { OneValue }
 {}
 
-/// The items of a value that fits are valid, wherever they are placed, and are their own treated items.
+/// States that the items of a value that fits are valid, wherever they are placed, and are their own treated items.
 pub fn items_of_values()
     ensures { ItemsOfValues }
 {}
 
-/// Two values of the type of a global element are equal also where their items differ in places, bindings of prefixes and
-/// the order of attributes.
+/// States that two values of the type of a global element are equal even if their items differ in places, prefix bindings and
+/// attribute order.
 pub fn one_value_of_same()
     ensures { OneValueOfSame }
 {

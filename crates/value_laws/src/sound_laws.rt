@@ -3,14 +3,14 @@ ghost use Rattle.value_laws.specs.SoundItems.{SoundItems, DocumentsOfValues};
 
 use validity_rules::same_validity;
 
-/// The items of a value that fits are sound: names are those of XML, no two attributes of an element have one name, texts
-/// have the characters of XML alone, none is empty, and no two are neighbours. So they can be written as a document.
+/// States that the items of a value that fits are sound. Names are those of XML, no two attributes of an element have one name, and
+/// texts have only XML characters. No text is empty, and no two are adjacent. So they can be written as a document.
 pub fn items_are_sound()
     ensures { SoundItems }
 {}
 
-/// Bytes that are read as the items of a value that fits, as those that are written of them, are a valid document, whose
-/// treated items are the items of the value, however many bytes they are.
+/// States that bytes that are read as the items of a value that fits are a valid document. Such are the bytes that are written from
+/// them. The treated items of the document are the items of the value. The number of bytes is not bounded.
 pub fn documents_of_values()
     ensures { DocumentsOfValues }
 {

@@ -1,5 +1,5 @@
--- Items that a document may have, by XML 1.0 and Namespaces in XML 1.0. That their texts are UTF-8 is left to the code,
--- whose texts are.
+-- Items that a document may have, by XML 1.0 and Namespaces in XML 1.0. That their texts are UTF-8 is not stated here: all texts of
+-- the code are.
 use Rattle.std.specs.Prelude.{◌≡◌, ℕ, Bool, true, false, ◌&&◌, List, [], ◌∷◌, IsUtf8}
 use Rattle.std.specs.List.{list_all}
 use Rattle.std.specs.Str.{chars}
@@ -10,14 +10,14 @@ use Rattle.base_trees.specs.Rose.{Rose, node, Roses, none, more, label_of}
 use Rattle.xml_read.specs.Sound.{is_sound_name, has_name}
 use Rattle.xml_items.specs.Plain.{Plain, element, text}
 
--- production [2] Char
+-- Production [2] Char.
 abbrev pub HasCharacters : List ℕ → Type 0
 HasCharacters words = IsUtf8 words → list_all is_xml_char (chars words) ≡ true
 
 abbrev pub IsSoundAttribute : Name × List ℕ → Type 0
 IsSoundAttribute attribute = (is_sound_name attribute.0 ≡ true) × (is_xmlns attribute.0 ≡ false) × HasCharacters attribute.1
 
--- no two have one name
+-- No two attributes have one name.
 abbrev pub AreSoundAttributes : List (Name × List ℕ) → Type 0
 AreSoundAttributes [] = Unit {0}
 AreSoundAttributes (attribute ∷ attributes) =
@@ -35,7 +35,7 @@ abbrev pub begins_with_text : Roses Plain → Bool
 begins_with_text none = false
 begins_with_text (more item items) = is_text (label_of item)
 
--- each label is sound, and no two texts are neighbours
+-- Each label is sound, and no two texts are adjacent.
 abbrev mutual
   pub IsSound : Rose Plain → Type 0
   IsSound (node label items) = IsSoundLabel label × AreSound items

@@ -4,7 +4,7 @@ use Rattle.base_trees.specs.Rose.{Rose, node, Roses, label_of, length_all, Allow
 use Rattle.base_trees.specs.Rose as rose
 use Rattle.content_models.specs.Clear.{IsNoAll}
 use Rattle.content_models.specs.Kids.{KindMayHave, MayHave}
-use Rattle.content_models.specs.Particle.{Particles, occurs, all, none, more}
+use Rattle.content_models.specs.Particle.{Particles, occurs, all}
 use Rattle.content_models.specs.Seen.{seen, all_seen, term_seen}
 use Rattle.content_models.specs.declared.particles.ParticleKind.{ParticleKind}
 use Rattle.content_models.specs.declared.particles.ParticleKind.TheVariants.{Element, Sequence, Choice, All}

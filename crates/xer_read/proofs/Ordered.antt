@@ -35,7 +35,7 @@ use Rattle.xer_read.specs.Private.Held.{Held}
 use Rattle.xer_read.specs.Private.Held as held
 use Rattle.xer_read.specs.Private.Slots.{flags_of, all_of, values_of, Keeps, part_flags, part_values, order_value}
 use Rattle.xer_read.specs.Private.Keeping.{strings_from, strings_put}
-use Rattle.xer_read.specs.Private.Contents.{IsContentOf, is_ordered, HasNoAll, OrderMade, OrderedMade, KidsGathered, IsGathered, Begins, ComplexPut}
+use Rattle.xer_read.specs.Private.Contents.{IsContentOf, in_any_order, HasNoAll, OrderMade, OrderedMade, KidsGathered, IsGathered, Begins, ComplexPut}
 use Rattle.xer_read.proofs.Mixing.{strings-between, elements-alone}
 use Rattle.xer_read.proofs.Whole.{begun_at, complex-by}
 
@@ -93,13 +93,13 @@ plain-particle (occurs (sequence ps) least most) n = refl
 plain-particle (occurs (choice ps) least most) n = refl
 plain-particle (occurs (all ps) least most) n = absurd n
 
-pub no-order : (inside : asked.Inside) → HasNoAll inside → is_ordered inside ≡ false
+pub no-order : (inside : asked.Inside) → HasNoAll inside → in_any_order inside ≡ false
 no-order asked.nothing h = refl
 no-order (asked.simple space) h = refl
 no-order (asked.children mixed p) h = plain-particle p h
 
-pub has-order : (inside : Inside) (mixed : Bool) (complex : ℕ) (model : _) → inside ≡ Children mixed complex model → is_all (seen model.now) ≡ true → is_ordered (inside_told inside) ≡ true
-has-order inside mixed complex model e any = ap (λ x. is_ordered (inside_told x)) e ∙ any
+pub has-order : (inside : Inside) (mixed : Bool) (complex : ℕ) (model : _) → inside ≡ Children mixed complex model → is_all (seen model.now) ≡ true → in_any_order (inside_told inside) ≡ true
+has-order inside mixed complex model e any = ap (λ x. in_any_order (inside_told x)) e ∙ any
 
 -- ---- the numbers
 
@@ -115,7 +115,7 @@ begins-with a xs texts kept numbers old mid begins same = by old.most refl
     by : (most : ℕ) → old.most ≡ most → Begins a xs texts numbers old mid
     by (suc n) e = subst (λ ns. Begins a xs texts ns old mid) (same (omega (arith, e))) begins
     by zero e =
-        let o = order-any (is_ordered a.inside) numbers in
+        let o = order-any (in_any_order a.inside) numbers in
         record {
           text_flags = begins.text_flags;
           text_values = begins.text_values;

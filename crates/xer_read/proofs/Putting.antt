@@ -12,7 +12,7 @@ use Rattle.value_builder.proofs.Putting.{puts-both}
 use Rattle.validity_rules.specs.Asked.{Asked}
 use Rattle.validity_rules.specs.Attributes.{left}
 use Rattle.xer_read.specs.Private.Putting.{PartsPut}
-use Rattle.xer_read.specs.Private.Contents.{is_ordered, TextsMade, OrderMade, AttributesMade, Begins}
+use Rattle.xer_read.specs.Private.Contents.{in_any_order, TextsMade, OrderMade, AttributesMade, Begins}
 
 pub puts-as : (f g : Zip ValueLabel → Zip ValueLabel) (a b : Built) → ((z : Zip ValueLabel) → f z ≡ g z) → Puts f a b → Puts g a b
 puts-as f g a b same h = record { most = h.most; stands = λ z s. subst (Stands b) (same z) (h.stands z s) }
@@ -82,7 +82,7 @@ part-put (Ok x) P F a b c h (v, p, k) =
 part-put (Err e) P F a b c h k = k
 
 pub begins-put : (a : Asked) (xs : List (Name × List ℕ)) (texts : List (Rose ValueLabel)) (numbers : List ℕ) (one two three four five : Built) → Puts (opened (value.Sequence [])) one two
-    → PartsPut (TextsMade a.inside (node value.SequenceOf (roses_of texts))) two three → PartsPut (OrderMade (is_ordered a.inside) numbers) three four
+    → PartsPut (TextsMade a.inside (node value.SequenceOf (roses_of texts))) two three → PartsPut (OrderMade (in_any_order a.inside) numbers) three four
     → PartsPut (AttributesMade a.attributes (left xs)) four five → Begins a xs texts numbers one five
 begins-put a xs texts numbers one two three four five h k o m = record {
   text_flags = k.flags;

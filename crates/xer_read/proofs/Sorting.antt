@@ -1,5 +1,5 @@
 -- Child elements in the order that numbers tell, and the elements of an all.
-use Rattle.std.proofs.Common.{◌≡◌, ℕ, zero, suc, ◌+◌, ◌<◌, Bool, true, false, ◌&&◌, List, [], ◌∷◌, length, true≢false, refl, sym, ap, subst, ◌∙◌, arith}
+use Rattle.std.proofs.Common.{◌≡◌, ℕ, zero, suc, ◌<◌, Bool, true, false, ◌&&◌, List, [], ◌∷◌, length, true≢false, refl, sym, ap, subst, ◌∙◌, arith}
 use Rattle.std.specs.List.{AllByRecursion}
 use Rattle.base_trees.specs.Rose.{Rose, node, roses_of, list_of}
 use Rattle.base_trees.specs.Rose as rose
@@ -23,7 +23,7 @@ use Rattle.map_laws.specs.Standing.{count_particles, count_elements}
 use Rattle.validity_rules.specs.Asked.{inside_of}
 use Rattle.xer_items.proofs.Ordering.{in_order-all}
 use Rattle.value_contents.specs.Made.{Child, PartsMade, TopMade}
-use Rattle.xer_read.specs.Private.Contents.{is_ordered, OrderMade}
+use Rattle.xer_read.specs.Private.Contents.{in_any_order, OrderMade}
 
 -- ---- an all
 
@@ -106,11 +106,11 @@ in-order flags numbers bs h = ap (λ z. roses_of (in_order flags numbers z)) (ap
 -- ---- contents
 
 -- the walk and the map read alike whether child elements come in any order
-ordered-same : (s : SetParts) (c : Content) → is_ordered (inside_of s c) ≡ planning.is_ordered c
+ordered-same : (s : SetParts) (c : Content) → in_any_order (inside_of s c) ≡ planning.is_ordered c
 ordered-same s content_.Empty = refl
 ordered-same s (content_.Simple n) = refl
 ordered-same s (content_.ElementOnly p) = refl
 ordered-same s (content_.Mixed p) = refl
 
-pub order-made : (s : SetParts) (c : Content) (numbers : List ℕ) (flags : List Bool) (vs : List (Rose ValueLabel)) → OrderMade (is_ordered (inside_of s c)) numbers flags vs → OrderMade (planning.is_ordered c) numbers flags vs
+pub order-made : (s : SetParts) (c : Content) (numbers : List ℕ) (flags : List Bool) (vs : List (Rose ValueLabel)) → OrderMade (in_any_order (inside_of s c)) numbers flags vs → OrderMade (planning.is_ordered c) numbers flags vs
 order-made s c numbers flags vs h = subst (λ b. OrderMade b numbers flags vs) (ordered-same s c) h

@@ -4,3 +4,4 @@ pub mod Slots
 pub mod Keeping
 pub mod Putting
 pub mod Contents
+pub mod Opened

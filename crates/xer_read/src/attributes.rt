@@ -1,13 +1,13 @@
-//! The parts that stand for attributes.
-ghost use Rattle.std.specs.Prelude.{◌≡◌, ◌∷◌, [], true, Some, None, ◌<◌, length, map, All, OnOk, MatchOption};
+//! The parts of a value that represent attributes.
+ghost use Rattle.std.specs.Prelude.{◌≡◌, ◌∷◌, [], ℕ, List, true, ◌<◌, length, map, All, OnOk};
+ghost use Rattle.base_texts.specs.declared.texts.Name.{Name};
 ghost use Rattle.schema_components.specs.Declarable.{is_declarable_attribute};
 ghost use Rattle.schema_components.specs.Linked.{IsUse, IsLinked};
 ghost use Rattle.schema_components.specs.SetParts.{parts_of};
 ghost use Rattle.validity_rules.specs.Asked.{attribute_in};
-ghost use Rattle.validity_rules.specs.Attributes as rule;
 ghost use Rattle.validity_rules.specs.Attributes.{left};
 ghost use Rattle.validity_check.specs.Texts.{AreTexts};
-ghost use Rattle.xer_read.specs.Private.Contents.{IsTaken, AreTaken, AttributesMade};
+ghost use Rattle.xer_read.specs.Private.Contents.{IsTaken, IsTextOf, AreTaken, AttributesMade};
 ghost use Rattle.xer_read.specs.Private.Putting.{PartsPut};
 
 use base_texts::{Memory, Name, Text};
@@ -17,22 +17,21 @@ use std::alloc::Global;
 use validity_check::{Uses, are_few, says_nothing, text_of};
 use value_builder::ValueBuilder;
 
-// The part for an attribute use, whose text is this if it stands. A default or fixed value of what may be absent is no part.
+// Appends the part for an attribute use with this text, if it is present. An optional attribute with its default or fixed value
+// has no part.
 fn put_attribute(
     alloc: Global,
     set: &SchemaSet,
     declared: &AttributeUse,
-    attributes: &[(Name, Text)],
     text: Option<&Text>,
     values: &mut ValueBuilder,
 ) -> Result<(), Memory>
     requires linked { IsLinked set.now }
     requires declared { IsUse set.now declared.now }
-    requires taken { IsTaken (left attributes.now) (attribute_in (parts_of set.now) declared.now) }
-    requires text { MatchOption text (rule.text_of attributes.now declared.now.name ≡ None) (λ t. rule.text_of attributes.now declared.now.name ≡ Some t.now) }
-    ensures { OnOk result (PartsPut (AttributesMade (attribute_in (parts_of set.now) declared.now ∷ []) (left attributes.now)) values.old values.new) }
+    requires taken { (xs : List (Name × List ℕ)) × IsTaken (left xs) (attribute_in (parts_of set.now) declared.now) × IsTextOf xs declared.now.name text }
+    ensures { OnOk result ((xs : List (Name × List ℕ)) → IsTaken (left xs) (attribute_in (parts_of set.now) declared.now) → IsTextOf xs declared.now.name text.entry
+        → PartsPut (AttributesMade (attribute_in (parts_of set.now) declared.now ∷ []) (left xs)) values.old values.new) }
 {
-    let _ = attributes;
     match text {
         None => values.part(false),
         Some(found) => {
@@ -51,7 +50,7 @@ fn put_attribute(
     }
 }
 
-// The parts for few attribute uses, each of which is looked for one by one.
+// Appends the parts for few attribute uses, and searches for the attribute of each one by one.
 fn put_few(
     alloc: Global,
     set: &SchemaSet,
@@ -66,36 +65,35 @@ fn put_few(
 {
     for declared in uses {
         let text = text_of(attributes, &declared.name);
-        put_attribute(alloc, set, declared, attributes, text, values)?;
+        put_attribute(alloc, set, declared, text, values)?;
     }
     Ok(())
 }
 
-// The parts for attribute uses, whose texts are given in their order.
+// Appends the parts for attribute uses, whose texts are given in their order.
 fn put_each(
     alloc: Global,
     set: &SchemaSet,
     uses: &[AttributeUse],
-    attributes: &[(Name, Text)],
     texts: &[Option<&Text>],
     values: &mut ValueBuilder,
 ) -> Result<(), Memory>
     requires linked { IsLinked set.now }
     requires uses { All (IsUse set.now) uses.now }
-    requires taken { AreTaken set.now attributes.now uses.now }
-    requires texts { AreTexts attributes.now uses.now texts.now }
-    ensures { OnOk result (PartsPut (AttributesMade (map (attribute_in (parts_of set.now)) uses.now) (left attributes.now)) values.old values.new) }
+    requires taken { (xs : List (Name × List ℕ)) × AreTaken set.now xs uses.now × AreTexts xs uses.now texts.now }
+    ensures { OnOk result ((xs : List (Name × List ℕ)) → AreTaken set.now xs uses.now → AreTexts xs uses.now texts.now
+        → PartsPut (AttributesMade (map (attribute_in (parts_of set.now)) uses.now) (left xs)) values.old values.new) }
 {
     'uses: for i in 0..uses.len() {
         let declared = &uses[i];
         let text = texts[i];
-        put_attribute(alloc, set, declared, attributes, text, values)?;
+        put_attribute(alloc, set, declared, text, values)?;
     }
     Ok(())
 }
 
-/// The parts for attribute uses: each has the value of its attribute, or is absent where none stands, or where it has its default
-/// or fixed value and isn't required.
+/// Appends a part for each attribute use, with the value of its attribute. The part is absent without an attribute, and for an
+/// optional attribute that has its default or fixed value.
 pub(crate) fn put_attributes(
     alloc: Global,
     set: &SchemaSet,
@@ -115,5 +113,5 @@ pub(crate) fn put_attributes(
         return put_few(alloc, set, uses.list, attributes, values);
     }
     let texts = uses.texts_of(alloc, attributes)?;
-    put_each(alloc, set, uses.list, attributes, &texts, values)
+    put_each(alloc, set, uses.list, &texts, values)
 }

@@ -1,4 +1,4 @@
-//! The value of an element whose type is complex, or which may be nil: all of it but its child elements.
+//! The value of an element that has a complex type or may be nil, except its child elements.
 ghost use Rattle.std.specs.Prelude.{◌≡◌, ◌<◌, ◌≤◌, ◌∷◌, [], true, false, length, ℕ, List, Option, All, OnOk, MatchOption, MatchResult};
 ghost use Rattle.base_trees.specs.Rose.{Rose, roses_of, none};
 ghost use Rattle.base_flat_trees.specs.Zips.{Zip, opened, added};
@@ -8,7 +8,6 @@ ghost use Rattle.simple_types.specs.Space.{Space};
 ghost use Rattle.simple_types.specs.Sound.{Sound};
 ghost use Rattle.xml_read.specs.Sound.{are_sound};
 ghost use Rattle.xer_read.specs.Private.Given.{IsReadAs};
-ghost use Rattle.schema_components.specs.Linked.{IsUse, IsLinked};
 ghost use Rattle.schema_components.specs.SetParts.{parts_of};
 ghost use Rattle.validity_rules.specs.Asked as asked;
 ghost use Rattle.validity_rules.specs.Faults.{FirstKid, why_kid};
@@ -18,7 +17,8 @@ ghost use Rattle.value_builder.specs.Built.{Stands, Puts, flagged, with_parts};
 ghost use Rattle.value_contents.specs.Made.{Child};
 ghost use Rattle.xer_read.specs.Private.Slots.{Keeps, part_flags, part_values, order_value};
 ghost use Rattle.xer_read.specs.Private.Keeping.{strings_put};
-ghost use Rattle.xer_read.specs.Private.Contents.{AreTaken, is_plain_at, is_ordered, OrderMade, NothingMade, IsNilFilled, Begins, IsGathered, ComplexPut};
+ghost use Rattle.xer_read.specs.Private.Contents.{is_plain_at, in_any_order, OrderMade, NothingMade, IsNilFilled, Begins, IsGathered, ComplexPut};
+ghost use Rattle.xer_read.specs.Private.Opened.{IsOpened};
 ghost use Rattle.xer_read.specs.Private.Putting.{PartsPut};
 
 use crate::attributes::put_attributes;
@@ -26,16 +26,17 @@ use crate::gathering::Gathered;
 use crate::orders::any_order;
 use crate::strings::put_texts;
 use crate::texts::put_text;
-use base_texts::{Memory, Name, Text};
+use crate::walk::Element;
+use base_texts::Memory;
 use schema_components::{SchemaSet, TypeOf};
 use simple_types::{Flags, Simple, ValueLabel};
 use std::alloc::Global;
-use validity_check::{CheckError, Declared, Inside, check_empty, check_no_content};
+use validity_check::{CheckError, Inside, check_empty, check_no_content};
 use validity_rules::InvalidWhy;
 use value_builder::ValueBuilder;
 use xml_items::ItemKids;
 
-/// The type whose value is that of the element, which has a simple type and can't be nil.
+/// Returns the type whose value is the element's, if the element has a simple type and can't be nil.
 pub(crate) fn plain_type<'a>(set: &SchemaSet, decl: u32, inside: Inside<'a>) -> Option<&'a Simple>
     requires { decl < length set.now.elements }
     ensures { MatchOption result
@@ -63,7 +64,7 @@ pub(crate) fn no_components() -> ValueLabel
     }
 }
 
-// The numbers as a SEQUENCE OF ENUMERATED.
+// Appends the numbers as a SEQUENCE OF ENUMERATED.
 fn put_numbers(numbers: &[u32], values: &mut ValueBuilder) -> Result<(), Memory>
     ensures { OnOk result (Puts (added (order_value numbers.now)) values.old values.new) }
 {
@@ -75,9 +76,9 @@ fn put_numbers(numbers: &[u32], values: &mut ValueBuilder) -> Result<(), Memory>
     Ok(())
 }
 
-// The part for the order of child elements, and no part where they come in the order of the content model.
+// Appends the part for the order of child elements, or no part if they come in the order of the content model.
 fn put_order(inside: Inside<'_>, numbers: &[u32], values: &mut ValueBuilder) -> Result<(), Memory>
-    ensures { OnOk result (PartsPut (OrderMade (is_ordered (inside_told inside.entry)) numbers.now) values.old values.new) }
+    ensures { OnOk result (PartsPut (OrderMade (in_any_order (inside_told inside.entry)) numbers.now) values.old values.new) }
 {
     match any_order(inside) {
         None => Ok(()),
@@ -88,29 +89,31 @@ fn put_order(inside: Inside<'_>, numbers: &[u32], values: &mut ValueBuilder) -> 
     }
 }
 
-/// A SEQUENCE is open, with the parts for texts, for the order of child elements that come in any, and for attributes.
+/// Opens a SEQUENCE and appends the parts for texts, for the order of child elements of an all, and for attributes.
 pub(crate) fn begin_complex(
     alloc: Global,
-    set: &SchemaSet,
-    declared: &Declared,
-    attributes: &[(Name, Text)],
+    element: &Element,
     nil: bool,
     numbers: &[u32],
-    kids: &ItemKids<'_>,
     values: &mut ValueBuilder,
 ) -> Result<(), Memory>
-    requires linked { IsLinked set.now }
-    requires uses { All (IsUse set.now) declared.now.uses.list.now }
-    requires taken { AreTaken set.now attributes.now declared.now.uses.list.now }
-    ensures { OnOk result (Begins (told (parts_of set.now) declared.now) attributes.now (strings_put nil (roses_of kids.now)) numbers.now values.old values.new) }
+    requires opened { IsOpened element.now }
+    ensures { OnOk result (Begins (told (parts_of element.now.set.now) element.now.declared) element.now.attributes.now (strings_put nil (roses_of element.now.parent.kids)) numbers.now values.old values.new) }
 {
+    let declared = element.declared;
     values.open(no_components())?;
-    put_texts(alloc, declared.inside, nil, kids, values)?;
+    put_texts(alloc, declared.inside, nil, &element.parent.kids, values)?;
     put_order(declared.inside, numbers, values)?;
-    put_attributes(alloc, set, &declared.uses, attributes, values)
+    put_attributes(
+        alloc,
+        element.set,
+        &declared.uses,
+        element.attributes,
+        values,
+    )
 }
 
-// The part for a content in which nothing may stand: one where the element may be nil.
+// Appends the part for an empty content if the element may be nil, and else nothing.
 fn put_nothing(nillable: bool, values: &mut ValueBuilder) -> Result<(), Memory>
     ensures { OnOk result (PartsPut (NothingMade nillable) values.old values.new) }
 {
@@ -122,7 +125,7 @@ fn put_nothing(nillable: bool, values: &mut ValueBuilder) -> Result<(), Memory>
     }
 }
 
-/// One part stands, a SEQUENCE, which is open.
+/// Appends one part, a SEQUENCE, and leaves it open.
 pub(crate) fn begin_part(values: &mut ValueBuilder) -> Result<(), Memory>
     ensures { OnOk result (Puts (λ z. opened (ValueLabel.Sequence []) (flagged true z)) values.old values.new) }
 {
@@ -130,7 +133,7 @@ pub(crate) fn begin_part(values: &mut ValueBuilder) -> Result<(), Memory>
     values.open(no_components())
 }
 
-/// Nothing may stand in the element.
+/// Checks that an element with an empty content model is empty.
 pub(crate) fn walk_nothing(
     nillable: bool,
     kids: &ItemKids<'_>,
@@ -145,7 +148,7 @@ pub(crate) fn walk_nothing(
     Ok(())
 }
 
-/// A text alone stands in the element. Its value is that of a part.
+/// Reads an element with only a text, and appends its value as a part.
 pub(crate) fn walk_text(
     simple: &Simple,
     at: u64,
@@ -162,48 +165,34 @@ pub(crate) fn walk_text(
     put_text(simple, at, kids, values)
 }
 
-// The value of an element that is nil, which has no kids.
-fn put_nil(
-    alloc: Global,
-    set: &SchemaSet,
-    declared: &Declared,
-    attributes: &[(Name, Text)],
-    kids: &ItemKids<'_>,
-    values: &mut ValueBuilder,
-) -> Result<(), Memory>
-    requires linked { IsLinked set.now }
-    requires uses { All (IsUse set.now) declared.now.uses.list.now }
-    requires taken { AreTaken set.now attributes.now declared.now.uses.list.now }
-    ensures { OnOk result ((v : Rose ValueLabel) × IsNilFilled (told (parts_of set.now) declared.now) attributes.now v × Puts (added v) values.old values.new) }
+// Appends the value of an element that is nil, and so has no children.
+fn put_nil(alloc: Global, element: &Element, values: &mut ValueBuilder) -> Result<(), Memory>
+    requires opened { IsOpened element.now }
+    ensures { OnOk result ((v : Rose ValueLabel) × IsNilFilled (told (parts_of element.now.set.now) element.now.declared) element.now.attributes.now v × Puts (added v) values.old values.new) }
 {
-    begin_complex(alloc, set, declared, attributes, true, &[], kids, values)?;
+    begin_complex(alloc, element, true, &[], values)?;
     values.part(false)?;
     values.close();
     Ok(())
 }
 
-/// The element is nil.
+/// Checks that an element that is nil has no children, and appends its value.
 pub(crate) fn walk_nil(
     alloc: Global,
-    set: &SchemaSet,
-    declared: &Declared,
-    attributes: &[(Name, Text)],
-    kids: &ItemKids<'_>,
+    element: &Element,
     values: &mut ValueBuilder,
 ) -> Result<(), CheckError>
-    requires linked { IsLinked set.now }
-    requires uses { All (IsUse set.now) declared.now.uses.list.now }
-    requires taken { AreTaken set.now attributes.now declared.now.uses.list.now }
+    requires opened { IsOpened element.now }
     ensures { MatchResult result
-        (λ _. (roses_of kids.now ≡ none) × ((v : Rose ValueLabel) × IsNilFilled (told (parts_of set.now) declared.now) attributes.now v × Puts (added v) values.old values.new))
-        (Tells (FirstKid (roses_of kids.now) (λ _. InvalidWhy.NilWithContent))) }
+        (λ _. (roses_of element.now.parent.kids ≡ none) × ((v : Rose ValueLabel) × IsNilFilled (told (parts_of element.now.set.now) element.now.declared) element.now.attributes.now v × Puts (added v) values.old values.new))
+        (Tells (FirstKid (roses_of element.now.parent.kids) (λ _. InvalidWhy.NilWithContent))) }
 {
-    check_empty(kids.again())?;
-    put_nil(alloc, set, declared, attributes, kids, values)?;
+    check_empty(element.parent.kids.again())?;
+    put_nil(alloc, element, values)?;
     Ok(())
 }
 
-// The parts for child elements that came in any order, which are those of one part where the element may be nil.
+// Appends the parts for the child elements of an all. They are within one part if the element may be nil.
 fn put_gathered(nillable: bool, gathered: Gathered, values: &mut ValueBuilder) -> Result<(), Memory>
     requires most { gathered.most ≡ values.old.most }
     requires outside { 1 ≤ values.old.most → gathered.outside ≤ values.old.nodes }
@@ -221,32 +210,25 @@ fn put_gathered(nillable: bool, gathered: Gathered, values: &mut ValueBuilder) -
     Ok(())
 }
 
-/// The value of an element whose child elements came in any order and are gathered.
-pub(crate) fn put_ordered(
+/// Appends the value of an element whose child elements came in any order and are gathered.
+pub(crate) fn put_any_order(
     alloc: Global,
-    set: &SchemaSet,
-    declared: &Declared,
-    attributes: &[(Name, Text)],
+    element: &Element,
     gathered: Gathered,
-    kids: &ItemKids<'_>,
     values: &mut ValueBuilder,
 ) -> Result<(), Memory>
-    requires linked { IsLinked set.now }
-    requires uses { All (IsUse set.now) declared.now.uses.list.now }
-    requires taken { AreTaken set.now attributes.now declared.now.uses.list.now }
-    requires sound { are_sound (roses_of kids.now) ≡ true }
+    requires opened { IsOpened element.now }
     requires most { gathered.most ≡ values.old.most }
     requires outside { gathered.outside ≡ values.old.nodes }
-    requires gathered { IsGathered set.now (inside_told declared.now.inside) (roses_of kids.now) gathered }
+    requires gathered { IsGathered element.now.set.now (inside_told element.now.declared.inside) (roses_of element.now.parent.kids) gathered }
     requires stands { (z : Zip ValueLabel) × Stands values.old z }
     ensures limit { OnOk result (values.new.most ≡ values.old.most) }
-    ensures put { OnOk result ((z : Zip ValueLabel) → Stands values.old z → ComplexPut set.now (told (parts_of set.now) declared.now) attributes.now (roses_of kids.now) z values.new) }
+    ensures put { OnOk result ((z : Zip ValueLabel) → Stands values.old z
+        → ComplexPut element.now.set.now (told (parts_of element.now.set.now) element.now.declared) element.now.attributes.now (roses_of element.now.parent.kids) z values.new) }
 {
     let numbers = gathered.numbers();
-    begin_complex(
-        alloc, set, declared, attributes, false, numbers, kids, values,
-    )?;
-    put_gathered(declared.nillable, gathered, values)?;
+    begin_complex(alloc, element, false, numbers, values)?;
+    put_gathered(element.declared.nillable, gathered, values)?;
     values.close();
     Ok(())
 }

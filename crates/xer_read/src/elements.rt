@@ -1,4 +1,4 @@
-//! The walk over an element and its kids, one by one.
+//! Traverses an element and its children, and appends its value.
 ghost use Rattle.std.specs.Prelude.{◌≡◌, ◌⊎◌, ℕ, ◌+◌, ◌-◌, ◌*◌, ◌^◌, ◌<◌, ◌≤◌, true, false, List, [], length, slice_index_or, All, Some, MatchResult, OnOk, IfOk};
 ghost use Rattle.base_trees.specs.Rose.{Rose, label_of, roses_of, node_count, count_all};
 ghost use Rattle.base_texts.specs.WhiteSpace.{is_blank};
@@ -12,42 +12,44 @@ ghost use Rattle.content_models.specs.declared.particles.ParticleLabel.{Particle
 ghost use Rattle.map_assignments.specs.Planning.{is_all};
 ghost use Rattle.content_models.specs.Seen.{seen};
 ghost use Rattle.content_match.specs.Taking.{levels};
-ghost use Rattle.schema_components.specs.Linked.{IsUse, IsModel, IsLinked};
+ghost use Rattle.schema_components.specs.Linked.{IsModel, IsLinked};
 ghost use Rattle.schema_components.specs.SetParts.{parts_of};
 ghost use Rattle.validity_rules.specs.Asked as asked;
 ghost use Rattle.validity_rules.specs.Asked.{asked_at};
 ghost use Rattle.validity_rules.specs.Faults.{At, FaultBy};
 ghost use Rattle.validity_check.specs.Answers.{Tells, KidsFault, InsideFault};
 ghost use Rattle.xml_items.specs.Counts.{element_count, elements_in};
-ghost use Rattle.validity_check.specs.Told.{inside_told, told, model_at, IsFittingInside};
+ghost use Rattle.validity_check.specs.Told.{inside_told, told, model_at};
 ghost use Rattle.value_builder.specs.Built.{Stands};
 ghost use Rattle.xer_read.specs.Private.Given.{IsRead};
 ghost use Rattle.xer_read.specs.Private.Keeping.{Reached, Gathers};
-ghost use Rattle.xer_read.specs.Private.Contents.{AreTaken, HasNoAll, IsFilled, ChildrenPut, KidsGathered, InsidePut, ComplexPut};
+ghost use Rattle.xer_read.specs.Private.Contents.{HasNoAll, IsFilled, ChildrenPut, KidsGathered, InsidePut, ComplexPut};
+ghost use Rattle.xer_read.specs.Private.Opened.{IsOpened};
 ghost use Rattle.xer_read.specs.Private.Putting.{IsWay, ValuePut};
 
 use crate::complex::{
-    begin_complex, begin_part, no_components, plain_type, put_ordered, walk_nil, walk_nothing,
+    begin_complex, begin_part, no_components, plain_type, put_any_order, walk_nil, walk_nothing,
     walk_text,
 };
-use crate::gathering::Gathered;
+use crate::gathering::{Gathered, Gathering};
 use crate::orders::{AnyOrder, any_order, last_number, take_name};
 use crate::plain::{PlainModel, plain_model, plain_text};
 use crate::texts::{put_text, put_words};
-use crate::ways::{ModelPath, finish, open_way};
-use base_texts::{Name, Steps, Text, is_blank};
-use content_match::{Matcher, Plan};
+use crate::walk::{ChildModel, Element, Parent, Walk};
+use crate::ways::{Going, ModelPath, finish, open_way};
+use base_texts::{Text, is_blank};
+use content_match::Matcher;
 use content_models::Particle;
 use schema_components::SchemaSet;
 use std::iter::Iterator;
 use std::sync::ledger::Ledger;
-use validity_check::{CheckError, Declared, Inside, Plans, check_tag, declared_of};
+use validity_check::{CheckError, Inside, check_tag, declared_of};
 use validity_rules::InvalidWhy;
 use value_builder::ValueBuilder;
 use value_contents::{Path, put_end};
-use xml_items::{Characters, ItemKids, ItemNode, ItemRef};
+use xml_items::{Characters, ItemNode, ItemRef};
 
-// A text at this place may stand among child elements: their content is mixed, or it is white space.
+// Checks that a text at this place may come between child elements: the content is mixed, or the text is white space.
 fn check_between(mixed: bool, text: &Characters<'_>, at: u64) -> Result<(), CheckError>
     ensures { MatchResult result
         (λ _. (mixed ≡ true) ⊎ (is_blank text.now ≡ true))
@@ -66,552 +68,403 @@ fn check_between(mixed: bool, text: &Characters<'_>, at: u64) -> Result<(), Chec
     }
 }
 
-// The next kid can follow those before it, and is valid.
+// Checks that the next child can follow those that precede it and is valid, and appends its value.
 #[cycle(walking)]
 fn walk_kid<L: Ledger>(
-    set: &SchemaSet,
-    plans: &mut Plans,
-    model: &Particle,
-    matcher: &mut Matcher,
-    way: &mut ModelPath,
-    mixed: bool,
-    kid: &ItemNode<'_>,
+    walk: &mut Walk<L>,
+    content: &ChildModel,
+    going: &mut Going,
+    kid: &ItemNode,
     values: &mut ValueBuilder,
-    steps: &mut Steps<L>,
 ) -> Result<(), CheckError>
-    requires linked { IsLinked set.now }
-    requires plans { plans.old ≡ set.now }
-    requires model { IsModel set.now model.now }
-    requires no_all { IsNoAll (seen model.now) }
-    requires way { IsWay way.old matcher.old values.old.most }
-    requires taken { matcher.old.taken < 2 ^ 32 - 1 }
-    requires reached { (kids : List (Rose ItemLabel)) × (i : ℕ) × (z : Zip ValueLabel) × Reached set.now mixed (seen model.now) kids i matcher.old z values.old }
+    requires linked { IsLinked content.now.set.now }
+    requires plans { walk.old.plans ≡ content.now.set.now }
+    requires model { IsModel content.now.set.now content.now.model.now }
+    requires no_all { IsNoAll (seen content.now.model.now) }
+    requires way { IsWay going.old.way going.old.matcher values.old.most }
+    requires taken { going.old.matcher.taken < 2 ^ 32 - 1 }
+    requires reached { (kids : List (Rose ItemLabel)) × (i : ℕ) × (z : Zip ValueLabel) × Reached content.now.set.now content.now.mixed (seen content.now.model.now) kids i going.old.matcher z values.old }
     requires sound { is_sound kid.now ≡ true }
     requires few { node_count kid.now < 2 ^ 31 }
-    ensures same { plans.new ≡ set.now }
-    ensures way { OnOk result (IsWay way.new matcher.new values.old.most) }
+    ensures same_reference { walk.new.steps.ghost_name ≡ walk.old.steps.ghost_name }
+    ensures same { walk.new.plans ≡ content.now.set.now }
+    ensures way { OnOk result (IsWay going.new.way going.new.matcher values.old.most) }
     ensures limit { OnOk result (values.new.most ≡ values.old.most) }
-    ensures judged { (kids : List (Rose ItemLabel)) (place i : ℕ) (z : Zip ValueLabel) → i < length kids → kid.now ≡ slice_index_or kids i kid.now → Reached set.now mixed (seen model.now) kids i matcher.old z values.old
+    ensures judged { (kids : List (Rose ItemLabel)) (place i : ℕ) (z : Zip ValueLabel) → i < length kids → kid.now ≡ slice_index_or kids i kid.now
+        → Reached content.now.set.now content.now.mixed (seen content.now.model.now) kids i going.old.matcher z values.old
         → MatchResult result
-        (λ _. Reached set.now mixed (seen model.now) kids (i + 1) matcher.new z values.new)
-        (Tells (KidsFault (asked_at (parts_of set.now)) mixed (seen model.now) (roses_of kids) place)) }
-    ensures most { steps.new ≤ steps.old + 144 * element_count kid.now }
-    ensures least { OnOk result (steps.old + element_count kid.now ≤ steps.new) }
-    ensures later { steps.old ≤ steps.new }
+        (λ _. Reached content.now.set.now content.now.mixed (seen content.now.model.now) kids (i + 1) going.new.matcher z values.new)
+        (Tells (KidsFault (asked_at (parts_of content.now.set.now)) content.now.mixed (seen content.now.model.now) (roses_of kids) place)) }
+    ensures most { walk.new.steps.now ≤ walk.old.steps.now + 144 * element_count kid.now }
+    ensures least { OnOk result (walk.old.steps.now + element_count kid.now ≤ walk.new.steps.now) }
+    ensures later { walk.old.steps.now ≤ walk.new.steps.now }
 {
     match kid.label() {
-        ItemRef::Text { text, at } => check_between(mixed, &text, at),
+        ItemRef::Text { text, at } => check_between(content.mixed, &text, at),
         ItemRef::Element {
             name,
             attributes,
             at,
             ..
-        } => match open_way(model, matcher, way, name, at, values, steps) {
-            Err(error) => Err(error),
-            Ok(leaf) => match plain_text(set, leaf.decl, attributes, kid) {
-                Some((simple, text)) => put_words(simple, at, &text, values),
-                None => match plain_model(set, leaf.decl, attributes) {
-                    Some(inside) => {
-                        let kids = kid.kids();
-                        walk_plain(set, plans, inside, at, &kids, values, steps)
-                    }
-                    None => walk_element(set, plans, leaf.decl, kid, values, steps),
-                },
-            },
-        },
-    }
-}
-
-// The kids follow the content model of the plan, and each is valid. The element stands at this place.
-#[cycle(walking)]
-fn walk_kids<L: Ledger>(
-    set: &SchemaSet,
-    plans: &mut Plans,
-    model: &Particle,
-    plan: &Plan,
-    mixed: bool,
-    at: u64,
-    kids: &ItemKids<'_>,
-    values: &mut ValueBuilder,
-    steps: &mut Steps<L>,
-) -> Result<(), CheckError>
-    requires linked { IsLinked set.now }
-    requires plans { plans.old ≡ set.now }
-    requires model { IsModel set.now model.now }
-    requires no_all { IsNoAll (seen model.now) }
-    requires plan { plan.now ≡ seen model.now }
-    requires sound { are_sound (roses_of kids.now) ≡ true }
-    requires few { count_all (roses_of kids.now) < 2 ^ 31 }
-    requires stands { (z : Zip ValueLabel) × Stands values.old z }
-    ensures same { plans.new ≡ set.now }
-    ensures limit { OnOk result (values.new.most ≡ values.old.most) }
-    ensures judged { (z : Zip ValueLabel) → Stands values.old z → MatchResult result
-        (λ _. ChildrenPut set.now false mixed (seen model.now) (roses_of kids.now) z values.new)
-        (Tells (KidsFault (asked_at (parts_of set.now)) mixed (seen model.now) (roses_of kids.now) at)) }
-    ensures most { steps.new ≤ steps.old + (144 * elements_in (roses_of kids.now) + 72) }
-    ensures least { OnOk result (steps.old + elements_in (roses_of kids.now) ≤ steps.new) }
-    ensures later { steps.old ≤ steps.new }
-{
-    let mut lists = plans.lists();
-    plan.make_ready(&mut lists)?;
-    let mut matcher = Matcher::begin(plan, lists);
-    let mut way = ModelPath::start(plans, values);
-    for kid in kids.again() {
-        walk_kid(
-            set,
-            plans,
-            model,
-            &mut matcher,
-            &mut way,
-            mixed,
-            &kid,
-            values,
-            steps,
-        )?;
-    }
-    match finish(&matcher, at, steps) {
-        Err(error) => Err(error),
-        Ok(()) => {
-            let path = Path {
-                turns: matcher.turns(),
-                kids: matcher.kids(),
+        } => {
+            let Some(leaf) = open_way(content.model, going, name, values, walk.steps)? else {
+                return Err(CheckError::Invalid {
+                    at,
+                    why: InvalidWhy::UnexpectedElement,
+                });
             };
-            put_end(model, path, values)?;
-            way.end(plans, values);
-            plans.give_back(matcher.into_lists());
-            Ok(())
+            match plain_text(content.set, leaf.decl, attributes, kid) {
+                Some((simple, text)) => put_words(simple, at, &text, values),
+                None => match plain_model(content.set, leaf.decl, attributes) {
+                    Some(inside) => {
+                        let parent = Parent {
+                            at,
+                            kids: kid.kids(),
+                        };
+                        walk_plain(content.set, walk, inside, &parent, values)
+                    }
+                    None => walk_element(content.set, walk, leaf.decl, kid, values),
+                },
+            }
         }
     }
 }
 
-// An element that has nothing but child elements, in the order of the content model.
+// Checks that the children follow the content model, which is no all, and that each is valid; appends their values.
+#[cycle(walking)]
+fn walk_kids<L: Ledger>(
+    walk: &mut Walk<L>,
+    content: &ChildModel,
+    parent: &Parent,
+    values: &mut ValueBuilder,
+) -> Result<(), CheckError>
+    requires linked { IsLinked content.now.set.now }
+    requires plans { walk.old.plans ≡ content.now.set.now }
+    requires model { IsModel content.now.set.now content.now.model.now }
+    requires no_all { IsNoAll (seen content.now.model.now) }
+    requires plan { content.now.plan.now ≡ seen content.now.model.now }
+    requires sound { are_sound (roses_of parent.now.kids) ≡ true }
+    requires few { count_all (roses_of parent.now.kids) < 2 ^ 31 }
+    requires stands { (z : Zip ValueLabel) × Stands values.old z }
+    ensures same_reference { walk.new.steps.ghost_name ≡ walk.old.steps.ghost_name }
+    ensures same { walk.new.plans ≡ content.now.set.now }
+    ensures limit { OnOk result (values.new.most ≡ values.old.most) }
+    ensures judged { (z : Zip ValueLabel) → Stands values.old z → MatchResult result
+        (λ _. ChildrenPut content.now.set.now false content.now.mixed (seen content.now.model.now) (roses_of parent.now.kids) z values.new)
+        (Tells (KidsFault (asked_at (parts_of content.now.set.now)) content.now.mixed (seen content.now.model.now) (roses_of parent.now.kids) parent.now.at)) }
+    ensures most { walk.new.steps.now ≤ walk.old.steps.now + (144 * elements_in (roses_of parent.now.kids) + 72) }
+    ensures least { OnOk result (walk.old.steps.now + elements_in (roses_of parent.now.kids) ≤ walk.new.steps.now) }
+    ensures later { walk.old.steps.now ≤ walk.new.steps.now }
+{
+    let mut lists = walk.plans.lists();
+    content.plan.make_ready(&mut lists)?;
+    let mut going = Going {
+        matcher: Matcher::begin(content.plan, lists),
+        way: ModelPath::start(&mut walk.plans, values),
+    };
+    for kid in parent.kids.again() {
+        walk_kid(walk, content, &mut going, &kid, values)?;
+    }
+    finish(&going.matcher, parent.at, walk.steps)?;
+    let Going { matcher, way } = going;
+    let path = Path {
+        turns: matcher.turns(),
+        kids: matcher.kids(),
+    };
+    put_end(content.model, path, values)?;
+    way.end(&mut walk.plans, values);
+    walk.plans.give_back(matcher.into_lists());
+    Ok(())
+}
+
+// Reads an element that has only child elements, in the order of the content model.
 #[cycle(walking)]
 fn walk_plain<L: Ledger>(
     set: &SchemaSet,
-    plans: &mut Plans,
-    inside: PlainModel<'_>,
-    at: u64,
-    kids: &ItemKids<'_>,
+    walk: &mut Walk<L>,
+    inside: PlainModel,
+    parent: &Parent,
     values: &mut ValueBuilder,
-    steps: &mut Steps<L>,
 ) -> Result<(), CheckError>
     requires linked { IsLinked set.now }
-    requires plans { plans.old ≡ set.now }
+    requires plans { walk.old.plans ≡ set.now }
     requires there { model_at set.now inside.complex ≡ Some inside.model.now }
     requires model { IsModel set.now inside.model.now }
     requires no_all { IsNoAll (seen inside.model.now) }
-    requires sound { are_sound (roses_of kids.now) ≡ true }
-    requires few { count_all (roses_of kids.now) < 2 ^ 31 }
+    requires sound { are_sound (roses_of parent.now.kids) ≡ true }
+    requires few { count_all (roses_of parent.now.kids) < 2 ^ 31 }
     requires stands { (z : Zip ValueLabel) × Stands values.old z }
-    ensures same { plans.new ≡ set.now }
+    ensures same_reference { walk.new.steps.ghost_name ≡ walk.old.steps.ghost_name }
+    ensures same { walk.new.plans ≡ set.now }
     ensures limit { OnOk result (values.new.most ≡ values.old.most) }
     ensures judged { (z : Zip ValueLabel) → Stands values.old z → MatchResult result
-        (λ _. ComplexPut set.now (asked.asked false [] (asked.children false (seen inside.entry.model.now))) [] (roses_of kids.now) z values.new)
-        (Tells (InsideFault (asked_at (parts_of set.now)) (asked.children false (seen inside.entry.model.now)) (roses_of kids.now) at)) }
-    ensures most { steps.new ≤ steps.old + (144 * elements_in (roses_of kids.now) + 72) }
-    ensures least { OnOk result (steps.old + elements_in (roses_of kids.now) ≤ steps.new) }
-    ensures later { steps.old ≤ steps.new }
+        (λ _. ComplexPut set.now (asked.asked false [] (asked.children false (seen inside.entry.model.now))) [] (roses_of parent.now.kids) z values.new)
+        (Tells (InsideFault (asked_at (parts_of set.now)) (asked.children false (seen inside.entry.model.now)) (roses_of parent.now.kids) parent.now.at)) }
+    ensures most { walk.new.steps.now ≤ walk.old.steps.now + (144 * elements_in (roses_of parent.now.kids) + 72) }
+    ensures least { OnOk result (walk.old.steps.now + elements_in (roses_of parent.now.kids) ≤ walk.new.steps.now) }
+    ensures later { walk.old.steps.now ≤ walk.new.steps.now }
 {
-    let plan = plans.plan(inside.complex, inside.model)?;
-    let plan = plan.as_ref();
-    let model = inside.model;
+    let plan = walk.plans.plan(inside.complex, inside.model)?;
+    let content = ChildModel {
+        set,
+        mixed: false,
+        model: inside.model,
+        plan: plan.as_ref(),
+    };
     values.open(no_components())?;
-    match walk_kids(set, plans, model, plan, false, at, kids, values, steps) {
-        Err(error) => Err(error),
-        Ok(()) => {
-            values.close();
-            Ok(())
-        }
-    }
+    walk_kids(walk, &content, parent, values)?;
+    values.close();
+    Ok(())
 }
 
-// The parts for child elements, which are those of one part where the element may be nil.
-#[cycle(walking)]
-fn walk_children<L: Ledger>(
-    set: &SchemaSet,
-    plans: &mut Plans,
-    nillable: bool,
-    model: &Particle,
-    plan: &Plan,
-    mixed: bool,
-    at: u64,
-    kids: &ItemKids<'_>,
-    values: &mut ValueBuilder,
-    steps: &mut Steps<L>,
-) -> Result<(), CheckError>
-    requires linked { IsLinked set.now }
-    requires plans { plans.old ≡ set.now }
-    requires model { IsModel set.now model.now }
-    requires no_all { IsNoAll (seen model.now) }
-    requires plan { plan.now ≡ seen model.now }
-    requires sound { are_sound (roses_of kids.now) ≡ true }
-    requires few { count_all (roses_of kids.now) < 2 ^ 31 }
-    requires stands { (z : Zip ValueLabel) × Stands values.old z }
-    ensures same { plans.new ≡ set.now }
-    ensures limit { OnOk result (values.new.most ≡ values.old.most) }
-    ensures judged { (z : Zip ValueLabel) → Stands values.old z → MatchResult result
-        (λ _. ChildrenPut set.now nillable mixed (seen model.now) (roses_of kids.now) z values.new)
-        (Tells (KidsFault (asked_at (parts_of set.now)) mixed (seen model.now) (roses_of kids.now) at)) }
-    ensures most { steps.new ≤ steps.old + (144 * elements_in (roses_of kids.now) + 72) }
-    ensures least { OnOk result (steps.old + elements_in (roses_of kids.now) ≤ steps.new) }
-    ensures later { steps.old ≤ steps.new }
-{
-    if !nillable {
-        return walk_kids(set, plans, model, plan, mixed, at, kids, values, steps);
-    }
-    begin_part(values)?;
-    match walk_kids(set, plans, model, plan, mixed, at, kids, values, steps) {
-        Err(error) => Err(error),
-        Ok(()) => {
-            values.close();
-            Ok(())
-        }
-    }
-}
-
-// The kids are what may stand in an element at this place.
+// Checks the content of an element and appends its parts. The parts for child elements are within one part if the element may
+// be nil.
 #[cycle(walking)]
 fn walk_inside<L: Ledger>(
-    set: &SchemaSet,
-    plans: &mut Plans,
-    nillable: bool,
-    inside: Inside,
-    at: u64,
-    kids: &ItemKids<'_>,
+    walk: &mut Walk<L>,
+    element: &Element,
     values: &mut ValueBuilder,
-    steps: &mut Steps<L>,
 ) -> Result<(), CheckError>
-    requires linked { IsLinked set.now }
-    requires plans { plans.old ≡ set.now }
-    requires inside { IsFittingInside set.now inside }
-    requires no_all { HasNoAll (inside_told inside) }
-    requires sound { are_sound (roses_of kids.now) ≡ true }
-    requires few { count_all (roses_of kids.now) < 2 ^ 31 }
+    requires opened { IsOpened element.now }
+    requires plans { walk.old.plans ≡ element.now.set.now }
+    requires no_all { HasNoAll (inside_told element.now.declared.inside) }
     requires stands { (z : Zip ValueLabel) × Stands values.old z }
-    ensures same { plans.new ≡ set.now }
+    ensures same_reference { walk.new.steps.ghost_name ≡ walk.old.steps.ghost_name }
+    ensures same { walk.new.plans ≡ element.now.set.now }
     ensures limit { OnOk result (values.new.most ≡ values.old.most) }
     ensures judged { (z : Zip ValueLabel) → Stands values.old z → MatchResult result
-        (λ _. InsidePut set.now nillable (inside_told inside.entry) (roses_of kids.now) z values.new)
-        (Tells (InsideFault (asked_at (parts_of set.now)) (inside_told inside.entry) (roses_of kids.now) at)) }
-    ensures most { steps.new ≤ steps.old + (144 * elements_in (roses_of kids.now) + 72) }
-    ensures least { OnOk result (steps.old + elements_in (roses_of kids.now) ≤ steps.new) }
-    ensures later { steps.old ≤ steps.new }
+        (λ _. InsidePut element.now.set.now element.now.declared.nillable (inside_told element.now.declared.inside) (roses_of element.now.parent.kids) z values.new)
+        (Tells (InsideFault (asked_at (parts_of element.now.set.now)) (inside_told element.now.declared.inside) (roses_of element.now.parent.kids) element.now.parent.at)) }
+    ensures most { walk.new.steps.now ≤ walk.old.steps.now + (144 * elements_in (roses_of element.now.parent.kids) + 72) }
+    ensures least { OnOk result (walk.old.steps.now + elements_in (roses_of element.now.parent.kids) ≤ walk.new.steps.now) }
+    ensures later { walk.old.steps.now ≤ walk.new.steps.now }
 {
-    match inside {
-        Inside::Nothing => walk_nothing(nillable, kids, values),
-        Inside::Simple(simple) => walk_text(simple, at, kids, values),
+    let nillable = element.declared.nillable;
+    let parent = &element.parent;
+    match element.declared.inside {
+        Inside::Nothing => walk_nothing(nillable, &parent.kids, values),
+        Inside::Simple(simple) => walk_text(simple, parent.at, &parent.kids, values),
         Inside::Children {
             mixed,
             complex,
             model,
         } => {
-            let plan = plans.plan(complex, model)?;
-            let plan = plan.as_ref();
-            walk_children(
-                set, plans, nillable, model, plan, mixed, at, kids, values, steps,
-            )
-        }
-    }
-}
-
-// The next kid of an element whose child elements come in any order can follow those before it, and is valid.
-#[cycle(walking)]
-fn gather_kid<L: Ledger>(
-    set: &SchemaSet,
-    plans: &mut Plans,
-    matcher: &mut Matcher,
-    mixed: bool,
-    kid: &ItemNode<'_>,
-    gathered: &mut Gathered,
-    steps: &mut Steps<L>,
-) -> Result<(), CheckError>
-    requires linked { IsLinked set.now }
-    requires plans { plans.old ≡ set.now }
-    requires model { (model : Rose ParticleLabel) × IsModel set.now model × (matcher.old.particle ≡ seen model) }
-    requires taken { matcher.old.taken < 2 ^ 32 - 1 }
-    requires gathers { (ps : Particles) × (kids : List (Rose ItemLabel)) × (i : ℕ) × (matcher.old.particle ≡ occurs (all ps) 1 (Some 1)) × Gathers set.now mixed ps kids i matcher.old gathered.old }
-    requires sound { is_sound kid.now ≡ true }
-    requires few { node_count kid.now < 2 ^ 31 }
-    ensures same { plans.new ≡ set.now }
-    ensures particle { OnOk result (matcher.new.particle ≡ matcher.old.particle) }
-    ensures limit { OnOk result (gathered.new.most ≡ gathered.old.most) }
-    ensures outside { OnOk result (gathered.new.outside ≡ gathered.old.outside) }
-    ensures judged { (ps : Particles) (kids : List (Rose ItemLabel)) (place i : ℕ) → matcher.old.particle ≡ occurs (all ps) 1 (Some 1) → i < length kids → kid.now ≡ slice_index_or kids i kid.now
-        → Gathers set.now mixed ps kids i matcher.old gathered.old
-        → MatchResult result
-        (λ _. Gathers set.now mixed ps kids (i + 1) matcher.new gathered.new)
-        (Tells (KidsFault (asked_at (parts_of set.now)) mixed matcher.old.particle (roses_of kids) place)) }
-    ensures most { steps.new ≤ steps.old + 144 * element_count kid.now }
-    ensures least { OnOk result (steps.old + element_count kid.now ≤ steps.new) }
-    ensures later { steps.old ≤ steps.new }
-{
-    match kid.label() {
-        ItemRef::Text { text, at } => check_between(mixed, &text, at),
-        ItemRef::Element { name, at, .. } => match take_name(matcher, name, at, steps) {
-            Err(error) => Err(error),
-            Ok(leaf) => {
-                let mut value = ValueBuilder::new(plans.alloc(), gathered.left());
-                match walk_element(set, plans, leaf.decl, kid, &mut value, steps) {
-                    Err(error) => Err(error),
-                    Ok(()) => {
-                        gathered.keep(last_number(matcher), value)?;
-                        Ok(())
-                    }
-                }
+            let plan = walk.plans.plan(complex, model)?;
+            let content = ChildModel {
+                set: element.set,
+                mixed,
+                model,
+                plan: plan.as_ref(),
+            };
+            if !nillable {
+                return walk_kids(walk, &content, parent, values);
             }
-        },
-    }
-}
-
-// The kids follow the all of the plan, and each is valid. The element stands at this place.
-#[cycle(walking)]
-fn gather_kids<L: Ledger>(
-    set: &SchemaSet,
-    plans: &mut Plans,
-    model: &Particle,
-    plan: &Plan,
-    mixed: bool,
-    at: u64,
-    kids: &ItemKids<'_>,
-    values: &ValueBuilder,
-    steps: &mut Steps<L>,
-) -> Result<Gathered, CheckError>
-    requires linked { IsLinked set.now }
-    requires plans { plans.old ≡ set.now }
-    requires model { IsModel set.now model.now }
-    requires ordered { is_all (seen model.now) ≡ true }
-    requires plan { plan.now ≡ seen model.now }
-    requires sound { are_sound (roses_of kids.now) ≡ true }
-    requires few { count_all (roses_of kids.now) < 2 ^ 31 }
-    ensures same { plans.new ≡ set.now }
-    ensures limit { IfOk result (λ gathered. gathered.most ≡ values.now.most) }
-    ensures outside { IfOk result (λ gathered. gathered.outside ≡ values.now.nodes) }
-    ensures judged { MatchResult result
-        (λ gathered. KidsGathered set.now mixed (seen model.now) (roses_of kids.now) gathered)
-        (Tells (KidsFault (asked_at (parts_of set.now)) mixed (seen model.now) (roses_of kids.now) at)) }
-    ensures most { steps.new ≤ steps.old + (144 * elements_in (roses_of kids.now) + 72) }
-    ensures least { OnOk result (steps.old + elements_in (roses_of kids.now) ≤ steps.new) }
-    ensures later { steps.old ≤ steps.new }
-{
-    let mut matcher = Matcher::start(plan, plans.lists())?;
-    let mut gathered = Gathered::new(plans.alloc(), model, values)?;
-    for kid in kids.again() {
-        gather_kid(set, plans, &mut matcher, mixed, &kid, &mut gathered, steps)?;
-    }
-    match finish(&matcher, at, steps) {
-        Err(error) => Err(error),
-        Ok(()) => {
-            plans.give_back(matcher.into_lists());
-            Ok(gathered)
-        }
-    }
-}
-
-// An element whose child elements come in any order. Their values stand behind the order in which they came, so that they are
-// gathered first.
-#[cycle(walking)]
-fn walk_ordered<L: Ledger>(
-    set: &SchemaSet,
-    plans: &mut Plans,
-    declared: &Declared,
-    attributes: &[(Name, Text)],
-    inside: AnyOrder<'_>,
-    at: u64,
-    kids: &ItemKids<'_>,
-    values: &mut ValueBuilder,
-    steps: &mut Steps<L>,
-) -> Result<(), CheckError>
-    requires linked { IsLinked set.now }
-    requires plans { plans.old ≡ set.now }
-    requires fitting { IsFittingInside set.now declared.now.inside }
-    requires inside { declared.now.inside ≡ Inside.Children inside.mixed inside.complex inside.model }
-    requires ordered { is_all (seen inside.model.now) ≡ true }
-    requires uses { All (IsUse set.now) declared.now.uses.list.now }
-    requires taken { AreTaken set.now attributes.now declared.now.uses.list.now }
-    requires sound { are_sound (roses_of kids.now) ≡ true }
-    requires few { count_all (roses_of kids.now) < 2 ^ 31 }
-    requires stands { (z : Zip ValueLabel) × Stands values.old z }
-    ensures same { plans.new ≡ set.now }
-    ensures limit { OnOk result (values.new.most ≡ values.old.most) }
-    ensures judged { (z : Zip ValueLabel) → Stands values.old z → MatchResult result
-        (λ _. ComplexPut set.now (told (parts_of set.now) declared.now) attributes.now (roses_of kids.now) z values.new)
-        (Tells (InsideFault (asked_at (parts_of set.now)) (inside_told declared.now.inside) (roses_of kids.now) at)) }
-    ensures most { steps.new ≤ steps.old + (144 * elements_in (roses_of kids.now) + 72) }
-    ensures least { OnOk result (steps.old + elements_in (roses_of kids.now) ≤ steps.new) }
-    ensures later { steps.old ≤ steps.new }
-{
-    let plan = plans.plan(inside.complex, inside.model)?;
-    let plan = plan.as_ref();
-    let mixed = inside.mixed;
-    match gather_kids(
-        set,
-        plans,
-        inside.model,
-        plan,
-        mixed,
-        at,
-        kids,
-        values,
-        steps,
-    ) {
-        Err(error) => Err(error),
-        Ok(gathered) => {
-            put_ordered(
-                plans.alloc(),
-                set,
-                declared,
-                attributes,
-                gathered,
-                kids,
-                values,
-            )?;
-            Ok(())
-        }
-    }
-}
-
-// An element whose value has parts, and whose child elements come in the order of the content model.
-#[cycle(walking)]
-fn walk_complex<L: Ledger>(
-    set: &SchemaSet,
-    plans: &mut Plans,
-    declared: &Declared,
-    attributes: &[(Name, Text)],
-    at: u64,
-    kids: &ItemKids<'_>,
-    values: &mut ValueBuilder,
-    steps: &mut Steps<L>,
-) -> Result<(), CheckError>
-    requires linked { IsLinked set.now }
-    requires plans { plans.old ≡ set.now }
-    requires inside { IsFittingInside set.now declared.now.inside }
-    requires no_all { HasNoAll (inside_told declared.now.inside) }
-    requires uses { All (IsUse set.now) declared.now.uses.list.now }
-    requires taken { AreTaken set.now attributes.now declared.now.uses.list.now }
-    requires sound { are_sound (roses_of kids.now) ≡ true }
-    requires few { count_all (roses_of kids.now) < 2 ^ 31 }
-    requires stands { (z : Zip ValueLabel) × Stands values.old z }
-    ensures same { plans.new ≡ set.now }
-    ensures limit { OnOk result (values.new.most ≡ values.old.most) }
-    ensures judged { (z : Zip ValueLabel) → Stands values.old z → MatchResult result
-        (λ _. ComplexPut set.now (told (parts_of set.now) declared.now) attributes.now (roses_of kids.now) z values.new)
-        (Tells (InsideFault (asked_at (parts_of set.now)) (inside_told declared.now.inside) (roses_of kids.now) at)) }
-    ensures most { steps.new ≤ steps.old + (144 * elements_in (roses_of kids.now) + 72) }
-    ensures least { OnOk result (steps.old + elements_in (roses_of kids.now) ≤ steps.new) }
-    ensures later { steps.old ≤ steps.new }
-{
-    begin_complex(
-        plans.alloc(),
-        set,
-        declared,
-        attributes,
-        false,
-        &[],
-        kids,
-        values,
-    )?;
-    match walk_inside(
-        set,
-        plans,
-        declared.nillable,
-        declared.inside,
-        at,
-        kids,
-        values,
-        steps,
-    ) {
-        Err(error) => Err(error),
-        Ok(()) => {
+            begin_part(values)?;
+            walk_kids(walk, &content, parent, values)?;
             values.close();
             Ok(())
         }
     }
 }
 
-// An element that isn't nil.
+// Checks that the next child of an element with an all can follow those that precede it and is valid, and gathers its value.
 #[cycle(walking)]
-fn walk_filled<L: Ledger>(
-    set: &SchemaSet,
-    plans: &mut Plans,
-    decl: u32,
-    declared: &Declared,
-    attributes: &[(Name, Text)],
-    at: u64,
-    kids: &ItemKids<'_>,
-    values: &mut ValueBuilder,
-    steps: &mut Steps<L>,
+fn gather_kid<L: Ledger>(
+    walk: &mut Walk<L>,
+    content: &ChildModel,
+    gathering: &mut Gathering,
+    kid: &ItemNode,
 ) -> Result<(), CheckError>
-    requires linked { IsLinked set.now }
-    requires plans { plans.old ≡ set.now }
-    requires decl { decl < length set.now.elements }
-    requires inside { IsFittingInside set.now declared.now.inside }
-    requires uses { All (IsUse set.now) declared.now.uses.list.now }
-    requires taken { AreTaken set.now attributes.now declared.now.uses.list.now }
-    requires sound { are_sound (roses_of kids.now) ≡ true }
-    requires few { count_all (roses_of kids.now) < 2 ^ 31 }
+    requires linked { IsLinked content.now.set.now }
+    requires plans { walk.old.plans ≡ content.now.set.now }
+    requires model { (model : Rose ParticleLabel) × IsModel content.now.set.now model × (gathering.old.matcher.particle ≡ seen model) }
+    requires taken { gathering.old.matcher.taken < 2 ^ 32 - 1 }
+    requires gathers { (ps : Particles) × (kids : List (Rose ItemLabel)) × (i : ℕ) × (gathering.old.matcher.particle ≡ occurs (all ps) 1 (Some 1))
+        × Gathers content.now.set.now content.now.mixed ps kids i gathering.old.matcher gathering.old.gathered }
+    requires sound { is_sound kid.now ≡ true }
+    requires few { node_count kid.now < 2 ^ 31 }
+    ensures same_reference { walk.new.steps.ghost_name ≡ walk.old.steps.ghost_name }
+    ensures same { walk.new.plans ≡ content.now.set.now }
+    ensures particle { OnOk result (gathering.new.matcher.particle ≡ gathering.old.matcher.particle) }
+    ensures limit { OnOk result (gathering.new.gathered.most ≡ gathering.old.gathered.most) }
+    ensures outside { OnOk result (gathering.new.gathered.outside ≡ gathering.old.gathered.outside) }
+    ensures judged { (ps : Particles) (kids : List (Rose ItemLabel)) (place i : ℕ) → gathering.old.matcher.particle ≡ occurs (all ps) 1 (Some 1) → i < length kids → kid.now ≡ slice_index_or kids i kid.now
+        → Gathers content.now.set.now content.now.mixed ps kids i gathering.old.matcher gathering.old.gathered
+        → MatchResult result
+        (λ _. Gathers content.now.set.now content.now.mixed ps kids (i + 1) gathering.new.matcher gathering.new.gathered)
+        (Tells (KidsFault (asked_at (parts_of content.now.set.now)) content.now.mixed gathering.old.matcher.particle (roses_of kids) place)) }
+    ensures most { walk.new.steps.now ≤ walk.old.steps.now + 144 * element_count kid.now }
+    ensures least { OnOk result (walk.old.steps.now + element_count kid.now ≤ walk.new.steps.now) }
+    ensures later { walk.old.steps.now ≤ walk.new.steps.now }
+{
+    match kid.label() {
+        ItemRef::Text { text, at } => check_between(content.mixed, &text, at),
+        ItemRef::Element { name, at, .. } => {
+            let leaf = take_name(&mut gathering.matcher, name, at, walk.steps)?;
+            let left = gathering.gathered.left();
+            let mut value = ValueBuilder::new(walk.plans.alloc(), left);
+            walk_element(content.set, walk, leaf.decl, kid, &mut value)?;
+            let number = last_number(&gathering.matcher);
+            gathering.gathered.keep(number, value)?;
+            Ok(())
+        }
+    }
+}
+
+// Checks that the children follow the content model, which is an all, and that each is valid; gathers their values.
+#[cycle(walking)]
+fn gather_kids<L: Ledger>(
+    walk: &mut Walk<L>,
+    content: &ChildModel,
+    parent: &Parent,
+    values: &ValueBuilder,
+) -> Result<Gathered, CheckError>
+    requires linked { IsLinked content.now.set.now }
+    requires plans { walk.old.plans ≡ content.now.set.now }
+    requires model { IsModel content.now.set.now content.now.model.now }
+    requires any_order { is_all (seen content.now.model.now) ≡ true }
+    requires plan { content.now.plan.now ≡ seen content.now.model.now }
+    requires sound { are_sound (roses_of parent.now.kids) ≡ true }
+    requires few { count_all (roses_of parent.now.kids) < 2 ^ 31 }
+    ensures same_reference { walk.new.steps.ghost_name ≡ walk.old.steps.ghost_name }
+    ensures same { walk.new.plans ≡ content.now.set.now }
+    ensures limit { IfOk result (λ gathered. gathered.most ≡ values.now.most) }
+    ensures outside { IfOk result (λ gathered. gathered.outside ≡ values.now.nodes) }
+    ensures judged { MatchResult result
+        (λ gathered. KidsGathered content.now.set.now content.now.mixed (seen content.now.model.now) (roses_of parent.now.kids) gathered)
+        (Tells (KidsFault (asked_at (parts_of content.now.set.now)) content.now.mixed (seen content.now.model.now) (roses_of parent.now.kids) parent.now.at)) }
+    ensures most { walk.new.steps.now ≤ walk.old.steps.now + (144 * elements_in (roses_of parent.now.kids) + 72) }
+    ensures least { OnOk result (walk.old.steps.now + elements_in (roses_of parent.now.kids) ≤ walk.new.steps.now) }
+    ensures later { walk.old.steps.now ≤ walk.new.steps.now }
+{
+    let matcher = Matcher::start(content.plan, walk.plans.lists())?;
+    let gathered = Gathered::new(walk.plans.alloc(), content.model, values)?;
+    let mut gathering = Gathering { matcher, gathered };
+    for kid in parent.kids.again() {
+        gather_kid(walk, content, &mut gathering, &kid)?;
+    }
+    finish(&gathering.matcher, parent.at, walk.steps)?;
+    let Gathering { matcher, gathered } = gathering;
+    walk.plans.give_back(matcher.into_lists());
+    Ok(gathered)
+}
+
+// Reads an element whose child elements come in any order. Their order precedes their values in the value of the element, so they
+// are gathered first.
+#[cycle(walking)]
+fn walk_any_order<L: Ledger>(
+    walk: &mut Walk<L>,
+    element: &Element,
+    inside: AnyOrder,
+    values: &mut ValueBuilder,
+) -> Result<(), CheckError>
+    requires opened { IsOpened element.now }
+    requires plans { walk.old.plans ≡ element.now.set.now }
+    requires inside { element.now.declared.inside ≡ Inside.Children inside.mixed inside.complex inside.model }
+    requires any_order { is_all (seen inside.model.now) ≡ true }
     requires stands { (z : Zip ValueLabel) × Stands values.old z }
-    ensures same { plans.new ≡ set.now }
+    ensures same_reference { walk.new.steps.ghost_name ≡ walk.old.steps.ghost_name }
+    ensures same { walk.new.plans ≡ element.now.set.now }
     ensures limit { OnOk result (values.new.most ≡ values.old.most) }
     ensures judged { (z : Zip ValueLabel) → Stands values.old z → MatchResult result
-        (λ _. ValuePut (IsFilled set.now decl (told (parts_of set.now) declared.now) attributes.now (roses_of kids.now)) z values.new)
-        (Tells (InsideFault (asked_at (parts_of set.now)) (inside_told declared.now.inside) (roses_of kids.now) at)) }
-    ensures most { steps.new ≤ steps.old + (144 * elements_in (roses_of kids.now) + 72) }
-    ensures least { OnOk result (steps.old + elements_in (roses_of kids.now) ≤ steps.new) }
-    ensures later { steps.old ≤ steps.new }
+        (λ _. ComplexPut element.now.set.now (told (parts_of element.now.set.now) element.now.declared) element.now.attributes.now (roses_of element.now.parent.kids) z values.new)
+        (Tells (InsideFault (asked_at (parts_of element.now.set.now)) (inside_told element.now.declared.inside) (roses_of element.now.parent.kids) element.now.parent.at)) }
+    ensures most { walk.new.steps.now ≤ walk.old.steps.now + (144 * elements_in (roses_of element.now.parent.kids) + 72) }
+    ensures least { OnOk result (walk.old.steps.now + elements_in (roses_of element.now.parent.kids) ≤ walk.new.steps.now) }
+    ensures later { walk.old.steps.now ≤ walk.new.steps.now }
 {
-    match plain_type(set, decl, declared.inside) {
-        Some(simple) => put_text(simple, at, kids, values),
-        None => match any_order(declared.inside) {
-            Some(inside) => walk_ordered(
-                set, plans, declared, attributes, inside, at, kids, values, steps,
-            ),
-            None => walk_complex(set, plans, declared, attributes, at, kids, values, steps),
+    let plan = walk.plans.plan(inside.complex, inside.model)?;
+    let content = ChildModel {
+        set: element.set,
+        mixed: inside.mixed,
+        model: inside.model,
+        plan: plan.as_ref(),
+    };
+    let gathered = gather_kids(walk, &content, &element.parent, values)?;
+    put_any_order(walk.plans.alloc(), element, gathered, values)?;
+    Ok(())
+}
+
+// Reads an element that isn't nil.
+#[cycle(walking)]
+fn walk_filled<L: Ledger>(
+    walk: &mut Walk<L>,
+    decl: u32,
+    element: &Element,
+    values: &mut ValueBuilder,
+) -> Result<(), CheckError>
+    requires opened { IsOpened element.now }
+    requires plans { walk.old.plans ≡ element.now.set.now }
+    requires decl { decl < length element.now.set.now.elements }
+    requires stands { (z : Zip ValueLabel) × Stands values.old z }
+    ensures same_reference { walk.new.steps.ghost_name ≡ walk.old.steps.ghost_name }
+    ensures same { walk.new.plans ≡ element.now.set.now }
+    ensures limit { OnOk result (values.new.most ≡ values.old.most) }
+    ensures judged { (z : Zip ValueLabel) → Stands values.old z → MatchResult result
+        (λ _. ValuePut (IsFilled element.now.set.now decl (told (parts_of element.now.set.now) element.now.declared) element.now.attributes.now (roses_of element.now.parent.kids)) z values.new)
+        (Tells (InsideFault (asked_at (parts_of element.now.set.now)) (inside_told element.now.declared.inside) (roses_of element.now.parent.kids) element.now.parent.at)) }
+    ensures most { walk.new.steps.now ≤ walk.old.steps.now + (144 * elements_in (roses_of element.now.parent.kids) + 72) }
+    ensures least { OnOk result (walk.old.steps.now + elements_in (roses_of element.now.parent.kids) ≤ walk.new.steps.now) }
+    ensures later { walk.old.steps.now ≤ walk.new.steps.now }
+{
+    match plain_type(element.set, decl, element.declared.inside) {
+        Some(simple) => put_text(simple, element.parent.at, &element.parent.kids, values),
+        None => match any_order(element.declared.inside) {
+            Some(inside) => walk_any_order(walk, element, inside, values),
+            None => {
+                begin_complex(walk.plans.alloc(), element, false, &[], values)?;
+                walk_inside(walk, element, values)?;
+                values.close();
+                Ok(())
+            }
         },
     }
 }
 
-/// The element is valid under the declaration with this number, and its value is put down.
+/// Checks that the element is valid under the declaration with this number, and appends its value.
 #[cycle(walking)]
 pub(crate) fn walk_element<L: Ledger>(
     set: &SchemaSet,
-    plans: &mut Plans,
+    walk: &mut Walk<L>,
     decl: u32,
-    item: &ItemNode<'_>,
+    item: &ItemNode,
     values: &mut ValueBuilder,
-    steps: &mut Steps<L>,
 ) -> Result<(), CheckError>
     requires linked { IsLinked set.now }
-    requires plans { plans.old ≡ set.now }
+    requires plans { walk.old.plans ≡ set.now }
     requires decl { decl < length set.now.elements }
     requires element { is_text (label_of item.now) ≡ false }
     requires sound { is_sound item.now ≡ true }
     requires few { node_count item.now < 2 ^ 31 }
     requires stands { (z : Zip ValueLabel) × Stands values.old z }
-    ensures same { plans.new ≡ set.now }
+    ensures same_reference { walk.new.steps.ghost_name ≡ walk.old.steps.ghost_name }
+    ensures same { walk.new.plans ≡ set.now }
     ensures limit { OnOk result (values.new.most ≡ values.old.most) }
     ensures judged { (z : Zip ValueLabel) → Stands values.old z → MatchResult result
         (λ _. ValuePut (IsRead set.now decl item.now) z values.new)
         (Tells (FaultBy (asked_at (parts_of set.now)) decl item.now)) }
-    ensures most { steps.new + 72 ≤ steps.old + 144 * element_count item.now }
-    ensures least { OnOk result (steps.old + element_count item.now ≤ steps.new + 1) }
-    ensures later { steps.old ≤ steps.new }
+    ensures most { walk.new.steps.now + 72 ≤ walk.old.steps.now + 144 * element_count item.now }
+    ensures least { OnOk result (walk.old.steps.now + element_count item.now ≤ walk.new.steps.now + 1) }
+    ensures later { walk.old.steps.now ≤ walk.new.steps.now }
 {
     match item.label() {
         ItemRef::Text { .. } => unreachable!(),
         ItemRef::Element { attributes, at, .. } => {
             let declared = declared_of(set, decl);
-            let kids = item.kids();
-            match check_tag(plans.alloc(), set, &declared, attributes, at) {
-                Err(error) => Err(error),
-                Ok(nil) => {
-                    if nil {
-                        walk_nil(plans.alloc(), set, &declared, attributes, &kids, values)
-                    } else {
-                        walk_filled(
-                            set, plans, decl, &declared, attributes, at, &kids, values, steps,
-                        )
-                    }
-                }
+            let nil = check_tag(walk.plans.alloc(), set, &declared, attributes, at)?;
+            let element = Element {
+                set,
+                declared,
+                attributes,
+                parent: Parent {
+                    at,
+                    kids: item.kids(),
+                },
+            };
+            if nil {
+                walk_nil(walk.plans.alloc(), &element, values)
+            } else {
+                walk_filled(walk, decl, &element, values)
             }
         }
     }

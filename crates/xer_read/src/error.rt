@@ -11,7 +11,7 @@ pub enum ReadError {
     /// The first fault: its place in bytes from 0, and its reason.
     #[error("byte {at}: {why}")]
     Invalid { at: u64, why: InvalidWhy },
-    /// The document is valid, and its value has so many nodes.
+    /// The document is valid, and its value has this number of nodes, which is over the limit.
     #[error("{count} nodes")]
     TooManyNodes { count: u64 },
     #[error("out of memory")]

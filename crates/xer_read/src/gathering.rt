@@ -10,6 +10,7 @@ ghost use Rattle.value_builder.specs.Built.{nothing_of, Stands, Puts, with_parts
 ghost use Rattle.xer_read.specs.Private.Slots.{no_slots, filled_at, flags_of, values_of, Keeps, AreSlots, AllFit};
 
 use base_texts::Memory;
+use content_match::Matcher;
 use content_models::Particle;
 use std::alloc::Global;
 use value_builder::ValueBuilder;
@@ -20,16 +21,23 @@ use value_builder::ValueBuilder;
 #[derive(Drop)]
 pub(crate) struct Gathered {
     most: u32,
-    // How many nodes stand outside.
+    // The number of nodes outside.
     outside: u64,
-    // How many nodes the values have.
+    // The number of nodes of the values.
     nodes: u64,
     slots: Vec<Option<ValueBuilder>>,
     numbers: Vec<u32>,
 }
 
+/// A matcher of an all after some child elements, and what is gathered of them.
+#[derive(Drop)]
+pub(crate) struct Gathering<'a> {
+    pub matcher: Matcher<'a>,
+    pub gathered: Gathered,
+}
+
 impl Gathered {
-    /// No child element came yet. Their values are to be put down behind these.
+    /// Returns empty slots. The values of child elements will be appended to these values.
     pub(crate) fn new(
         alloc: Global,
         model: &Particle,
@@ -57,7 +65,7 @@ impl Gathered {
         })
     }
 
-    /// How many nodes the value of the next child element may have, which is at least one, so that they are counted.
+    /// Returns the number of nodes that the value of the next child element may have. It is at least 1, so nodes are counted.
     pub(crate) fn left(&self) -> u32
         ensures some { 1 ≤ self.now.most → 1 ≤ result }
         ensures room { self.now.most ≤ result + (self.now.outside + self.now.nodes) }
@@ -71,14 +79,14 @@ impl Gathered {
         }
     }
 
-    /// The numbers of the particles in the order in which their child elements came.
+    /// Returns the numbers of the particles in the order of their child elements.
     pub(crate) fn numbers(&self) -> &[u32]
         ensures { result.now ≡ self.now.numbers.items }
     {
         &self.numbers
     }
 
-    /// The child element of the particle with this number came, and has this value.
+    /// Keeps the value of the child element of the particle with this number.
     pub(crate) fn keep(&mut self, number: u32, value: ValueBuilder) -> Result<(), Memory>
         requires empty { 1 ≤ self.old.most → slice_get self.old.slots.items number ≡ Some None }
         requires some { 1 ≤ self.old.most → 1 ≤ value.most }
@@ -98,7 +106,7 @@ impl Gathered {
         Ok(())
     }
 
-    /// Puts down a part for each particle, in the order of the particles.
+    /// Appends a part for each particle, in the order of the particles.
     pub(crate) fn put_parts(self, values: &mut ValueBuilder) -> Result<(), Memory>
         requires most { self.most ≡ values.old.most }
         requires outside { 1 ≤ values.old.most → self.outside ≤ values.old.nodes }
@@ -118,7 +126,7 @@ impl Gathered {
     }
 }
 
-// A part for each particle.
+// Appends a part for each particle.
 fn put_slots(slots: Vec<Option<ValueBuilder>>, values: &mut ValueBuilder) -> Result<(), Memory>
     requires slots { (children : List (Option Child)) × AreSlots slots.items children }
     requires fit { AllFit slots.items }
@@ -131,7 +139,7 @@ fn put_slots(slots: Vec<Option<ValueBuilder>>, values: &mut ValueBuilder) -> Res
     Ok(())
 }
 
-// The part for a particle: the value of its child element, or none.
+// Appends the part for a particle: the value of its child element, or none.
 fn put_slot(slot: Option<ValueBuilder>, values: &mut ValueBuilder) -> Result<(), Memory>
     requires slot { (child : Option Child) × AreSlots (slot ∷ []) (child ∷ []) }
     requires fit { AllFit (slot ∷ []) }

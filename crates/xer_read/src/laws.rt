@@ -4,8 +4,8 @@ ghost use Rattle.xer_read.specs.Answers.{ReadBack};
 use validity_rules::at_most_one;
 use value_laws::{items_of_values, one_value};
 
-/// Whatever reads the items of a value, wherever they are placed, and answers as `read_value` promises, answers this value,
-/// or that memory is missing.
+/// Any result that meets the promise of `read_value` for the items of a value is this value, or an allocation failure. The places
+/// of the items don't matter.
 pub fn read_back()
     ensures { ReadBack }
 {

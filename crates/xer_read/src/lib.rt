@@ -1,7 +1,7 @@
 //! Reads the value of a valid document, or reports the first fault; `check_items` only validates.
 //!
 //! A document is traversed once. Each element is read by its declaration: the names of its child elements are matched against
-//! the compiled content model, and each value is appended after those before it. The module isn't consulted, since the map of a
+//! the compiled content model, and each value is appended to those that precede it. The module isn't consulted, since the map of a
 //! set gives each declaration one type. Nodes are counted as they are appended; from the first node over the limit they are
 //! only counted. Validation alone keeps no value.
 //!
@@ -21,6 +21,7 @@ mod root;
 mod small;
 mod strings;
 mod texts;
+mod walk;
 mod ways;
 
 pub use error::ReadError as ReadValueError;

@@ -14,7 +14,7 @@ ghost use Rattle.map_assignments.specs.Planning.{is_all};
 ghost use Rattle.validity_rules.specs.Faults.{At};
 ghost use Rattle.validity_check.specs.Answers.{Tells};
 ghost use Rattle.validity_check.specs.Told.{inside_told};
-ghost use Rattle.xer_read.specs.Private.Contents.{is_ordered, HasNoAll};
+ghost use Rattle.xer_read.specs.Private.Contents.{HasNoAll};
 
 use base_texts::{Name, Steps};
 use content_match::{Leaf, Matcher};
@@ -42,7 +42,7 @@ fn is_any_order(model: &Particle) -> bool
     }
 }
 
-/// The content, where its child elements come in any order.
+/// Returns the content if its child elements come in any order.
 pub(crate) fn any_order<'a>(inside: Inside<'a>) -> Option<AnyOrder<'a>>
     ensures { MatchOption result
         (HasNoAll (inside_told inside.entry))
@@ -69,7 +69,7 @@ pub(crate) fn any_order<'a>(inside: Inside<'a>) -> Option<AnyOrder<'a>>
     }
 }
 
-/// The next child element has this name. It stands at this place.
+/// Steps the matcher by the name of the next child element, which is at this place.
 pub(crate) fn take_name<L: Ledger>(
     matcher: &mut Matcher,
     name: &Name,
@@ -96,7 +96,7 @@ pub(crate) fn take_name<L: Ledger>(
     }
 }
 
-/// The number of the particle of an all that took the last name.
+/// Returns the number of the particle of an all that accepted the last name.
 pub(crate) fn last_number(matcher: &Matcher) -> u32
     requires { (ps : Particles) × (k : ℕ) × (marks : List Bool) × (matcher.now.particle ≡ occurs (all ps) 1 (Some 1)) × (spot_of matcher.now ≡ Some (at 0 (among k marks))) }
     ensures { (ps : Particles) (k : ℕ) (marks : List Bool) → matcher.now.particle ≡ occurs (all ps) 1 (Some 1) → spot_of matcher.now ≡ Some (at 0 (among k marks)) → result ≡ k }

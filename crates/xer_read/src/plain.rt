@@ -23,7 +23,7 @@ pub(crate) struct PlainModel<'a> {
     pub model: &'a Particle,
 }
 
-// The type of the elements of this declaration, where it is simple and they can't be nil.
+// Returns the type of the elements of this declaration, if it is simple and they can't be nil.
 #[inline(always)]
 fn simple_of<'a>(set: &'a SchemaSet, decl: u32) -> Option<&'a Simple>
     requires linked { IsLinked set.now }
@@ -40,7 +40,7 @@ fn simple_of<'a>(set: &'a SchemaSet, decl: u32) -> Option<&'a Simple>
     }
 }
 
-// The characters of an element in which they alone stand.
+// Returns the characters of an element that contains nothing else.
 #[inline(always)]
 fn lone_text<'a>(item: &ItemNode<'a>) -> Option<Characters<'a>>
     ensures { IfSome result (λ text. only_text (roses_of (kids_of item.now)) ≡ Some text) }
@@ -59,7 +59,7 @@ fn lone_text<'a>(item: &ItemNode<'a>) -> Option<Characters<'a>>
     }
 }
 
-/// The type and the characters of an element of this declaration, where its value is theirs and nothing else stands in it.
+/// Returns the type and the characters of an element of this declaration, if it contains nothing else and its value is theirs.
 #[inline(always)]
 pub(crate) fn plain_text<'a, 'b>(
     set: &'a SchemaSet,
@@ -84,7 +84,7 @@ pub(crate) fn plain_text<'a, 'b>(
     }
 }
 
-/// The content model of an element of this declaration, where it has child elements alone.
+/// Returns the content model of an element of this declaration, if it has only child elements.
 #[inline(always)]
 pub(crate) fn plain_model<'a>(
     set: &'a SchemaSet,

@@ -16,21 +16,22 @@ ghost use Rattle.xer_read.specs.Answers.{IsValueOf, IsTooLarge, IsOnlyValue, Rea
 use crate::error::ReadError;
 use crate::root::walk_root;
 use crate::small::see_simples;
+use crate::walk::Walk;
 use base_flat_trees::Whole;
 use base_texts::Steps;
 use schema_components::SchemaSet;
 use simple_types::Value;
 use std::alloc::Global;
 use std::sync::ledger::Ledger;
-use validity_check::CheckError;
+use validity_check::{CheckError, Plans};
 use value_builder::ValueBuilder;
 use xml_read::Items;
 
-/// How many nodes a value may have.
+/// The greatest number of nodes of a value.
 const MOST_NODES: u32 = 1_048_576;
 
-/// Whether the document is valid against the global element with this number (XML Schema Part 1, section 3.3.4). An
-/// error tells the first fault, or that memory is missing. The steps are those through content models.
+/// Checks that the document is valid against the global element with this number (XML Schema Part 1, section 3.3.4). An
+/// error reports the first fault, or an allocation failure. The steps are those through content models.
 pub fn check_items<L: Ledger>(
     alloc: Global,
     set: &SchemaSet,
@@ -47,7 +48,15 @@ pub fn check_items<L: Ledger>(
     ensures later { steps.old ≤ steps.new }
 {
     let mut values = ValueBuilder::new(alloc, 0);
-    walk_root(alloc, set, root, items, &mut values, steps)
+    let plans = Plans::new(alloc, set)?;
+    let mut walk = Walk { plans, steps };
+    let judged = walk_root(set, &mut walk, root, items, &mut values);
+    // The traversal ends here and gives the steps back.
+    let Walk {
+        plans: _plans,
+        steps: _steps,
+    } = walk;
+    judged
 }
 
 // The value, unless more nodes were counted than it may have.
@@ -66,8 +75,8 @@ fn finished(values: ValueBuilder) -> Result<Value, ReadError>
     }
 }
 
-// Nothing yet of the value of a document, with room for a node for each element, and for some more: a list of elements has a
-// node of its own, and so has an attribute. Where there is no memory for that, it begins without.
+// Returns an empty builder with room for a node for each element and some more, since lists of elements and attributes have
+// nodes too. If memory runs out, the builder has no room yet.
 fn room_for(alloc: Global, items: &Items) -> ValueBuilder
     ensures { result ≡ nothing_of 1048576 }
 {
@@ -79,12 +88,12 @@ fn room_for(alloc: Global, items: &Items) -> ValueBuilder
     }
 }
 
-/// The value of a document that is valid against the global element with this number: in each map of the set, one of the
-/// root type of the element, and its items are the treated items of the document. No other value of the type has these
+/// Reads the value of a document that is valid against the global element with this number. In each map of the set it is a
+/// value of the element's root type. Its items are the treated items of the document, and no other value of the type has these
 /// items.
 ///
-/// An error tells the first fault; or that the document is valid and its value has more than 1,048,576 nodes, where the
-/// count 2^64 - 1 stands for that number and every greater one; or that memory is missing.
+/// An error reports the first fault, an allocation failure, or that the document is valid and its value has more than 1,048,576
+/// nodes. The count 2^64 - 1 means that number or a greater one.
 pub fn read_value<L: Ledger>(
     alloc: Global,
     set: &SchemaSet,
@@ -105,7 +114,15 @@ pub fn read_value<L: Ledger>(
 {
     see_simples(set);
     let mut values = room_for(alloc, items);
-    match walk_root(alloc, set, root, items, &mut values, steps) {
+    let plans = Plans::new(alloc, set)?;
+    let mut walk = Walk { plans, steps };
+    let judged = walk_root(set, &mut walk, root, items, &mut values);
+    // The traversal ends here and gives the steps back.
+    let Walk {
+        plans: _plans,
+        steps: _steps,
+    } = walk;
+    match judged {
         Err(CheckError::Invalid { at, why }) => Err(ReadError::Invalid { at, why }),
         Err(CheckError::Memory) => Err(ReadError::Memory),
         Ok(()) => finished(values),

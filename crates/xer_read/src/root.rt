@@ -16,11 +16,11 @@ ghost use Rattle.xer_read.specs.Private.Given.{IsRootRead};
 ghost use Rattle.xer_read.specs.Private.Putting.{ValuePut};
 
 use crate::elements::walk_element;
-use base_texts::{Name, Steps};
+use crate::walk::Walk;
+use base_texts::Name;
 use schema_components::SchemaSet;
-use std::alloc::Global;
 use std::sync::ledger::Ledger;
-use validity_check::{CheckError, Plans};
+use validity_check::CheckError;
 use validity_rules::InvalidWhy;
 use value_builder::ValueBuilder;
 use xml_items::ItemRef;
@@ -54,34 +54,30 @@ fn check_name(label: ItemRef<'_>, name: &Name) -> Result<(), CheckError>
     }
 }
 
-/// The document is valid against the global element with this number, and its value is put down. The steps are those
+/// Checks that the document is valid against the global element with this number, and appends its value. The steps are those
 /// through content models.
 pub(crate) fn walk_root<L: Ledger>(
-    alloc: Global,
     set: &SchemaSet,
+    walk: &mut Walk<L>,
     root: u32,
     items: &Items,
     values: &mut ValueBuilder,
-    steps: &mut Steps<L>,
 ) -> Result<(), CheckError>
     requires root { root < set.now.globals }
+    requires plans { walk.old.plans ≡ set.now }
     requires stands { (z : Zip ValueLabel) × Stands values.old z }
     ensures linked { IsLinked set.now }
+    ensures same_reference { walk.new.steps.ghost_name ≡ walk.old.steps.ghost_name }
     ensures limit { OnOk result (values.new.most ≡ values.old.most) }
     ensures judged { (z : Zip ValueLabel) → Stands values.old z → MatchResult result
         (λ _. ValuePut (IsRootRead set.now root items.now) z values.new)
         (Tells (FirstFault (parts_of set.now) root items.now)) }
-    ensures most { steps.new ≤ steps.old + 144 * element_count items.now }
-    ensures least { OnOk result (steps.old + element_count items.now ≤ steps.new + 1) }
-    ensures later { steps.old ≤ steps.new }
+    ensures most { walk.new.steps.now ≤ walk.old.steps.now + 144 * element_count items.now }
+    ensures least { OnOk result (walk.old.steps.now + element_count items.now ≤ walk.new.steps.now + 1) }
+    ensures later { walk.old.steps.now ≤ walk.new.steps.now }
 {
     let _ = set.element_count();
-    let mut plans = Plans::new(alloc, set)?;
     let item = items.root();
-    let label = item.label();
-    let declared = set.element(root);
-    match check_name(label, &declared.name) {
-        Err(error) => Err(error),
-        Ok(()) => walk_element(set, &mut plans, root, &item, values, steps),
-    }
+    check_name(item.label(), &set.element(root).name)?;
+    walk_element(set, walk, root, &item, values)
 }

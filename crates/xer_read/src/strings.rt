@@ -1,4 +1,4 @@
-//! The texts of mixed content: one string before, between and behind the child elements each.
+//! The texts of mixed content: one string before, between and after the child elements each.
 ghost use Rattle.std.specs.Prelude.{◌≡◌, OnOk, false, map};
 ghost use Rattle.base_trees.specs.Rose.{node, roses_of};
 ghost use Rattle.base_flat_trees.specs.Zips.{added, added_all};
@@ -29,7 +29,7 @@ fn put_string(
     values.leaf(ValueLabel::Utf8(text))
 }
 
-// The string where no text stands is empty.
+// Appends an empty string, as there is no text.
 fn put_missing(has_text: bool, values: &mut ValueBuilder) -> Result<(), Memory>
     ensures { OnOk result (Puts (added_all (map text_value (missing has_text))) values.old values.new) }
 {
@@ -40,7 +40,7 @@ fn put_missing(has_text: bool, values: &mut ValueBuilder) -> Result<(), Memory>
     }
 }
 
-// The strings before, between and behind the child elements.
+// Appends the strings before, between and after the child elements.
 fn put_each_string(
     alloc: Global,
     kids: &ItemKids<'_>,

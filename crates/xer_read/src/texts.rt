@@ -18,7 +18,7 @@ use validity_rules::InvalidWhy;
 use value_builder::ValueBuilder;
 use xml_items::{Characters, ItemKids};
 
-/// The value that the simple type gives to the characters of an element at this place.
+/// Appends the value that the simple type gives to the characters of an element at this place.
 #[inline(always)]
 pub(crate) fn put_words(
     simple: &Simple,
@@ -45,7 +45,7 @@ pub(crate) fn put_words(
     }
 }
 
-/// The same of an element that has these kids.
+/// Appends the value that the simple type gives to the text of an element with these children.
 pub(crate) fn put_text(
     simple: &Simple,
     at: u64,

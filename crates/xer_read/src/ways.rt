@@ -1,5 +1,5 @@
 //! The way to the last leaf of a content model, and from there to the next.
-ghost use Rattle.std.specs.Prelude.{◌≡◌, [], ◌∷◌, ◌++◌, ◌+◌, ◌-◌, ◌*◌, ◌^◌, ◌<◌, ◌≤◌, ℕ, List, Some, true, false, length, IsTrue, OnOk, MatchResult, IfOk};
+ghost use Rattle.std.specs.Prelude.{◌≡◌, [], ◌∷◌, ◌++◌, ◌+◌, ◌-◌, ◌*◌, ◌^◌, ◌<◌, ◌≤◌, ℕ, List, Some, true, false, length, IsTrue, OnOk, MatchOption, MatchResult, IfOk, IfSome};
 ghost use Rattle.base_trees.specs.Rose.{node_count};
 ghost use Rattle.simple_types.specs.declared.labels.ValueLabel.{ValueLabel};
 ghost use Rattle.content_models.specs.Clear.{IsNoAll};
@@ -56,7 +56,7 @@ impl ModelPath {
         }
     }
 
-    /// Nothing comes behind it: its lists serve another way.
+    /// Ends the way, and keeps its lists for another.
     pub(crate) fn end(self, plans: &mut Plans, values: &ValueBuilder)
         ensures { plans.new ≡ plans.old }
     {
@@ -86,7 +86,7 @@ impl ModelPath {
         }
     }
 
-    // It leads to the leaf where the matcher stands.
+    // Leads to the leaf that the matcher has reached.
     #[inline(always)]
     fn follow(&mut self, matcher: &Matcher) -> Result<(), Memory>
         requires { IsNoAll matcher.now.particle }
@@ -100,7 +100,7 @@ impl ModelPath {
         }
     }
 
-    // Whether both lead to a kid of the top, as they do most often.
+    // Whether both lead to a child of the top, as they do most often.
     #[inline(always)]
     fn is_short(&self, matcher: &Matcher) -> bool
         ensures way { IsTrue result → (length self.now.turns.items ≡ 2) × (length self.now.kids.items ≡ 1) }
@@ -111,7 +111,7 @@ impl ModelPath {
         turns && kids
     }
 
-    // The same where it is as long as before.
+    // Follows the matcher where the lists are as long as before.
     #[inline(always)]
     fn follow_short(&mut self, matcher: &Matcher)
         requires no_all { IsNoAll matcher.now.particle }
@@ -125,7 +125,7 @@ impl ModelPath {
         self.begun = true;
     }
 
-    // The same with both lists copied.
+    // Follows the matcher by copying both lists.
     fn follow_anew(&mut self, matcher: &Matcher) -> Result<(), Memory>
         requires { IsNoAll matcher.now.particle }
         ensures { OnOk result (LeadsTo self.new matcher.now) }
@@ -139,56 +139,59 @@ impl ModelPath {
     }
 }
 
-/// The next child element has this name: the way to its leaf is opened, where a value is kept. The element stands at this
-/// place.
+/// A matcher after some child elements, and the way to the last leaf.
+#[derive(Drop)]
+pub(crate) struct Going<'a> {
+    pub matcher: Matcher<'a>,
+    pub way: ModelPath,
+}
+
+/// Steps the matcher by the name of the next child element, and opens the way to its leaf if a value is kept. Returns `None` if
+/// no list of the content model begins with the names so far and this one.
 pub(crate) fn open_way<L: Ledger>(
     model: &Particle,
-    matcher: &mut Matcher,
-    way: &mut ModelPath,
+    going: &mut Going,
     name: &Name,
-    at: u64,
     values: &mut ValueBuilder,
     steps: &mut Steps<L>,
-) -> Result<Leaf, CheckError>
+) -> Result<Option<Leaf>, Memory>
     requires fillable { IsFillable (seen model.now) }
     requires few { node_count model.now < 2 ^ 31 }
-    requires particle { matcher.old.particle ≡ seen model.now }
-    requires taken { matcher.old.taken < 2 ^ 32 - 1 }
-    requires took { (us : List language.Leaf) × Took matcher.old us }
-    requires way { IsWay way.old matcher.old values.old.most }
-    requires put { (gs : List Child) × (z : Zip ValueLabel) × (now : Zip ValueLabel) × Put (seen model.now) (spot_of matcher.old) gs z now × Stands values.old now }
-    ensures ticks { steps.new ≤ steps.old + (4 * levels matcher.old.particle + 4) }
-    ensures least { OnOk result (steps.old + 1 ≤ steps.new) }
+    requires particle { going.old.matcher.particle ≡ seen model.now }
+    requires taken { going.old.matcher.taken < 2 ^ 32 - 1 }
+    requires took { (us : List language.Leaf) × Took going.old.matcher us }
+    requires way { IsWay going.old.way going.old.matcher values.old.most }
+    requires put { (gs : List Child) × (z : Zip ValueLabel) × (now : Zip ValueLabel) × Put (seen model.now) (spot_of going.old.matcher) gs z now × Stands values.old now }
+    ensures ticks { steps.new ≤ steps.old + (4 * levels going.old.matcher.particle + 4) }
+    ensures least { IfOk result (λ found. IfSome found (λ _. steps.old + 1 ≤ steps.new)) }
     ensures later { steps.old ≤ steps.new }
-    ensures particle { matcher.new.particle ≡ matcher.old.particle }
-    ensures took { (us : List language.Leaf) → Took matcher.old us
-        → MatchResult result (λ leaf. TookMore matcher.old matcher.new us name.now leaf)
-        (Tells (At at InvalidWhy.UnexpectedElement (Viable matcher.old.particle (names us ++ name.now ∷ []) → ⊥))) }
-    ensures way { OnOk result (IsWay way.new matcher.new values.old.most) }
+    ensures particle { going.new.matcher.particle ≡ going.old.matcher.particle }
+    ensures took { (us : List language.Leaf) → Took going.old.matcher us
+        → IfOk result (λ found. MatchOption found
+        (Viable going.old.matcher.particle (names us ++ name.now ∷ []) → ⊥)
+        (λ leaf. TookMore going.old.matcher going.new.matcher us name.now leaf)) }
+    ensures way { IfOk result (λ found. IfSome found (λ _. IsWay going.new.way going.new.matcher values.old.most)) }
     ensures limit { OnOk result (values.new.most ≡ values.old.most) }
-    ensures opens { IfOk result (λ leaf. Opens (seen model.now) matcher.old matcher.new leaf.decl values.old values.new) }
+    ensures opens { IfOk result (λ found. IfSome found (λ leaf. Opens (seen model.now) going.old.matcher going.new.matcher leaf.decl values.old values.new)) }
 {
-    match matcher.step(name, steps) {
-        Err(_) => Err(CheckError::Invalid {
-            at,
-            why: InvalidWhy::UnexpectedElement,
-        }),
+    match going.matcher.step(name, steps) {
+        Err(_) => Ok(None),
         Ok(leaf) => {
             if values.keeps_nothing() {
-                return Ok(leaf);
+                return Ok(Some(leaf));
             }
             let to = Path {
-                turns: matcher.turns(),
-                kids: matcher.kids(),
+                turns: going.matcher.turns(),
+                kids: going.matcher.kids(),
             };
-            put_step(model, way.path(), to, values)?;
-            way.follow(matcher)?;
-            Ok(leaf)
+            put_step(model, going.way.path(), to, values)?;
+            going.way.follow(&going.matcher)?;
+            Ok(Some(leaf))
         }
     }
 }
 
-/// The names taken are those of a list of the content model. The element stands at this place.
+/// Checks that the names so far are those of a list of the content model. The element is at this place.
 pub(crate) fn finish<L: Ledger>(
     matcher: &Matcher,
     at: u64,

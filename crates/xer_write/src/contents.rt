@@ -1,4 +1,4 @@
-//! Items as they are told, and what stands in the innermost element so far.
+//! Items as they are added, and the content of the innermost element so far.
 ghost use Rattle.std.specs.Prelude.{◌≡◌, ◌∷◌, [], ◌++◌, ℕ, List, IfOk, OnOk, codes, drop, map};
 ghost use Rattle.std.specs.Bool.{OnTrue};
 ghost use Rattle.base_trees.specs.Rose.{none, more, roses_of};
@@ -19,15 +19,15 @@ use std::mem;
 use xml_items::ItemTree;
 use xml_write::OpenTag;
 
-/// What takes the items so far, and the texts that are to stand before the next of them.
+/// The receiver of the items so far, and the texts that precede the next of them.
 #[derive(Drop)]
 pub(crate) struct Contents<'a> {
     receiver: Receiver<'a>,
-    // Of each mixed type of which a value is being put into the element the texts that are left, of the innermost last.
+    // The texts that remain of each mixed type with a value in the element, the innermost last.
     texts: Vec<Kids<'a, ValueLabel>>,
 }
 
-/// What an element has so far, while one in it is open.
+/// What an element has so far, while an element in it is open.
 #[derive(Drop)]
 pub(crate) struct Outer<'a> {
     tag: Open<'a>,
@@ -35,7 +35,7 @@ pub(crate) struct Outer<'a> {
 }
 
 impl<'a> Contents<'a> {
-    /// Nothing so far.
+    /// Returns an empty content.
     pub(crate) fn new(alloc: Global, receiver: Receiver<'a>) -> Contents<'a>
         ensures receiver { result.receiver ≡ receiver.entry }
         ensures texts { result.texts.items ≡ [] }
@@ -46,7 +46,7 @@ impl<'a> Contents<'a> {
         }
     }
 
-    /// The tree, where there is one, and no element is open.
+    /// Returns the tree, if there is one and no element is open.
     pub(crate) fn into_tree(self) -> ItemTree
         requires { IsTree self.receiver }
         ensures { items_built self.entry.receiver ≡ result ∷ [] }
@@ -54,7 +54,7 @@ impl<'a> Contents<'a> {
         self.receiver.into_tree()
     }
 
-    /// The text that was written of a root with this name. None where an attribute was told too late.
+    /// Returns the text that was written, with a root of this name. None if an attribute was added too late.
     pub(crate) fn into_text(
         self,
         alloc: Global,
@@ -74,7 +74,7 @@ impl<'a> Contents<'a> {
     ) -> Result<(), Memory>
         ensures { OnOk result (Gains self.old self.new (given ((name_seen name.entry, text) ∷ []) none)) }
     {
-        // A text is UTF-8, as is known once it was read.
+        // Calling `as_str` makes it known that the text is UTF-8.
         let _ = text.as_str();
         self.receiver.put_attribute(alloc, name, text)
     }
@@ -98,7 +98,7 @@ impl<'a> Contents<'a> {
         self.receiver.put_text(alloc, &text)
     }
 
-    // Adds the next of these texts, if there is one, and hands back those that are left.
+    // Adds the next of these texts, if there is one, and returns those that remain.
     #[cycle(texts)]
     fn add_next(
         &mut self,
@@ -116,7 +116,7 @@ impl<'a> Contents<'a> {
         Ok(texts)
     }
 
-    // Adds the texts that stand before the next item.
+    // Adds the texts that precede the next item.
     #[cycle(texts)]
     fn make_room(&mut self, alloc: Global) -> Result<(), Memory>
         ensures { OnOk result (MakesRoom self.old self.new) }
@@ -130,7 +130,7 @@ impl<'a> Contents<'a> {
         Ok(())
     }
 
-    // Adds the texts that stand before the next item, if there are any.
+    // Adds the texts that precede the next item, if there are any.
     #[inline(always)]
     fn make_room_for_one(&mut self, alloc: Global) -> Result<(), Memory>
         ensures { OnOk result (MakesRoom self.old self.new) }
@@ -141,7 +141,7 @@ impl<'a> Contents<'a> {
         self.make_room(alloc)
     }
 
-    /// Adds an element of this name in which a text stands, or nothing, where it is empty.
+    /// Adds an element of this name that contains a text. The element is empty if the text is.
     #[inline(always)]
     pub(crate) fn add_text_element(
         &mut self,
@@ -151,13 +151,13 @@ impl<'a> Contents<'a> {
     ) -> Result<(), Memory>
         ensures { OnOk result (Gains self.old self.new (given [] (more (element_of (name_seen name.now) (given [] (text_before text.now none))) none))) }
     {
-        // A text is UTF-8, as is known once it was read.
+        // Calling `as_str` makes it known that the text is UTF-8.
         let _ = text.as_str();
         self.make_room_for_one(alloc)?;
         self.receiver.put_text_element(alloc, name, text)
     }
 
-    /// The same of the digits of a number.
+    /// Adds an element of this name that contains the digits of a number.
     #[inline(always)]
     pub(crate) fn add_digits_element(
         &mut self,
@@ -171,7 +171,7 @@ impl<'a> Contents<'a> {
         self.receiver.put_digits_element(alloc, name, digits)
     }
 
-    /// Begins an element of this name. Hands back what the element that it stands in has so far.
+    /// Begins an element of this name. Returns what the element around it has so far.
     #[inline(always)]
     pub(crate) fn begin_element(
         &mut self,
@@ -186,7 +186,7 @@ impl<'a> Contents<'a> {
         Ok(Outer { tag, texts })
     }
 
-    /// Whether items are written, and no text is to stand before the next of them.
+    /// Returns whether items are written, and no text precedes the next of them.
     #[inline(always)]
     pub(crate) fn is_plain(&self) -> bool
         ensures { OnTrue result (IsPlain self.now) }
@@ -194,7 +194,7 @@ impl<'a> Contents<'a> {
         self.receiver.is_written() && self.texts.as_slice().is_empty()
     }
 
-    /// Begins an element of this name there: nothing is handed back but its tag.
+    /// Begins an element of this name while items are written and no text precedes it. Only its tag is returned.
     #[inline(always)]
     pub(crate) fn begin_plain(
         &mut self,
@@ -229,7 +229,7 @@ impl<'a> Contents<'a> {
         self.receiver.close_tag(alloc, tag)
     }
 
-    /// Has these texts stand before the next items that are added, each before one, until `end_mixed`.
+    /// Makes each of these texts precede one of the next items that are added, until `end_mixed`.
     pub(crate) fn begin_mixed(&mut self, texts: Kids<'a, ValueLabel>) -> Result<(), Memory>
         ensures receiver { OnOk result (self.new.receiver ≡ self.old.receiver) }
         ensures texts { OnOk result (self.new.texts.items ≡ self.old.texts.items ++ texts.entry ∷ []) }
@@ -238,7 +238,7 @@ impl<'a> Contents<'a> {
         Ok(())
     }
 
-    /// Adds the text that is next, and takes away those that are left.
+    /// Adds the next text, and drops those that remain.
     pub(crate) fn end_mixed(&mut self, alloc: Global) -> Result<(), Memory>
         ensures { OnOk result ((outer : List (List (List ℕ))) (texts : List (List ℕ)) → levels self.old ≡ outer ++ texts ∷ []
             → GainsIn outer self.old self.new (given [] (text_before (first_text texts) none))) }

@@ -1,4 +1,4 @@
-//! What a value gives to the element that it stands in.
+//! What a value gives to the element that contains it.
 ghost use Rattle.std.specs.Prelude.{◌≡◌, ◌&&◌, List, [], Some, true, false, OnOk, MatchOption, length, map, replicate, slice_get};
 ghost use Rattle.base_trees.specs.Rose.{none, more, label_of, kids_of, roses_of, count_all, Allowed};
 ghost use Rattle.asn_types.specs.Marks.{has_use_nil, has_use_order};
@@ -34,7 +34,7 @@ use simple_types::{Integer, ValueLabel, is_at_most};
 use std::alloc::Global;
 use std::iter::Iterator;
 
-// The texts of the first part, where it is present.
+// Returns the texts of the first part, if it is present.
 fn texts_of<'a>(value: &Node<'a, ValueLabel>) -> Option<Kids<'a, ValueLabel>>
     ensures { MatchOption result
         (texts_of (label_of value.now) (roses_of (kids_of value.now)) ≡ [])
@@ -52,7 +52,7 @@ fn texts_of<'a>(value: &Node<'a, ValueLabel>) -> Option<Kids<'a, ValueLabel>>
     }
 }
 
-// Adds `xsi:nil` where the content is absent of a type with USE-NIL.
+// Adds `xsi:nil` if the content of a USE-NIL type is absent.
 #[inline(always)]
 fn add_nil_if(
     alloc: Global,
@@ -102,7 +102,7 @@ fn add_spelled_element<'a>(
     out.add_text_element(alloc, name, &text)
 }
 
-// The same of a number.
+// Adds an element of this name with the text of a number.
 #[inline(always)]
 fn add_number_element<'a>(
     alloc: Global,
@@ -116,7 +116,7 @@ fn add_number_element<'a>(
     out.add_digits_element(alloc, name, buffer.format(number.get()))
 }
 
-// Adds an element of this name with the text of a value. A UTF8String has its text and an INTEGER its digits at hand.
+// Adds an element of this name with the text of a value. A UTF8String and an INTEGER need not be spelled first.
 #[inline(always)]
 fn add_leaf_element<'a>(
     alloc: Global,
@@ -166,7 +166,7 @@ fn gather_at<'a>(
     }
 }
 
-// Adds what the components of a SEQUENCE give that are present.
+// Adds what the present components of a SEQUENCE give.
 #[cycle(gathering)]
 fn gather_present<'a>(
     alloc: Global,
@@ -200,7 +200,7 @@ fn gather_present<'a>(
     Ok(())
 }
 
-// Adds child elements of this value, in this order of their places.
+// Adds child elements of this value, in this order of their numbers.
 #[cycle(gathering)]
 fn gather_children<'a>(
     alloc: Global,
@@ -343,7 +343,7 @@ fn gather_elements<'a>(
     Ok(())
 }
 
-// Adds what the items of a SEQUENCE OF give, which all stand at one place.
+// Adds what the items of a SEQUENCE OF give, which are all at one place.
 #[cycle(gathering)]
 fn gather_items<'a>(
     alloc: Global,
@@ -397,7 +397,7 @@ fn gather_sequence_of<'a>(
     gather_items(alloc, module, &place, &values, out)
 }
 
-// Adds what the kids of a value give, whose type is no reference. It is nothing where the value isn't of the type.
+// Adds what the children of a value give, whose type is not a reference. It adds nothing if the value isn't of the type.
 #[cycle(gathering)]
 #[inline(always)]
 fn gather_kids<'a>(
@@ -423,7 +423,7 @@ fn gather_kids<'a>(
     }
 }
 
-// Adds what the kids of a value give, with these texts before, between and behind them.
+// Adds what the children of a value give, with these texts before, between and after them.
 #[cycle(gathering)]
 #[inline(never)]
 fn gather_mixed<'a>(
@@ -443,7 +443,7 @@ fn gather_mixed<'a>(
     out.end_mixed(alloc)
 }
 
-// Adds what a value gives whose type is no reference and no text, by the instructions on the type.
+// Adds what a value gives whose type is neither a reference nor textual, by the instructions of the type.
 #[cycle(gathering)]
 #[inline(always)]
 fn gather_parts<'a>(
@@ -468,7 +468,7 @@ fn gather_parts<'a>(
     }
 }
 
-// Adds what a value of the type gives to the element that it stands in.
+// Adds what a value of the type gives to the element that contains it.
 #[cycle(gathering)]
 fn gather<'a>(
     alloc: Global,
@@ -489,8 +489,8 @@ fn gather<'a>(
     }
 }
 
-// Adds an element of this name, in which stands what a value gives whose type is no reference and no text, and sets aside
-// meanwhile what the element around it has.
+// Adds an element of this name with what a value gives, whose type is neither a reference nor textual. Meanwhile it sets aside what
+// the element around it has.
 #[cycle(gathering)]
 #[inline(never)]
 fn gather_apart<'a>(
@@ -510,8 +510,8 @@ fn gather_apart<'a>(
     out.end_element(alloc, outer)
 }
 
-// Adds an element of this name, in which stands what a value gives whose type is no reference and no text. Where
-// items are written and no text waits, as mostly, nothing is set aside but the tag.
+// Adds an element of this name with what a value gives, whose type is neither a reference nor textual. Most often items are written
+// and no text precedes the next: then only the tag is set aside.
 #[cycle(gathering)]
 fn gather_complex<'a>(
     alloc: Global,
@@ -533,7 +533,7 @@ fn gather_complex<'a>(
     out.end_plain(alloc, tag)
 }
 
-/// Adds an element of this name, in which stands what a value of the type gives.
+/// Adds an element of this name with what a value of the type gives.
 #[cycle(gathering)]
 #[inline(always)]
 pub(crate) fn gather_element<'a>(

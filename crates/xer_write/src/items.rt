@@ -20,7 +20,7 @@ use std::alloc::Global;
 use xml_read::Items;
 use xml_write::write_document;
 
-// Tells the items of a value of the assignment with this number.
+// Adds the items of a value of the assignment with this number to a receiver.
 fn told<'a>(
     alloc: Global,
     module: &'a Module,
@@ -44,16 +44,14 @@ fn told<'a>(
     Ok(out)
 }
 
-/// The items of a value of the assignment with this number, from 0: an element with the name of the assignment, in
-/// which stands what the value gives by the roles of its parts (X.693, EXTENDED-XER). All items have the place 0, and
-/// none binds a prefix.
+/// Returns the items of a value of the assignment with this number, from 0: an element with the name of the assignment. Its content
+/// is what the value gives by the roles of its parts (X.693, EXTENDED-XER). All items have the place 0, and none binds a prefix.
 ///
-/// It asks that they are sound: names are those of XML, no two attributes of an element have one, texts have the
-/// characters of XML alone, and no two are neighbours. The items of a value of the map of a linked set are.
+/// The items must be sound: names are those of XML, and no two attributes of an element have one name. Texts have only XML
+/// characters, and no two are adjacent. The items of a value of the map of a linked set are sound.
 ///
-/// Each node of the value is visited once, and texts are shared with the value and the module. The child elements of a
-/// value of a USE-ORDER type are all found before the first is told, without copies. The stack grows with the depth of the
-/// value alone.
+/// Each node of the value is visited once, and texts are shared with the value and the module. The child elements of a value of a
+/// USE-ORDER type are all found before the first is added, without copies. Recursion is bounded by the depth of the value.
 pub fn items_of(alloc: Global, module: &Module, t: u32, value: &Value) -> Result<Items, Memory>
     requires value { In module.now t value.now }
     requires sound { IsSomeAnd (Xer module.now t value.now) IsSound }
@@ -64,9 +62,9 @@ pub fn items_of(alloc: Global, module: &Module, t: u32, value: &Value) -> Result
     Ok(Items::of(out.into_tree()))
 }
 
-/// The text of a document with the items of a value, in UTF-8: what `write_document` writes of what `items_of` gives, for
-/// which it asks the same. It is written as the value is visited, and no items are built, where the attributes of each
-/// element stand before what stands in it, as in the map of a linked set.
+/// Returns the text of a document with the items of a value, in UTF-8: what `write_document` writes of what `items_of` returns. It
+/// has the requirements of `items_of`. It is written as the value is visited. No items are built if the attributes of each element
+/// precede its content, as in the map of a linked set.
 pub fn text_of(alloc: Global, module: &Module, t: u32, value: &Value) -> Result<Vec<u8>, Memory>
     requires value { In module.now t value.now }
     requires sound { IsSomeAnd (Xer module.now t value.now) IsSound }

@@ -1,4 +1,4 @@
-//! What a value of a USE-ORDER type gives: its attributes are told at once, its child elements are kept.
+//! What a value of a USE-ORDER type gives: its attributes are added at once, its child elements are kept.
 ghost use Rattle.std.specs.Prelude.{◌≡◌, true, OnOk};
 ghost use Rattle.base_trees.specs.Rose.{label_of, kids_of, roses_of, node_count, count_all};
 ghost use Rattle.asn_types.specs.declared.types.Form.TheVariants as form;
@@ -20,7 +20,7 @@ use simple_types::ValueLabel;
 use std::alloc::Global;
 use std::iter::Iterator;
 
-/// A child element that is told later.
+/// A child element that is added later.
 #[derive(Drop)]
 pub(crate) struct ChildElement<'a> {
     pub(crate) name: NameRef<'a>,
@@ -28,7 +28,7 @@ pub(crate) struct ChildElement<'a> {
     pub(crate) value: Node<'a, ValueLabel>,
 }
 
-// Tells and keeps what the value at a place gives.
+// Adds and keeps what the value at a place gives.
 #[cycle(keeping)]
 fn keep_at<'a>(
     alloc: Global,
@@ -61,7 +61,7 @@ fn keep_at<'a>(
     }
 }
 
-// Tells and keeps what a content gives, a SEQUENCE of attributes and child elements.
+// Adds and keeps what a content gives, a SEQUENCE of attributes and child elements.
 #[cycle(keeping)]
 fn keep_content<'a>(
     alloc: Global,
@@ -99,8 +99,8 @@ fn keep_content<'a>(
     )
 }
 
-/// Tells and keeps what the components of a SEQUENCE give that are present: the attributes are told, in the order of the
-/// components, and the child elements are kept in that order, those of the content as well.
+/// Adds and keeps what the present components of a SEQUENCE give. The attributes are added in the order of the components. The
+/// child elements are kept in that order, and so are those of the content.
 #[cycle(keeping)]
 pub(crate) fn keep_present<'a>(
     alloc: Global,

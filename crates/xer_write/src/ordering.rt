@@ -1,4 +1,4 @@
-//! The order of child elements that a value of a USE-ORDER type tells.
+//! The order of child elements that a value of a USE-ORDER type states.
 ghost use Rattle.std.specs.Prelude.{◌≡◌, ◌-◌, ◌≤◌, ◌<◌, ◌^◌, true, IfOk, length, map};
 ghost use Rattle.std.specs.List.{range_with_len};
 ghost use Rattle.base_trees.specs.Rose.{label_of, kids_of};
@@ -17,7 +17,7 @@ use simple_types::ValueLabel;
 use std::alloc::Global;
 use std::iter::Iterator;
 
-// The number of an item of an ENUMERATED.
+// Returns the number of an item of an ENUMERATED.
 fn item_number(value: &Node<'_, ValueLabel>) -> u32
     ensures { result ≡ rule.item_number value.now }
 {
@@ -27,7 +27,7 @@ fn item_number(value: &Node<'_, ValueLabel>) -> u32
     }
 }
 
-// The numbers of items of an ENUMERATED.
+// Returns the numbers of items of an ENUMERATED.
 fn item_numbers(alloc: Global, values: Kids<'_, ValueLabel>) -> Result<Vec<u32>, Memory>
     ensures { IfOk result (λ numbers. numbers.items ≡ map rule.item_number values.entry) }
 {
@@ -38,7 +38,7 @@ fn item_numbers(alloc: Global, values: Kids<'_, ValueLabel>) -> Result<Vec<u32>,
     Ok(numbers)
 }
 
-/// The numbers that the part `order` of a value has, where the parts of the value may be present.
+/// Returns the numbers that the part `order` of a value has. The present parts must be allowed.
 pub(crate) fn order_numbers(
     alloc: Global,
     node: &Tree<TypeLabel>,
@@ -67,7 +67,7 @@ pub(crate) fn order_numbers(
     Ok(Vec::new(alloc))
 }
 
-// How many flags are set.
+// Returns the number of flags that are set.
 fn set_count(flags: &[bool]) -> usize
     ensures { result ≡ count_set flags.now }
 {
@@ -80,7 +80,7 @@ fn set_count(flags: &[bool]) -> usize
     count
 }
 
-// A slot for each flag, in which the next of these numbers stands where the flag is set.
+// Returns a slot for each flag, which has the next of these numbers if the flag is set.
 fn slots(
     alloc: Global,
     flags: &[bool],
@@ -106,8 +106,8 @@ fn slots(
     Ok(all)
 }
 
-/// The places from 0 of so many things, in the order that these numbers tell of the last of them, of which there is one for
-/// each flag that is set. The time grows with the flags and the numbers.
+/// Returns the numbers from 0 of `count` things in an order. These numbers order the last things, one for each flag that is set.
+/// Those before them stay. The time grows with the flags and the numbers.
 pub(crate) fn in_order(
     alloc: Global,
     flags: &[bool],

@@ -7,7 +7,7 @@ use asn_types::{Component, Role, TypeLabel};
 use base_trees::Tree;
 use simple_types::ValueLabel;
 
-/// Where a kid of a value stands: the part, its role, and its type.
+/// The place of a child of a value: the part, its role, and its type.
 #[derive(Drop)]
 pub(crate) struct Place<'a> {
     pub(crate) role: Role,
@@ -15,7 +15,7 @@ pub(crate) struct Place<'a> {
     pub(crate) node: &'a Tree<TypeLabel>,
 }
 
-/// Whether the last part of a SEQUENCE is absent.
+/// Returns whether the last part of a SEQUENCE is absent.
 pub(crate) fn is_last_absent(label: &ValueLabel) -> bool
     ensures { result ≡ rule.is_last_absent label.now }
 {
@@ -28,7 +28,7 @@ pub(crate) fn is_last_absent(label: &ValueLabel) -> bool
     }
 }
 
-/// Whether there is a flag for each component, and each that is absent is optional.
+/// Returns whether there is a flag for each component, and each component that is absent is optional.
 pub(crate) fn may_be_present(parts: &[Component], present: &[bool]) -> bool
     ensures { result ≡ may_be_present parts.now present.now }
 {

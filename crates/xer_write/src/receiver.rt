@@ -1,4 +1,4 @@
-//! What takes the items of a value as they are told: they are built, or written as text at once.
+//! The receiver of the items of a value as they are added: it builds them, or writes them as text at once.
 ghost use Rattle.std.specs.Prelude.{◌≡◌, ◌∷◌, [], codes, IfOk, OnOk, IfSome};
 ghost use Rattle.std.specs.Bool.{OnTrue};
 ghost use Rattle.base_trees.specs.Rose.{node, none};
@@ -13,7 +13,7 @@ use std::mem;
 use xml_items::{ItemBuilder, ItemTree};
 use xml_write::{OpenTag, TextBuilder};
 
-/// A name of XML where it stands in a module. Without a namespace it is in none.
+/// An XML name, borrowed from a module. Without a namespace it is in none.
 #[derive(Clone, Copy)]
 pub(crate) struct NameRef<'a> {
     space: Option<&'a Text>,
@@ -23,7 +23,7 @@ pub(crate) struct NameRef<'a> {
 impl<'a> NameRef<'a> {
     ghost use Rattle.xer_write.specs.Private.Receiving.{name_seen};
 
-    /// The name of the element or attribute that a component stands for.
+    /// Returns the name of the element or attribute that a component represents.
     #[inline(always)]
     pub(crate) fn of_part(part: &'a Component) -> NameRef<'a>
         ensures { name_seen result ≡ names.name_of_part part.now }
@@ -34,7 +34,7 @@ impl<'a> NameRef<'a> {
         }
     }
 
-    /// The name of the element that an assignment stands for.
+    /// Returns the name of the element that an assignment represents.
     pub(crate) fn of_assignment(assignment: &'a Assignment) -> NameRef<'a>
         ensures { name_seen result ≡ names.name_told assignment.now.reference assignment.now.marks }
     {
@@ -80,14 +80,14 @@ pub(crate) struct Built {
     attributes: Vec<(Name, Text)>,
 }
 
-/// Takes items as they are told.
+/// Receives items as they are added.
 #[derive(Drop)]
 pub(crate) enum Receiver<'a> {
     Items(Built),
     Text(TextBuilder<'a>),
 }
 
-/// An open element: the attributes of the one that it stands in, or its tag.
+/// An open element: the attributes of the element around it, or its own tag.
 #[derive(Drop)]
 pub(crate) enum Open<'a> {
     Items(Vec<(Name, Text)>),
@@ -99,7 +99,7 @@ impl<'a> Receiver<'a> {
     ghost use Rattle.xer_write.specs.Private.Receiving.{name_seen, IsBegun, IsBuilder, IsTree, IsWritten, items_built, IsWholeOf, Tells, Opens, IsOpen, Closes};
     ghost use Rattle.xer_write.specs.Private.Gaining.{TakesElement, text_item};
 
-    /// Takes items to build them.
+    /// Returns a receiver that builds items.
     pub(crate) fn of_items(alloc: Global) -> Receiver<'a>
         ensures begun { IsBegun result }
         ensures items { IsBuilder result }
@@ -110,7 +110,7 @@ impl<'a> Receiver<'a> {
         })
     }
 
-    /// Takes items to write them.
+    /// Returns a receiver that writes items.
     pub(crate) fn of_text(alloc: Global) -> Result<Receiver<'a>, Memory>
         ensures { IfOk result IsBegun }
     {
@@ -118,7 +118,7 @@ impl<'a> Receiver<'a> {
         Ok(Receiver::Text(text))
     }
 
-    /// The tree that was built, where there is one, and no element is open.
+    /// Returns the tree that was built, if there is one and no element is open.
     pub(crate) fn into_tree(self) -> ItemTree
         requires { IsTree self }
         ensures { items_built self.entry ≡ result ∷ [] }
@@ -129,8 +129,7 @@ impl<'a> Receiver<'a> {
         }
     }
 
-    /// The text that was written of a root with this name. None where an attribute was told too late, and where items are
-    /// built.
+    /// Returns the text that was written, with a root of this name. None if an attribute was added too late, or if items are built.
     pub(crate) fn into_text(
         self,
         alloc: Global,
@@ -144,7 +143,7 @@ impl<'a> Receiver<'a> {
         }
     }
 
-    /// Whether items are written.
+    /// Returns whether items are written.
     #[inline(always)]
     pub(crate) fn is_written(&self) -> bool
         ensures { OnTrue result (IsWritten self.now) }
@@ -213,7 +212,7 @@ impl<'a> Receiver<'a> {
         }
     }
 
-    // Builds an element of this name in which a text stands, or nothing, where it is empty.
+    // Builds an element of this name that contains a text. The element is empty if the text is.
     #[inline(never)]
     fn build_text_element(
         &mut self,
@@ -230,7 +229,7 @@ impl<'a> Receiver<'a> {
         self.close(alloc, tag)
     }
 
-    /// Adds an element of this name in which a text stands, or nothing, where it is empty.
+    /// Adds an element of this name that contains a text. The element is empty if the text is.
     #[inline(always)]
     pub(crate) fn put_text_element(
         &mut self,
@@ -249,7 +248,7 @@ impl<'a> Receiver<'a> {
         }
     }
 
-    // Builds an element of this name in which these bytes stand.
+    // Builds an element of this name that contains these bytes.
     #[inline(never)]
     fn build_digits_element(
         &mut self,
@@ -263,7 +262,7 @@ impl<'a> Receiver<'a> {
         self.build_text_element(alloc, name, &text)
     }
 
-    /// The same of the digits of a number, of which no text is made where items are written.
+    /// Adds an element of this name that contains the digits of a number. No text is made if items are written.
     #[inline(always)]
     pub(crate) fn put_digits_element(
         &mut self,
@@ -303,7 +302,7 @@ impl<'a> Receiver<'a> {
         }
     }
 
-    /// The same where items are written.
+    /// Begins an element of this name, while items are written.
     #[inline(always)]
     pub(crate) fn open_tag(
         &mut self,
@@ -343,7 +342,7 @@ impl<'a> Receiver<'a> {
         }
     }
 
-    /// The same where items are written.
+    /// Ends the innermost open element, while items are written.
     #[inline(always)]
     pub(crate) fn close_tag(&mut self, alloc: Global, tag: OpenTag<'a>) -> Result<(), Memory>
         requires { IsOpen self.old (open_element.Text tag) }

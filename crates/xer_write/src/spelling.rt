@@ -9,7 +9,7 @@ use base_texts::{Memory, Text};
 use simple_types::ValueLabel;
 use std::alloc::Global;
 
-// Whether the type has no parts.
+// Returns whether the type has no parts.
 #[inline(always)]
 fn is_leaf(form: &Form) -> bool
     ensures { result ≡ textual.is_leaf form.now }
@@ -24,8 +24,8 @@ fn is_leaf(form: &Form) -> bool
     }
 }
 
-/// Whether the values of the type are texts. The instructions of a type without parts, as the many TEXT of an
-/// ENUMERATED, are not looked at.
+/// Returns whether the values of the type are texts. The instructions of a type without parts, such as the many TEXT of an
+/// ENUMERATED, are not visited.
 #[inline(always)]
 pub(crate) fn is_textual(label: &TypeLabel) -> bool
     ensures { result ≡ textual.is_textual label.now }
@@ -33,7 +33,7 @@ pub(crate) fn is_textual(label: &TypeLabel) -> bool
     is_leaf(&label.form) || label.marks.has_list() || label.marks.has_use_union()
 }
 
-/// The text of a UTF8String.
+/// Returns the text of a UTF8String.
 pub(crate) fn value_text(alloc: Global, value: &Node<'_, ValueLabel>) -> Result<Text, Memory>
     ensures { IfOk result (λ text. text ≡ value_text value.now) }
 {

@@ -2,7 +2,7 @@
 use Rattle.std.specs.Prelude.{ℕ, ◌-◌, Bool, true, false, List}
 use Rattle.der_fields.specs.Octets.{flipped}
 
--- each bit turned over, where a number is negative
+-- Each bit is inverted, if a number is negative.
 abbrev pub turned : Bool → List ℕ → List ℕ
 turned true xs = flipped xs
 turned false xs = xs

@@ -1,4 +1,4 @@
--- Octets with each bit turned over, or as they are.
+-- Octets with each bit inverted, or unchanged.
 use Rattle.std.specs.Prelude.{ℕ, ◌-◌, Bool, true, false, List}
 use Rattle.der_fields.specs.Octets.{flipped}
 

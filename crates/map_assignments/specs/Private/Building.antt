@@ -47,7 +47,7 @@ pub record TakesPart (before after : PartList) (name : List ℕ) (standard : Sta
 abbrev pub Takes : PartList → PartList → Label → Bool → Component → Type 0
 Takes before after l optional made = TakesPart before after (wanted l) (part_standard l) (part_marks l) optional made
 
--- If the parts that follow are those of the rest, then they and the parts so far together are those of the whole.
+-- If the parts that follow are those of `rest`, then the parts so far, followed by them, are those of `whole`.
 abbrev pub LeadsToNamed : (Subject → ℕ) → PartList → Parts → Parts → Type 0
 LeadsToNamed place made rest whole =
     (parts : List Component) (ts : List (Rose TypeLabel)) → AreNamed place made.scope rest parts (roses_of ts)
@@ -75,8 +75,8 @@ AreKnown s ts = All (linked.IsNamed s) (linked.all_leaves (all_seen (roses_of ts
 
 -- ---- the order of child elements
 
--- If identifiers are made for the rest after those of the scope, then they and those made before are made for all names, after
--- the first ones.
+-- If `gs` are the identifiers made for `rest` after those of `scope`, then `made`, followed by `gs`, are those made for `names`
+-- after those of `first`.
 abbrev pub LeadsToNames : List (List ℕ) → List (List ℕ) → List (List ℕ) → List (List ℕ) → List (List ℕ) → Type 0
 LeadsToNames first scope made rest names = (gs : List (List ℕ)) → AreTaken scope rest gs → AreTaken first names (made ++ gs)
 

@@ -1,4 +1,4 @@
--- Values and the kids of values, with their types alone.
+-- Values and their children, with only their types.
 use Rattle.std.specs.Prelude.{ℕ, Bool, true, false, Option, Some, None, List, [], ◌∷◌, length, map}
 use Rattle.base_trees.specs.Rose.{Rose, label_of, kids_of}
 use Rattle.simple_types.specs.declared.labels.ValueLabel.{ValueLabel}
@@ -8,7 +8,7 @@ use Rattle.asn_values.specs.Values.{ComponentPlace, places, FitsAt}
 use Rattle.per_fields.specs.Fields.{Writer}
 use Rattle.per_fields.specs.Encoding.{node_bits, per}
 
--- the types of the components that are present
+-- The types of the components that are present.
 abbrev pub chosen : List (Rose TypeLabel) → List Bool → List (Rose TypeLabel)
 chosen (t ∷ ts) (true ∷ flags) = t ∷ chosen ts flags
 chosen (t ∷ ts) (false ∷ flags) = chosen ts flags
@@ -18,11 +18,11 @@ abbrev pub types_of : List ComponentPlace → List (Rose TypeLabel)
 types_of ps = map (λ p. p.type) ps
 
 module _ (M : List Assignment) where
-  -- the value is one of the type, in some element
+  -- The value is one of the type, at some nesting depth.
   abbrev pub FitsSomewhere : Rose TypeLabel → Rose ValueLabel → Type 0
   FitsSomewhere t v = (depth : ℕ) × FitsAt M depth t v
 
-  -- a value for each type
+  -- There is a value for each type, which it fits.
   abbrev pub AllFit : List (Rose TypeLabel) → List (Rose ValueLabel) → Type 0
   AllFit [] [] = Unit {0}
   AllFit (t ∷ ts) (v ∷ vs) = FitsSomewhere t v × AllFit ts vs
@@ -32,12 +32,12 @@ module _ (M : List Assignment) where
   FitAt None vs = ⊥
   FitAt (Some ps) vs = AllFit (types_of ps) vs
 
-  -- of a type that is no reference: the kids have their places in it, and are of their types
+  -- The children have their places in the type, which is not a reference, and are of their types.
   abbrev pub KidsFit : Rose TypeLabel → Rose ValueLabel → Type 0
   KidsFit t v = FitAt (places t (label_of v) (length (kids_of v))) (kids_of v)
 
 module _ (aligned : Bool) (M : List Assignment) where
-  -- what writes these values, each of its type
+  -- The writers of these values, each of its type.
   abbrev pub writers : List (Rose TypeLabel) → List (Rose ValueLabel) → List Writer
   writers (t ∷ ts) (v ∷ vs) = per aligned M t v ∷ writers ts vs
   writers _ _ = []

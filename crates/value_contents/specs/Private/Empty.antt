@@ -1,4 +1,4 @@
--- The parts for particles that stand empty.
+-- The parts for particles without child elements.
 use Rattle.std.specs.Prelude.{ℕ, suc, Bool, not, cond, List, [], ◌∷◌}
 use Rattle.base_trees.specs.Rose.{Rose, node, label_of, kids_of, roses_of}
 use Rattle.base_trees.specs.Rose as rose
@@ -12,25 +12,25 @@ use Rattle.content_models.specs.Clear.{empties}
 use Rattle.value_builder.specs.Built.{with_parts}
 use Rattle.value_contents.specs.Bounds.{is_once, is_optional}
 
--- the term of a particle
+-- The term of a particle.
 abbrev pub term_of : Rose ParticleLabel → Term
 term_of t = term_seen (label_of t).kind (all_seen (roses_of (kids_of t)))
 
 abbrev pub may_be_left_out : Particle → Bool
 may_be_left_out (occurs t least most) = is_optional least most
 
--- a flag for each
+-- A flag for each particle.
 abbrev pub empty_flags : Particles → List Bool
 empty_flags none = []
 empty_flags (more p ps) = not (may_be_left_out p) ∷ empty_flags ps
 
--- the first alternative that may be empty
+-- The number of the first alternative that may be without child elements.
 abbrev pub empty_place : Particles → ℕ
 empty_place none = 0
 empty_place (more p ps) = cond (empties p) 0 (suc (empty_place ps))
 
 abbrev mutual
-  -- the value of a particle of which no child element is
+  -- The value of a particle without child elements.
   pub empty_value : Particle → Rose ValueLabel
   empty_value (occurs t least most) = cond (is_once least most) (empty_term t) (node value.SequenceOf rose.none)
 
@@ -40,7 +40,7 @@ abbrev mutual
   empty_term (choice ps) = node (value.Choice (empty_place ps)) (rose.more (empty_chosen ps) rose.none)
   empty_term (all ps) = node value.SequenceOf rose.none
 
-  -- the values of those that can't be left out
+  -- The values of those particles that can't be absent.
   pub empty_values : Particles → List (Rose ValueLabel)
   empty_values none = []
   empty_values (more p ps) = cond (may_be_left_out p) (empty_values ps) (empty_value p ∷ empty_values ps)
@@ -49,6 +49,6 @@ abbrev mutual
   empty_chosen none = node value.SequenceOf rose.none
   empty_chosen (more p ps) = cond (empties p) (empty_value p) (empty_chosen ps)
 
--- the innermost open SEQUENCE gets the parts for them
+-- The innermost open SEQUENCE has the parts for these particles more.
 abbrev pub emptied : Particles → Zip ValueLabel → Zip ValueLabel
 emptied ps z = with_parts (empty_flags ps) (empty_values ps) z

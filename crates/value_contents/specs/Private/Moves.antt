@@ -1,4 +1,4 @@
--- What is put down on the way from one leaf to the next.
+-- What is appended between one leaf and the next.
 use Rattle.std.specs.Prelude.{ℕ, zero, suc, ◌==◌, Bool, true, false, cond, []}
 use Rattle.base_flat_trees.specs.Zips.{Zip, opened, closed}
 use Rattle.simple_types.specs.declared.labels.ValueLabel.{ValueLabel}
@@ -9,14 +9,14 @@ use Rattle.value_builder.specs.Built.{flagged}
 use Rattle.value_contents.specs.Bounds.{is_single, is_parted}
 use Rattle.value_contents.specs.Private.Empty.{emptied}
 
--- which occurrence of a particle a spot is in, and where in it
+-- The occurrence of a particle that a spot is in. `inner_in` is the spot in that occurrence.
 abbrev pub turn_in : Spot → ℕ
 turn_in (at i s) = i
 
 abbrev pub inner_in : Spot → Inner
 inner_in (at i s) = s
 
--- a SEQUENCE OF is opened or closed, where a particle isn't single
+-- A SEQUENCE OF is opened or closed, if a particle isn't single.
 abbrev pub items_opened : Bool → Zip ValueLabel → Zip ValueLabel
 items_opened single z = cond single z (opened value.SequenceOf z)
 
@@ -24,7 +24,7 @@ abbrev pub items_closed : Bool → Zip ValueLabel → Zip ValueLabel
 items_closed single z = cond single z (closed z)
 
 abbrev mutual
-  -- the way into a particle is opened
+  -- The path into a particle is opened.
   pub entered : Bool → Particle → Spot → Zip ValueLabel → Zip ValueLabel
   entered in_choice (occurs t least most) (at i s) z = entered_term t s (items_opened (is_single in_choice least most) z)
 
@@ -49,7 +49,7 @@ abbrev mutual
   entered_one (more p ps) (suc j) s z = entered_one ps j s z
 
 abbrev mutual
-  -- what is open of a particle is closed behind the leaf
+  -- What is open of a particle is closed after the leaf.
   pub ended : Bool → Particle → Spot → Zip ValueLabel → Zip ValueLabel
   ended in_choice (occurs t least most) (at i s) z = items_closed (is_single in_choice least most) (ended_term t s z)
 
@@ -74,7 +74,7 @@ abbrev mutual
   ended_one (more p ps) (suc j) s z = ended_one ps j s z
 
 abbrev mutual
-  -- from one leaf of a particle to the next
+  -- The move from one leaf of a particle to the next.
   pub moved : Particle → Spot → Spot → Zip ValueLabel → Zip ValueLabel
   moved (occurs t least most) (at i s) (at j u) z = cond (i == j) (moved_term t s u z) (entered_term t u (ended_term t s z))
 

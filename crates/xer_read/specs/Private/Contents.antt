@@ -1,5 +1,6 @@
 -- What is read of the content of an element, and how its value is made of it.
-use Rattle.std.specs.Prelude.{◌≡◌, ℕ, suc, Bool, true, false, not, List, [], ◌∷◌, ◌++◌, length, map, All, Option, Some, None, slice_get, MatchBool}
+use Rattle.std.specs.Prelude.{◌≡◌, ℕ, suc, Bool, true, false, not, List, [], ◌∷◌, ◌++◌, length, map, All, Option, Some, None, slice_get, MatchBool, MatchOption}
+use denote.Ref.{Bor}
 use Rattle.base_texts.specs.declared.texts.Name.{Name}
 use Rattle.base_trees.specs.Rose.{Rose, node, Roses, roses_of}
 use Rattle.base_trees.specs.Rose as rose
@@ -107,10 +108,10 @@ abbrev pub IsNilContent : Held → Type 0
 IsNilContent content = (content.rest ≡ held.nil) × (texts_of content ≡ node value.SequenceOf rose.none) × (content.order ≡ [])
 
 -- the child elements come in any order
-abbrev pub is_ordered : Inside → Bool
-is_ordered nothing = false
-is_ordered (simple space) = false
-is_ordered (children mixed p) = is_all p
+abbrev pub in_any_order : Inside → Bool
+in_any_order nothing = false
+in_any_order (simple space) = false
+in_any_order (children mixed p) = is_all p
 
 -- the content model, if there is one, is no all
 abbrev pub HasNoAll : Inside → Type 0
@@ -121,6 +122,10 @@ HasNoAll (children mixed p) = IsNoAll p
 -- the attribute takes its text, where it stands
 abbrev pub IsTaken : List (Name × List ℕ) → Attribute → Type 0
 IsTaken xs a = (words : List ℕ) → text_of xs a.name ≡ Some words → Takes a words
+
+-- this is the text of the attribute with this name, if it stands
+abbrev pub IsTextOf : List (Name × List ℕ) → Name → Option (Bor (List ℕ)) → Type 0
+IsTextOf xs name text = MatchOption text (text_of xs name ≡ None) (λ t. text_of xs name ≡ Some t.now)
 
 abbrev pub AreTaken : Set → List (Name × List ℕ) → List AttributeUse → Type 0
 AreTaken s xs us = All (λ (u : AttributeUse). IsTaken (left xs) (attribute_in (parts_of s) u)) us
@@ -190,7 +195,7 @@ pub record ComplexMade (a : Asked) (xs : List (Name × List ℕ)) (content : Hel
   pub rest_values : List (Rose ValueLabel)
   pub is : v ≡ node (value.Sequence (text_flags ++ (order_flags ++ (flags ++ rest_flags)))) (roses_of (text_values ++ (order_values ++ (values ++ rest_values))))
   pub texts : TextsMade a.inside (texts_of content) text_flags text_values
-  pub order : OrderMade (is_ordered a.inside) content.order order_flags order_values
+  pub order : OrderMade (in_any_order a.inside) content.order order_flags order_values
   pub attributes : AttributesMade a.attributes (left xs) flags values
   pub others : RestMade a.nillable content.rest rest_flags rest_values
 
@@ -292,7 +297,7 @@ pub record Begins (a : Asked) (xs : List (Name × List ℕ)) (texts : List (Rose
   pub flags : List Bool
   pub values : List (Rose ValueLabel)
   pub texts_made : TextsMade a.inside (node value.SequenceOf (roses_of texts)) text_flags text_values
-  pub order_made : OrderMade (is_ordered a.inside) numbers order_flags order_values
+  pub order_made : OrderMade (in_any_order a.inside) numbers order_flags order_values
   pub attributes_made : AttributesMade a.attributes (left xs) flags values
   pub puts : Puts (λ z. with_parts flags values (with_parts order_flags order_values (with_parts text_flags text_values (opened (value.Sequence []) z)))) old new
 

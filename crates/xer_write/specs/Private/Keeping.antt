@@ -1,4 +1,4 @@
--- Child elements that are told later, as the code keeps them.
+-- Child elements that are added later, as the code keeps them.
 use Rattle.std.specs.Prelude.{◌≡◌, ℕ, ◌≤◌, false, List, [], map, Some, slice_get}
 use Rattle.std.specs.List.{AllByRecursion}
 use Rattle.base_trees.specs.Rose.{Rose, none, label_of, kids_of, node_count}
@@ -26,17 +26,17 @@ child_seen c = record { name = name_seen c.name; type = c.node.now; value = c.va
 abbrev pub children_seen : List ChildElement → List Child
 children_seen cs = map child_seen cs
 
--- their types stand in the module, and no value has more nodes than these
+-- Their types are types of the module, and no value has more nodes than this.
 abbrev pub AreWithin : List Assignment → ℕ → List Child → Type 0
 AreWithin M most cs = AllByRecursion (λ (c : Child). IsTypeIn M c.type × (node_count c.value ≤ most)) cs
 
--- The attributes of what was given are told, and the child elements of it are kept behind those that were.
+-- The attributes that a value gives are added, and its child elements are kept after those before.
 pub record Keeps (M : List Assignment) (nodes : ℕ) (old new : Contents) (before after : List Child) (g : Given) : Type 0 where
   pub gains : Gains old new (given g.attributes none)
   pub children : elements_of M after ≡ joined (elements_of M before) (child_elements g.kids)
   pub within : (most : ℕ) → nodes ≤ most → AreWithin M most before → AreWithin M most after
 
--- a SEQUENCE whose parts give attributes and child elements
+-- The type is a SEQUENCE whose parts give attributes and child elements.
 pub record IsPlain (t : Rose TypeLabel) : Type 0 where
   pub sequence : IsSequence (label_of t).form
   pub groups : group_parts (label_of t) ≡ []
@@ -44,7 +44,7 @@ pub record IsPlain (t : Rose TypeLabel) : Type 0 where
   pub texts : has_embed_values (label_of t).marks ≡ false
   pub order : has_use_order (label_of t).marks ≡ false
 
--- a place that gives an attribute, a child element, or those of a content, or nothing
+-- The place gives an attribute, a child element, the attributes and child elements of a content, or nothing.
 pub record GivesPlainly (M : List Assignment) (p : ComponentPlace) : Type 0 where
   pub group : p.role ≡ Group → ⊥
   pub content : p.role ≡ Content → IsPlain (resolve M p.type)

@@ -1,4 +1,4 @@
--- What is told to a receiver.
+-- What is added to a receiver.
 use Rattle.std.specs.Prelude.{◌≡◌, ◌<◌, ℕ, List, [], ◌++◌, Option, None, length}
 use Rattle.std.specs.Global.{Vec}
 use Rattle.base_texts.specs.declared.texts.Name.{Name}
@@ -19,22 +19,22 @@ use Rattle.xer_write.specs.declared.receiver.Open.TheVariants as open_element
 abbrev pub name_seen : NameRef → Name
 name_seen name = record { space = told.space_of name.space; local = name.local.now }
 
--- nothing was told
+-- Nothing was added.
 abbrev pub IsBegun : Receiver → Type 0
 IsBegun (receiver.Items built) = (built.builder.zip ≡ outside) × (built.attributes.items ≡ [])
 IsBegun (receiver.Text text) = told.IsBegun text
 
--- the items are built
+-- The items are built.
 abbrev pub IsBuilder : Receiver → Type 0
 IsBuilder (receiver.Items built) = Unit {0}
 IsBuilder (receiver.Text text) = ⊥
 
--- the items are written
+-- The items are written.
 abbrev pub IsWritten : Receiver → Type 0
 IsWritten (receiver.Items built) = ⊥
 IsWritten (receiver.Text text) = Unit {0}
 
--- one item was built, and no element is open
+-- One item was built, and no element is open.
 abbrev pub IsTree : Receiver → Type 0
 IsTree (receiver.Items built) = (built.builder.zip.above ≡ []) × (length built.builder.zip.kids ≡ 1)
 IsTree (receiver.Text text) = ⊥
@@ -47,7 +47,7 @@ abbrev pub IsWholeOf : Receiver → Name → Option (Vec ℕ) → Type 0
 IsWholeOf (receiver.Items built) name whole = whole ≡ None
 IsWholeOf (receiver.Text text) name whole = told.IsWhole text name whole
 
--- these attributes of the innermost open element, and these items in it
+-- These attributes were added to the innermost open element, and these items to its content.
 abbrev pub Tells : Receiver → Receiver → List (Name × List ℕ) → List (Rose ItemLabel) → Type 0
 Tells (receiver.Items old) (receiver.Items new) attributes items =
     (new.attributes.items ≡ old.attributes.items ++ attributes) × (new.builder.zip ≡ added_all items old.builder.zip)
@@ -60,7 +60,7 @@ pub record BuiltOpens (old new : Built) (name : Name) (outer : Vec (Name × List
   pub attributes : new.attributes.items ≡ []
   pub outer_attributes : outer.items ≡ old.attributes.items
 
--- an element of this name is open, in which nothing stands
+-- An element of this name is open and empty.
 abbrev pub Opens : Receiver → Receiver → Name → Open → Type 0
 Opens (receiver.Items old) (receiver.Items new) name (open_element.Items outer) = BuiltOpens old new name outer
 Opens (receiver.Items old) (receiver.Items new) name (open_element.Text tag) = ⊥
@@ -75,7 +75,7 @@ IsOpen (receiver.Items built) (open_element.Text tag) = ⊥
 IsOpen (receiver.Text text) (open_element.Items outer) = ⊥
 IsOpen (receiver.Text text) (open_element.Text tag) = Unit {0}
 
--- the element is closed, with the attributes that it was given
+-- The element is closed, with the attributes that were added to it.
 abbrev pub Closes : Open → Receiver → Receiver → Type 0
 Closes (open_element.Items outer) (receiver.Items old) (receiver.Items new) =
     (new.attributes.items ≡ outer.items) × (new.builder.zip ≡ closed (listed old.attributes.items [] old.builder.zip))

@@ -6,4 +6,4 @@ pub returns-clause-count : goal.returns-clause-count
 returns-clause-count c = λ lines items some few is. counted laws lines few items is
 
 pub returns-clause-steps : goal.returns-clause-steps
-returns-clause-steps c = trial_steps laws
+returns-clause-steps c = λ left before now lines some few from. trial_steps laws left before now lines few from

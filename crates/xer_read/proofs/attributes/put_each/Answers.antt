@@ -23,30 +23,32 @@ put_attribute-requires-clause-declared c =
 
 pub put_attribute-requires-clause-taken : goal.put_attribute-requires-clause-taken
 put_attribute-requires-clause-taken c =
-    subst (λ v. IsTaken (left c.args.attributes.now) (attribute_in (parts_of c.args.set.now) v)) (sym c.index-uses-i.is) (c.requires.taken c.uses.i c.index-uses-i.result c.uses-test.true)
-
-pub put_attribute-requires-clause-text : goal.put_attribute-requires-clause-text
-put_attribute-requires-clause-text c =
     let us = c.args.uses.now in
-    let xs = c.args.attributes.now in
     let u = c.index-uses-i.result in
     let t = c.index-texts-i.result in
-    told_match t (text_of xs u.name) (told_text xs us c.args.texts.now c.requires.texts c.uses.i c.uses-test.true t c.index-texts-i.is u c.index-uses-i.is)
+    let (xs, taken, texts) = c.requires.taken in (
+      xs,
+      subst (λ v. IsTaken (left xs) (attribute_in (parts_of c.args.set.now) v)) (sym c.index-uses-i.is) (taken c.uses.i u c.uses-test.true),
+      told_match t (text_of xs u.name) (told_text xs us c.args.texts.now texts c.uses.i c.uses-test.true t c.index-texts-i.is u c.index-uses-i.is),
+    )
 
 pub uses-init : goal.uses-init
-uses-init c = no-parts (AttributesMade [] (left c.args.attributes.now)) c.args.values.now (refl, refl)
+uses-init c = λ xs taken texts. no-parts (AttributesMade [] (left xs)) c.args.values.now (refl, refl)
 
 pub uses-preserved : goal.uses-preserved
-uses-preserved c =
+uses-preserved c = λ xs taken texts.
     let own = attribute_in (parts_of c.args.set.now) in
     let us = c.args.uses.now in
     let i = c.uses.i in
     let u = c.index-uses-i.result in
-    more-parts (map own (take i us)) (map own (take (i + 1) us)) (own u) (left c.args.attributes.now) c.args.values.now c.uses.values c.put_attribute.new.values
-    (mapped-more own us i u c.uses-test.true c.index-uses-i.is) c.uses.invariant c.in_ok-put_attribute.ensures
+    let t = c.index-texts-i.result in
+    more-parts (map own (take i us)) (map own (take (i + 1) us)) (own u) (left xs) c.args.values.now c.uses.values c.put_attribute.new.values
+    (mapped-more own us i u c.uses-test.true c.index-uses-i.is) (c.uses.invariant xs taken texts)
+    (c.in_ok-put_attribute.ensures xs (subst (λ v. IsTaken (left xs) (own v)) (sym c.index-uses-i.is) (taken i u c.uses-test.true))
+    (told_match t (text_of xs u.name) (told_text xs us c.args.texts.now texts i c.uses-test.true t c.index-texts-i.is u c.index-uses-i.is)))
 
 pub returns : goal.returns
-returns c =
+returns c = λ xs taken texts.
     let us = c.args.uses.now in
     let whole = take_all c.uses.i us (omega (arith, c.uses-test.false)) in
-    subst (λ z. PartsPut (AttributesMade (map (attribute_in (parts_of c.args.set.now)) z) (left c.args.attributes.now)) c.args.values.now c.uses.values) whole c.uses.invariant
+    subst (λ z. PartsPut (AttributesMade (map (attribute_in (parts_of c.args.set.now)) z) (left xs)) c.args.values.now c.uses.values) whole (c.uses.invariant xs taken texts)

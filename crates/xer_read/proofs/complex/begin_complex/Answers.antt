@@ -15,13 +15,13 @@ use Rattle.xer_read.proofs.complex.begin_complex.Goals as goal
 
 pub returns : goal.returns
 returns c =
-    let a = told (parts_of c.args.set.now) c.args.declared.now in
-    let xs = c.args.attributes.now in
-    let texts = strings_put c.args.nil (roses_of c.args.kids.now) in
+    let a = told (parts_of c.args.element.now.set.now) c.args.element.now.declared in
+    let xs = c.args.element.now.attributes.now in
+    let texts = strings_put c.args.nil (roses_of c.args.element.now.parent.kids) in
     let numbers = c.args.numbers.now in
     let old = c.args.values.now in
     let new = c.put_attributes.new.values in
-    on-ok c.put_attributes.result (PartsPut (AttributesMade (map (attribute_in (parts_of c.args.set.now)) c.args.declared.now.uses.list.now) (left xs)) c.put_order.new.values new) (Begins a xs texts numbers old new)
+    on-ok c.put_attributes.result (PartsPut (AttributesMade (map (attribute_in (parts_of c.args.element.now.set.now)) c.args.element.now.declared.uses.list.now) (left xs)) c.put_order.new.values new) (Begins a xs texts numbers old new)
     (begins-put a xs texts numbers old c.open.new.self c.put_texts.new.values c.put_order.new.values new (subst (λ l. Puts (opened l) old c.open.new.self) c.no_components.ensures c.in_ok-open.ensures) c.in_ok-put_texts.ensures
     c.in_ok-put_order.ensures)
     c.put_attributes.ensures

@@ -5,4 +5,4 @@ use Rattle.xer_read.proofs.complex.put_nil.Goals as goal
 
 pub returns : goal.returns
 returns c =
-    nil-put (told (parts_of c.args.set.now) c.args.declared.now) c.args.attributes.now c.args.values.now c.begin_complex.new.values c.part.new.self c.close.new.self c.in_ok-begin_complex.ensures c.in_ok-part.ensures c.close.ensures
+    nil-put (told (parts_of c.args.element.now.set.now) c.args.element.now.declared) c.args.element.now.attributes.now c.args.values.now c.begin_complex.new.values c.part.new.self c.close.new.self c.in_ok-begin_complex.ensures c.in_ok-part.ensures c.close.ensures

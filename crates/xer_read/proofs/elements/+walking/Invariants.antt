@@ -16,54 +16,50 @@ abbrev pub decreases-walk_kid : goal.decreases-walk_kid
 decreases-walk_kid g l = 8 * node_count l.kid.now + 1
 
 abbrev pub decreases-walk_kids : goal.decreases-walk_kids
-decreases-walk_kids g l = 8 * count_all (roses_of l.kids.now) + 2
+decreases-walk_kids g l = 8 * count_all (roses_of l.parent.now.kids) + 2
 
 abbrev pub decreases-walk_plain : goal.decreases-walk_plain
-decreases-walk_plain g l = 8 * count_all (roses_of l.kids.now) + 3
-
-abbrev pub decreases-walk_children : goal.decreases-walk_children
-decreases-walk_children g l = 8 * count_all (roses_of l.kids.now) + 3
+decreases-walk_plain g l = 8 * count_all (roses_of l.parent.now.kids) + 3
 
 abbrev pub decreases-walk_inside : goal.decreases-walk_inside
-decreases-walk_inside g l = 8 * count_all (roses_of l.kids.now) + 4
-
-abbrev pub decreases-walk_complex : goal.decreases-walk_complex
-decreases-walk_complex g l = 8 * count_all (roses_of l.kids.now) + 5
+decreases-walk_inside g l = 8 * count_all (roses_of l.element.now.parent.kids) + 4
 
 abbrev pub decreases-gather_kid : goal.decreases-gather_kid
 decreases-gather_kid g l = 8 * node_count l.kid.now + 1
 
 abbrev pub decreases-gather_kids : goal.decreases-gather_kids
-decreases-gather_kids g l = 8 * count_all (roses_of l.kids.now) + 2
+decreases-gather_kids g l = 8 * count_all (roses_of l.parent.now.kids) + 2
 
-abbrev pub decreases-walk_ordered : goal.decreases-walk_ordered
-decreases-walk_ordered g l = 8 * count_all (roses_of l.kids.now) + 5
+abbrev pub decreases-walk_any_order : goal.decreases-walk_any_order
+decreases-walk_any_order g l = 8 * count_all (roses_of l.element.now.parent.kids) + 5
 
 abbrev pub decreases-walk_filled : goal.decreases-walk_filled
-decreases-walk_filled g l = 8 * count_all (roses_of l.kids.now) + 6
+decreases-walk_filled g l = 8 * count_all (roses_of l.element.now.parent.kids) + 6
 
 abbrev pub decreases-walk_element : goal.decreases-walk_element
 decreases-walk_element g l = 8 * node_count l.item.now
 
 abbrev pub invariant-walk_kids-loop-kid : goal.invariant-walk_kids-loop-kid
 invariant-walk_kids-loop-kid g l = record {
-  all : l.yielded ++ l.kid-iterator ≡ l.kids;
-  plans : l.plans ≡ l.set;
-  way : IsWay l.way l.matcher l.initial.values.most;
+  all : l.yielded ++ l.kid-iterator ≡ l.parent.kids;
+  same_reference : l.walk.steps.ghost_name ≡ l.initial.walk.steps.ghost_name;
+  plans : l.walk.plans ≡ l.content.set.now;
+  way : IsWay l.going.way l.going.matcher l.initial.values.most;
   limit : l.values.most ≡ l.initial.values.most;
-  reached : (z : Zip ValueLabel) → Stands l.initial.values z → Reached l.set l.mixed (seen l.model) l.kids (length l.yielded) l.matcher z l.values;
-  most : l.steps ≤ l.initial.steps + 144 * elements_in (front (length l.yielded) (roses_of l.kids));
-  least : l.initial.steps + elements_in (front (length l.yielded) (roses_of l.kids)) ≤ l.steps;
+  reached : (z : Zip ValueLabel) → Stands l.initial.values z → Reached l.content.set.now l.content.mixed (seen l.content.model.now) l.parent.kids (length l.yielded) l.going.matcher z l.values;
+  most : l.walk.steps.now ≤ l.initial.walk.steps.now + 144 * elements_in (front (length l.yielded) (roses_of l.parent.kids));
+  least : l.initial.walk.steps.now + elements_in (front (length l.yielded) (roses_of l.parent.kids)) ≤ l.walk.steps.now;
 }
 
 abbrev pub invariant-gather_kids-loop-kid : goal.invariant-gather_kids-loop-kid
 invariant-gather_kids-loop-kid g l = record {
-  all : l.yielded ++ l.kid-iterator ≡ l.kids;
-  plans : l.plans ≡ l.set;
-  particle : l.matcher.particle ≡ seen l.model;
-  limit : l.gathered.most ≡ l.values.most;
-  outside : l.gathered.outside ≡ l.values.nodes;
-  gathers : (ps : Particles) → seen l.model ≡ whole ps → Gathers l.set l.mixed ps l.kids (length l.yielded) l.matcher l.gathered;
-  most : l.steps ≤ l.initial.steps + 144 * elements_in (front (length l.yielded) (roses_of l.kids));
-  least : l.initial.steps + elements_in (front (length l.yielded) (roses_of l.kids)) ≤ l.steps;
+  all : l.yielded ++ l.kid-iterator ≡ l.parent.kids;
+  same_reference : l.walk.steps.ghost_name ≡ l.initial.walk.steps.ghost_name;
+  plans : l.walk.plans ≡ l.content.set.now;
+  particle : l.gathering.matcher.particle ≡ seen l.content.model.now;
+  limit : l.gathering.gathered.most ≡ l.values.most;
+  outside : l.gathering.gathered.outside ≡ l.values.nodes;
+  gathers : (ps : Particles) → seen l.content.model.now ≡ whole ps → Gathers l.content.set.now l.content.mixed ps l.parent.kids (length l.yielded) l.gathering.matcher l.gathering.gathered;
+  most : l.walk.steps.now ≤ l.initial.walk.steps.now + 144 * elements_in (front (length l.yielded) (roses_of l.parent.kids));
+  least : l.initial.walk.steps.now + elements_in (front (length l.yielded) (roses_of l.parent.kids)) ≤ l.walk.steps.now;
 }

@@ -1,5 +1,5 @@
-use Rattle.std.proofs.Common.{◌≡◌, ℕ, List, [], ◌∷◌, Some, append-nil, sym, ◌∙◌, ap, refl}
-use Rattle.base_trees.specs.Rose.{Rose, node, roses_of, label_of, kids_of}
+use Rattle.std.proofs.Common.{◌≡◌, ℕ, List, [], ◌∷◌, Some, append-nil, sym, ◌∙◌, ap}
+use Rattle.base_trees.specs.Rose.{Rose, node, roses_of, label_of}
 use Rattle.xml_items.specs.declared.label.ItemLabel.{ItemLabel}
 use Rattle.xml_items.specs.declared.label.ItemLabel.TheVariants.{Element, Text}
 use Rattle.xml_items.specs.Seen.{item_seen}

@@ -1,13 +1,14 @@
-use Rattle.std.proofs.Common.{◌∙◌, ap}
+use Rattle.std.proofs.Common.{◌∙◌, ap, subst}
 use Rattle.schema_components.specs.SetParts.{parts_of}
 use Rattle.validity_rules.specs.Faults.{FirstFault}
+use Rattle.validity_check.specs.Answers.{Tells}
 use Rattle.value_builder.specs.Built.{Built, nothing_of}
 use Rattle.xer_read.proofs.Finishing.{starts}
 use Rattle.xer_read.proofs.Valuing.{value-allowed, of-counted, only-counted}
 use Rattle.xer_read.proofs.reading.read_value.Goals as goal
 
-pub walk_root-requires-clause-stands : goal.walk_root-requires-clause-stands
-walk_root-requires-clause-stands g c = ((nothing_of 0).kept, starts 1048576 c.room_for-values.result c.room_for-values.ensures)
+pub walk_root-judged-requires-clause-stands : goal.walk_root-judged-requires-clause-stands
+walk_root-judged-requires-clause-stands g c = ((nothing_of 0).kept, starts 1048576 c.room_for-values.result c.room_for-values.ensures)
 
 pub finished-requires-clause-limit : goal.finished-requires-clause-limit
 finished-requires-clause-limit g c = c.in-Ok.ensures.limit ∙ ap (λ (b : Built). b.most) c.room_for-values.ensures
@@ -30,5 +31,6 @@ returns-clause-alone g c = λ M is_map.
 
 pub returns-in-Err-Invalid-clause-read : goal.returns-in-Err-Invalid-clause-read
 returns-in-Err-Invalid-clause-read g c = λ M is_map.
-    let fault = rw c.in-Err-Invalid.field-0-is at (c.in-Err-Invalid.ensures.judged (nothing_of 0).kept (starts 1048576 c.room_for-values.result c.room_for-values.ensures)) in
-    rw c.in-Err-Invalid.field-0-is fault
+    let refused : Tells (FirstFault (parts_of c.args.set.now) c.args.root c.args.items.now) c.in-Err-Invalid.field-0 =
+    rw c.in-Err-Invalid.is at (c.walk_root-judged.ensures.judged (nothing_of 0).kept (starts 1048576 c.room_for-values.result c.room_for-values.ensures)) in
+    subst (λ e. Tells (FirstFault (parts_of c.args.set.now) c.args.root c.args.items.now) e) (rw c.in-Err-Invalid.is at c.in-Err-Invalid.field-0-is) refused

@@ -1,5 +1,6 @@
 use Rattle.std.proofs.Common.{◌≡◌, ◌<◌, ◌≤◌, ◌^◌, true, false, sym, subst}
 use Rattle.std.specs.Prelude.{Some, MatchResult}
+use Rattle.std.proofs.lemmas.Result.{err_from_is_err_and}
 use Rattle.base_trees.specs.Rose.{label_of, node_count}
 use Rattle.xml_items.specs.Labels.{item_place}
 use Rattle.xml_read.specs.Sound.{is_text, is_sound, levels}
@@ -24,15 +25,22 @@ walk_element-requires-clause-sound g c = subst (λ x. is_sound x ≡ true) (sym 
 pub walk_element-requires-clause-few : goal.walk_element-requires-clause-few
 walk_element-requires-clause-few g c = subst (λ x. node_count x < 2 ^ 31) (sym c.root-item.ensures.root) c.root-item.ensures.items.few
 
-pub returns-in-Err-clause-judged : goal.returns-in-Err-clause-judged
-returns-in-Err-clause-judged g c = λ z stands.
-    subst (λ x. Tells (FirstFault (parts_of c.args.set.now) c.args.root x) c.in-Err.error) c.root-item.ensures.root
-    (root_refused c.args.set.now c.args.root c.element-declared.result.now c.element-declared.ensures c.root-item.result c.in-Err.error
-    (subst (λ l. Tells (At (item_place l) WrongRoot (HasName (Some c.element-declared.result.now.name) l → ⊥)) c.in-Err.error) c.label-label.ensures c.in-Err.ensures))
+pub returns-in_err-check_name-clause-judged : goal.returns-in_err-check_name-clause-judged
+returns-in_err-check_name-clause-judged g c = λ z stands.
+    let p = err_from_is_err_and c.from_residual.result c.from_residual.ensures.1 in
+    let error = c.in_err-check_name.field-0.0 in
+    let item = c.root-item.result in
+    let d = c.element.result.now in
+    rw (p.1, p.2)
+    (subst (λ x. Tells (FirstFault (parts_of c.args.set.now) c.args.root x) error) c.root-item.ensures.root
+    (root_refused c.args.set.now c.args.root d c.element.ensures item error
+    (subst (λ l. Tells (At (item_place l) WrongRoot (HasName (Some d.name) l → ⊥)) error) c.label.ensures c.in_err-check_name.ensures)))
 
 pub returns-clause-judged : goal.returns-clause-judged
 returns-clause-judged g c = λ z stands.
+    let item = c.root-item.result in
+    let d = c.element.result.now in
     subst (λ x. MatchResult c.walk_element.result (λ _. ValuePut (IsRootRead c.args.set.now c.args.root x) z c.walk_element.new.values) (Tells (FirstFault (parts_of c.args.set.now) c.args.root x))) c.root-item.ensures.root
-    (root-read c.args.set.now c.args.root c.element-declared.result.now c.element-declared.ensures c.root-item.result
-    (subst (λ l. HasName (Some c.element-declared.result.now.name) l) c.label-label.ensures c.in-Ok.ensures) (subst (λ x. levels x ≤ 64) (sym c.root-item.ensures.root) c.root-item.ensures.items.shallow)
+    (root-read c.args.set.now c.args.root d c.element.ensures item
+    (subst (λ l. HasName (Some d.name) l) c.label.ensures c.in_ok-check_name.ensures) (subst (λ x. levels x ≤ 64) (sym c.root-item.ensures.root) c.root-item.ensures.items.shallow)
     z c.walk_element.new.values c.walk_element.result (c.walk_element.ensures.judged z stands))

@@ -13,13 +13,13 @@ use Rattle.xer_read.proofs.ways.open_way.Goals as goal
 
 pub put_step-requires-clause-step : goal.put_step-requires-clause-step
 put_step-requires-clause-step g c =
-    let k = c.args.matcher.now in
+    let k = c.args.going.now.matcher in
     let new = c.step.new.self in
     let e = c.in-Ok.ensures in
     let took = c.requires.took in
     let here = stop (seen c.args.model.now) k new took.0 c.args.name.now c.in-Ok.leaf e.particle c.requires.particle (e.took took.0 took.1) in
     let way : spot_now c.path.result.turns.now c.path.result.kids.now ≡ spot_of k =
-    ap (λ ts. spot_now ts c.path.result.kids.now) c.path.ensures.turns ∙ ap (λ ks. spot_now (way_turns c.args.way.now) ks) c.path.ensures.kids ∙ c.requires.way (kept-some c.keeps_nothing.result c.args.values.now.most c.keeps_nothing.ensures c.if-keeps_nothing.false)
+    ap (λ ts. spot_now ts c.path.result.kids.now) c.path.ensures.turns ∙ ap (λ ks. spot_now (way_turns c.args.going.now.way) ks) c.path.ensures.kids ∙ c.requires.way (kept-some c.keeps_nothing.result c.args.values.now.most c.keeps_nothing.ensures c.if-keeps_nothing.false)
     in
     let plain : IsNoAll new.particle = subst IsNoAll (sym (c.in-Ok.ensures.particle ∙ c.requires.particle)) (fillable-no-all (seen c.args.model.now) c.requires.fillable) in
     let stands = spot_matched new plain in (
@@ -31,13 +31,13 @@ put_step-requires-clause-step g c =
 
 pub returns-in_ok-follow-in-Ok-clause-opens : goal.returns-in_ok-follow-in-Ok-clause-opens
 returns-in_ok-follow-in-Ok-clause-opens g c = λ gs before now put stood.
-    let k = c.args.matcher.now in
+    let k = c.args.going.now.matcher in
     let new = c.step.new.self in
     let p = seen c.args.model.now in
     let e = c.in-Ok.ensures in
     let took = c.requires.took in
     let way : spot_now c.path.result.turns.now c.path.result.kids.now ≡ spot_of k =
-    ap (λ ts. spot_now ts c.path.result.kids.now) c.path.ensures.turns ∙ ap (λ ks. spot_now (way_turns c.args.way.now) ks) c.path.ensures.kids ∙ c.requires.way (kept-some c.keeps_nothing.result c.args.values.now.most c.keeps_nothing.ensures c.if-keeps_nothing.false)
+    ap (λ ts. spot_now ts c.path.result.kids.now) c.path.ensures.turns ∙ ap (λ ks. spot_now (way_turns c.args.going.now.way) ks) c.path.ensures.kids ∙ c.requires.way (kept-some c.keeps_nothing.result c.args.values.now.most c.keeps_nothing.ensures c.if-keeps_nothing.false)
     in
     let plain : IsNoAll new.particle = subst IsNoAll (sym (c.in-Ok.ensures.particle ∙ c.requires.particle)) (fillable-no-all (seen c.args.model.now) c.requires.fillable) in
     let stands = spot_matched new plain in
@@ -51,7 +51,7 @@ returns-then-keeps_nothing-clause-way g c = kept-none c.args.values.now.most (c.
 
 pub returns-then-keeps_nothing-clause-opens : goal.returns-then-keeps_nothing-clause-opens
 returns-then-keeps_nothing-clause-opens g c = λ gs before now put stands.
-    let k = c.args.matcher.now in
+    let k = c.args.going.now.matcher in
     let new = c.step.new.self in
     let p = seen c.args.model.now in
     let e = c.in-Ok.ensures in

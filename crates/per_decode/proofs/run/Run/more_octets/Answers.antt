@@ -43,7 +43,7 @@ returns-in-Last-clause-gives g c = λ told.
     let i = stands_inside old.bits.position old.bits.taken old.bits.held old.bits.limit g.K.Origin.limit g.K.Origin.whole _ old.limited old.bits.behind old.bits.within (old.here told) in
     let e = turn_last g.V.Variant.ALIGNED 0 None octets_at sits-octets c.fragments.text.items c.fragments.before (length c.fragments.text.items) (input g.K.Origin.limit g.K.Origin.whole) (spot old.bits.position old.nodes) i c.in-Last.n _ (rw (c.as_slice-total.ensures.value, c.in-Last.is) at (c.in_ok-piece.ensures.gives told)) in
     joined_shows g.K.Origin.limit g.K.Origin.whole (λ all. all.items) c.joined.result c.fragments.text.items c.in_ok-last-in-Last.last.items (spot new.bits.position new.nodes) new.stop new.bits.taken _
-    (sym (c.fragments.invariant.so_far told) ∙ e ∙ ap (with_front c.fragments.text.items) (c.in_ok-last-in-Last.ensures.gives told)) (omega (arith, c.in_ok-last-in-Last.ensures.on.1)) c.joined.ensures.ok c.joined.ensures.memory
+    (sym (c.fragments.invariant.so_far told) ∙ e ∙ ap (with_front c.fragments.text.items) (c.in_ok-last-in-Last.ensures.gives told)) (omega (arith, c.in_ok-last-in-Last.ensures.reads.on.1)) c.joined.ensures.ok c.joined.ensures.memory
 
 pub returns-in_err-text-in-Units-clause-gives : goal.returns-in_err-text-in-Units-clause-gives
 returns-in_err-text-in-Units-clause-gives g c = λ told.
@@ -54,7 +54,7 @@ returns-in_err-text-in-Units-clause-gives g c = λ told.
     let j = stands_inside new.bits.position new.bits.taken new.bits.held new.bits.limit g.K.Origin.limit g.K.Origin.whole _ new.limited new.bits.behind new.bits.within (new.here told) in
     let got = c.in_ok-octets-in-Units.octets.items in
     let full = turn_full g.V.Variant.ALIGNED 0 None octets_at sits-octets (c.fragments.text.items ++ got) c.in-Units.k (length c.fragments.text.items + c.in-Units.k * 16384) (input g.K.Origin.limit g.K.Origin.whole) (spot new.bits.position new.nodes)
-    g.K.Origin.limit g.K.Origin.whole new.bits.taken j (omega (arith, c.in_ok-octets-in-Units.ensures.on.1)) in
+    g.K.Origin.limit g.K.Origin.whole new.bits.taken j (omega (arith, c.in_ok-octets-in-Units.ensures.reads.on.1)) in
     let e = turn_more g.V.Variant.ALIGNED 0 None octets_at sits-octets c.fragments.text.items c.fragments.before (length c.fragments.text.items) (input g.K.Origin.limit g.K.Origin.whole) (spot old.bits.position old.nodes) i c.in-Units.k _ got (spot new.bits.position new.nodes) (rw (c.as_slice-total.ensures.value, c.in-Units.is) at (c.in_ok-piece.ensures.gives told)) (c.in_ok-octets-in-Units.ensures.gives told) in
     rw (p.1, p.2, c.in_err-text-in-Units.ensures.memory) (subst (FailsAt g.K.Origin.limit g.K.Origin.whole memory new.bits.taken) (sym e ∙ c.fragments.invariant.so_far told) full)
 
@@ -67,10 +67,10 @@ fragments-preserved g c =
     let X = input g.K.Origin.limit g.K.Origin.whole in
     let long : length front + c.in-Units.k * 16384 ≡ length (front ++ got) = omega (arith, length-append front got, c.in_ok-octets-in-Units.ensures.count) in
     record {
-      in_step = c.in_ok-octets-in-Units.ensures.on.1;
-      on = omega (arith, c.in_ok-octets-in-Units.ensures.on.0, c.in_ok-piece.ensures.on.0, c.fragments.invariant.on);
+      in_step = c.in_ok-octets-in-Units.ensures.reads.on.1;
+      on = omega (arith, c.in_ok-octets-in-Units.ensures.reads.on.0, c.in_ok-piece.ensures.reads.on.0, c.fragments.invariant.on);
       nodes = c.take_octets-in-Units.ensures.nodes ∙ c.count.ensures.nodes ∙ c.fragments.invariant.nodes;
-      same = c.take_octets-in-Units.ensures.same_reference ∙ c.count.ensures.same_reference ∙ c.fragments.invariant.same;
+      same = c.take_octets-in-Units.ensures.reads.same_reference ∙ c.count.ensures.reads.same_reference ∙ c.fragments.invariant.same;
       so_far = λ told.
           let i = stands_inside old.bits.position old.bits.taken old.bits.held old.bits.limit g.K.Origin.limit g.K.Origin.whole _ old.limited old.bits.behind old.bits.within (old.here told) in
           let e = turn_more g.V.Variant.ALIGNED 0 None octets_at sits-octets c.fragments.text.items c.fragments.before (length c.fragments.text.items) (input g.K.Origin.limit g.K.Origin.whole) (spot old.bits.position old.nodes) i c.in-Units.k _ got (spot new.bits.position new.nodes) (rw (c.as_slice-total.ensures.value, c.in-Units.is) at (c.in_ok-piece.ensures.gives told)) (c.in_ok-octets-in-Units.ensures.gives told) in

@@ -1,0 +1,17 @@
+use Rattle.std.proofs.Common.{refl, arith}
+use Rattle.std.proofs.lemmas.Result.{on_ok_weaker}
+use Rattle.per_fields.specs.Nodes.{enum_at}
+use Rattle.per_decode.proofs.Newest.{newest-told, pushed-told, newest_shows}
+use Rattle.per_decode.proofs.run.Run.enumerated.Goals as goal
+
+pub returns-clause-pushed : goal.returns-clause-pushed
+returns-clause-pushed g c = pushed-told c.put_leaf.result _ _ _ c.put_leaf.ensures.ok
+
+pub returns-clause-leaf : goal.returns-clause-leaf
+returns-clause-leaf g c = on_ok_weaker c.put_leaf.result (λ h. (_, h, omega (arith, c.in_ok-item.ensures.top, c.requires.some))) (newest-told c.put_leaf.result _ _ _ c.put_leaf.ensures.ok)
+
+pub returns-clause-gives : goal.returns-clause-gives
+unfolding enum_at
+returns-clause-gives g c = λ told.
+    newest_shows g.K.Origin.limit g.K.Origin.whole _ _ c.put_leaf.result _ _ _ _ (newest-told c.put_leaf.result _ _ _ c.put_leaf.ensures.ok) c.put_leaf.ensures.memory
+    (rw (c.in_ok-item.ensures.gives told) refl) (omega (arith, c.in_ok-item.ensures.reads.on.1))

@@ -1,0 +1,16 @@
+pub mod Rooting
+pub mod Singles
+pub mod Ending
+pub mod Room
+pub mod Order
+pub mod Returning
+pub mod There
+pub mod Existing
+pub mod Streaming
+pub mod Looping
+pub mod Stamps
+pub mod Delivering
+pub mod Recording
+pub mod Served
+pub mod Asking
+pub mod Stamping

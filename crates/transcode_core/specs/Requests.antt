@@ -1,0 +1,5 @@
+pub mod Due
+pub mod Answers
+pub mod Laws
+pub mod Records
+pub mod Serving

@@ -1,0 +1,44 @@
+//! The answer to a request.
+ghost use Rattle.std.specs.Prelude.{◌≡◌};
+ghost use Rattle.transcode_words.specs.Asked.{IsWithin};
+ghost use Rattle.transcode_words.specs.AskedSeen.{asked_seen};
+ghost use Rattle.transcode_core.specs.Requests.Answers.{Answers, environment_of};
+
+use crate::delivering::deliver;
+use crate::modules::show_back;
+use crate::opening::open_asked;
+use crate::serving::serve_task;
+use crate::showing::show_files;
+use crate::trial::try_out;
+use base_texts::{Library, Sink, Source, Steps};
+use std::alloc::Global;
+use std::sync::ledger::Ledger;
+use transcode_words::Outcome;
+use transcode_words::asked::Asked;
+
+/// Loads the files of the request, reads its input and writes its result. It writes the complete result at once, and nothing of a rejected
+/// request. The documents of records are written one by one, each before the octet after its record is read.
+pub fn answer<F: Library, S: Source, K: Sink, L: Ledger>(
+    alloc: Global,
+    asked: Asked<'_>,
+    library: &mut F,
+    input: &mut S,
+    output: &mut K,
+    steps: &mut Steps<L>,
+) -> Outcome
+    requires { IsWithin (asked_seen asked) }
+    ensures { Answers (asked_seen asked.entry)
+        (environment_of F.Library S.Source K.Sink library.old input.old output.old steps.old)
+        (environment_of F.Library S.Source K.Sink library.new input.new output.new steps.new)
+        (input.new ≡ input.old) (output.new ≡ output.old) result }
+{
+    match asked {
+        Asked::Show { form, files } => deliver(show_files(alloc, form, library, files), output),
+        Asked::ShowBack { file } => deliver(show_back(alloc, library, file), output),
+        Asked::Serve { task, root, files } => match open_asked(alloc, library, root, files) {
+            Ok(opened) => serve_task(alloc, task, opened, input, output, steps),
+            Err(outcome) => outcome,
+        },
+        Asked::Trial { lines } => deliver(try_out(alloc, lines, steps), output),
+    }
+}
