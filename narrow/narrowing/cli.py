@@ -8,7 +8,7 @@ import re
 import shutil
 import sys
 import tempfile
-from typing import Optional
+from typing import NoReturn, Optional
 
 from .report import STATUS
 from .supervising import Failed, bounded
@@ -61,7 +61,7 @@ class Unwritable(Exception):
 class Parser(argparse.ArgumentParser):
     """A parser whose mistakes have a status that no outcome has."""
 
-    def error(self, message: str) -> "None":  # type: ignore[override]
+    def error(self, message: str) -> NoReturn:
         """Reports wrong words."""
         self.exit(WRONG, "ruvkhiska-narrow: %s\nTry ruvkhiska-narrow --help.\n" % message)
 
@@ -96,7 +96,7 @@ def parser() -> Parser:
 
 
 def write_folder(folder: str, texts: dict[str, str]) -> None:
-    """Writes a folder with these files: whole, or not at all."""
+    """Writes a folder with these files, all of them or none."""
     folder = os.path.realpath(folder)
     check_folder(folder)
     made = ""

@@ -7,7 +7,7 @@ from xmlschema.validators import XsdAnyElement, XsdElement
 
 from .index import Index
 from .names import Spec, Use, split
-from .particles import EMPTY, NEVER, Particle, is_written, leaves, mend, repeat, simplified
+from .particles import EMPTY, NEVER, Particle, is_written, leaves, repeat, simplified, widened
 from .report import Report
 
 MOST_OCCURRENCES = 2**32 - 1
@@ -42,23 +42,23 @@ class Contents:
             self.pending.append([])
             p = self.flat(self.particle(group, known))
             q = simplified(p)
-            told = self.pending.pop()
+            notes = self.pending.pop()
             differ = self.differing(p)
             good = q in (NEVER, EMPTY) or q is not None and is_written(q) and not differ
-            if good or not (known and told):  # Else once more, without wildcards.
+            if good or not (known and notes):  # Else once more, without wildcards.
                 break
-        for rule, words, node in told:
+        for rule, words, node in notes:
             self.report.note(rule, words, node=node)
         if differ:
             self.report.note("two-types", ", ".join(sorted(split(n)[1] for n in differ)))
             unify(p)
-        return q if q is not None and good and not differ else self.mended(p if q is None else q)
+        return q if q is not None and good and not differ else self.made_clear(p if q is None else q)
 
-    def mended(self, q: Particle) -> Particle:
+    def made_clear(self, q: Particle) -> Particle:
         """Returns a particle that the profile accepts, which may be wider."""
         if q in (NEVER, EMPTY) or is_written(q):
             return q
-        q, part = mend(q)
+        q, part = widened(q)
         names = list(dict.fromkeys(split(u.name)[1] for u in leaves(part)))
         more = " and %d more" % (len(names) - MOST_SHOWN) if len(names) > MOST_SHOWN else ""
         self.report.note("not-clear", " ".join(names[:MOST_SHOWN]) + more)
@@ -67,10 +67,13 @@ class Contents:
     def flat(self, p: Particle) -> Particle:
         """Returns the particle without groups of one part around it, and with an `all` as the profile has it."""
         while p.kind == "sequence":
-            kids = [k for k in p.body if k != EMPTY]
-            if len(kids) != 1:
+            children = [k for k in p.body if k != EMPTY]
+            if len(children) != 1:
                 break
-            p = repeat(kids[0], p.lo, p.hi)
+            q = repeat(children[0], p.lo, p.hi)
+            if q.body == (children[0],):  # The numbers of occurrences leave a gap, so the group stays.
+                return q
+            p = q
         return self.all_group(p) if p.kind == "all" else p
 
     @staticmethod
@@ -89,8 +92,8 @@ class Contents:
             lo, hi = min(lo, MOST_OCCURRENCES), None
         if isinstance(x, XsdElement):
             uses = self.uses(x)
-            kids = tuple(Particle("element", u, 1, 1) for u in uses)
-            return Particle("element", uses[0], lo, hi) if len(uses) == 1 else Particle("choice", kids, lo, hi)
+            children = tuple(Particle("element", u, 1, 1) for u in uses)
+            return Particle("element", uses[0], lo, hi) if len(uses) == 1 else Particle("choice", children, lo, hi)
         if isinstance(x, XsdAnyElement):
             return self.wildcard(x, lo, hi, known)
         if x.ref is not None:
@@ -124,7 +127,9 @@ class Contents:
             ]
         if len(found) > MOST_KNOWN:
             found = []
-        if not found:
+        if not x.namespace:
+            pass  # This wildcard allows nothing.
+        elif not found:
             words = "each element that the wildcard allows here is refused" + (", and one is required" if lo else "")
             self.pending[-1].append(("any", words, x.elem))
         elif x.process_contents != "strict":
@@ -135,21 +140,21 @@ class Contents:
 
     def all_group(self, p: Particle) -> Particle:
         """Returns an `all` of elements that occur at most once, or a sequence where less than two are left."""
-        kids: list[Particle] = []
+        children: list[Particle] = []
         for k in p.body:
             if k.kind == "element":
-                kids.append(k)
+                children.append(k)
             elif k != EMPTY and k.body:
                 self.report.note("substituted-all", " ".join(split(m.body.name)[1] for m in k.body[:MOST_SHOWN]))
-                kids += [Particle(m.kind, m.body, 0, 1) for m in k.body]
+                children += [Particle(m.kind, m.body, 0, 1) for m in k.body]
             elif k != EMPTY and k.lo:
                 return EMPTY if p.lo == 0 else NEVER
-        if p.lo == 0 and any(k.lo for k in kids):
-            if len(kids) == 1:
-                return Particle("sequence", tuple(kids), 0, 1)
+        if p.lo == 0 and any(k.lo for k in children):
+            if len(children) == 1:
+                return Particle("sequence", tuple(children), 0, 1)
             self.report.note("optional-all")
-            kids = [Particle(k.kind, k.body, 0, k.hi) for k in kids]
-        return Particle("sequence" if len(kids) < 2 else "all", tuple(kids), 1, 1)
+            children = [Particle(k.kind, k.body, 0, k.hi) for k in children]
+        return Particle("sequence" if len(children) < 2 else "all", tuple(children), 1, 1)
 
 
 def unify(p: Particle) -> None:

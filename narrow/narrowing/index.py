@@ -10,6 +10,7 @@ from xmlschema.validators import XsdAttribute, XsdComplexType, XsdElement
 from .names import XML, XS, XSI, clark, split
 from .sources import Sources, local_path
 
+MOST_PREFIX = 255  # bytes, by the profile
 RESERVED = ("xs", "xml", "xmlns")  # Prefixes that the files written have for other namespaces.
 
 
@@ -45,7 +46,8 @@ class Index:
     def add_document(self, namespace: str, document: Any) -> None:
         """Lists the components, prefixes and places of a document."""
         for prefix, uri in document.namespaces.items():
-            if prefix and prefix not in RESERVED and uri not in self.prefixes and prefix not in self.prefixes.values():
+            usable = prefix and prefix not in RESERVED and len(prefix.encode()) <= MOST_PREFIX
+            if usable and uri not in self.prefixes and prefix not in self.prefixes.values():
                 self.prefixes[uri] = prefix
         source = self.sources.source_of(document.url)
         if source is not None:
@@ -136,7 +138,20 @@ class Index:
                 found.append(g)
                 groups = self.maps.substitution_groups.get(g.name, ())
                 todo += sorted(groups, key=lambda m: self.rank.get(id(m), 0))
-        return [g for g in found if not g.abstract and (g is head or not blocked(head, g))]
+        return [g for g in found if not g.abstract and (g is head or not self.is_blocked(head, g))]
+
+    def is_blocked(self, head: Any, member: Any) -> bool:
+        """Says whether `block` of an element forbids that another is substituted for it."""
+        end, t, steps = self.type_of(head), self.type_of(member), set()
+        block = set((head.block or "").split()) | set((getattr(end, "block", "") or "").split())
+        if "#all" in block or "substitution" in block:
+            return True
+        for _ in range(1000):
+            if t is None or t is end:
+                break
+            steps.add(t.derivation)
+            t = t.base_type
+        return bool(block & steps)
 
     def file_name(self, namespace: str) -> str:
         """Returns the name of the file in which the components of a namespace are written."""
@@ -159,17 +174,3 @@ class Index:
         """Says whether local elements have the namespace by the default of its first document."""
         documents = self.maps.namespaces.get(namespace) or [self.schema]
         return bool(documents[0].element_form_default == "qualified")
-
-
-def blocked(head: Any, member: Any) -> bool:
-    """Says whether `block` of an element forbids that another is substituted for it."""
-    block = set((head.block or "").split()) | set((getattr(head.type, "block", "") or "").split())
-    if "#all" in block or "substitution" in block:
-        return True
-    t, steps = member._head_type or member.type, set()
-    for _ in range(1000):
-        if t is None or t is head.type:
-            break
-        steps.add(t.derivation)
-        t = t.base_type
-    return bool(block & steps)

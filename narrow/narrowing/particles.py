@@ -2,14 +2,14 @@
 
 A particle is an element, whose body has a `name`, or a sequence, a choice or an all, whose body is a tuple of
 particles. NEVER is the particle that nothing matches, as an empty choice. EMPTY is the one that matches no
-element. Each function keeps the language of the particle, except `widest` and `mend`, which widen it.
+element. Each function keeps the language of the particle, except `widest` and `widened`, which widen it.
 """
 from __future__ import annotations
 
 from typing import Any, Iterator, NamedTuple, Optional
 
-# A content model with more elements than this after it was made clear is widened instead, unless it had half
-# as many before.
+# A content model with more parts than this after it was made clear is widened instead, unless it had half of
+# them before.
 MOST_LEAVES = 2000
 # The profile's greatest number of particles in a group and of groups inside each other, less one for the group
 # that the writer may add.
@@ -167,42 +167,42 @@ class Simplifier:
         p = self.starred(p)  # Before what may be empty in it is written as what isn't.
         if p.kind == "choice":
             return self.simple_choice(p)
-        kids: list[Particle] = []
+        children: list[Particle] = []
         for k in map(self.simple, p.body):
             if k == NEVER:
                 return NEVER if p.lo else EMPTY
             if k.kind == p.kind == "sequence" and (k.lo, k.hi) == (1, 1):
-                kids.extend(k.body)
-            elif p.kind == "sequence" and kids and self.absorbs(kids[-1], k):
-                kids.append(self.joined(kids.pop(), k))
+                children.extend(k.body)
+            elif p.kind == "sequence" and children and self.absorbs(children[-1], k):
+                children.append(self.joined(children.pop(), k))
             elif k != EMPTY:
-                kids.append(k)
-        return self.grouped(p, kids, p.lo)
+                children.append(k)
+        return self.grouped(p, children, p.lo)
 
     def simple_choice(self, p: Particle) -> Particle:
         """Returns a choice in which no alternative is empty, twice there, or begins as another."""
-        kids: list[Particle] = []
+        children: list[Particle] = []
         optional = False
         for k in map(self.simple, p.body):
             if k == EMPTY:
                 optional = True
             elif k != NEVER:
-                kids += k.body if k.kind == "choice" and (k.lo, k.hi) == (1, 1) else [k]
-        kids = without_doubles(kids)
-        if not kids:
+                children += k.body if k.kind == "choice" and (k.lo, k.hi) == (1, 1) else [k]
+        children = without_doubles(children)
+        if not children:
             return EMPTY if optional or not p.lo else NEVER
         lo = p.lo
-        if optional or sum(map(nullable, kids)) > 1:
-            kids, lo = without_doubles([q for k in kids for q in alternatives(self.some(k))]), 0
-        return self.grouped(p, self.factored(kids), lo)
+        if optional or sum(map(nullable, children)) > 1:
+            children, lo = without_doubles([q for k in children for q in alternatives(self.some(k))]), 0
+        return self.grouped(p, self.factored(children), lo)
 
-    def grouped(self, p: Particle, kids: list[Particle], lo: int) -> Particle:
-        """Returns the kids as a group like p."""
-        if not kids:
+    def grouped(self, p: Particle, children: list[Particle], lo: int) -> Particle:
+        """Returns the children as a group like p."""
+        if not children:
             return EMPTY
-        if len(kids) == 1 and p.kind != "all":
-            return self.bounded(repeat(kids[0], lo, p.hi))
-        return self.bounded(self.bound(Particle(p.kind, tuple(kids), lo, p.hi)))
+        if len(children) == 1 and p.kind != "all":
+            return self.bounded(repeat(children[0], lo, p.hi))
+        return self.bounded(self.bound(Particle(p.kind, tuple(children), lo, p.hi)))
 
     @staticmethod
     def absorbs(last: Particle, k: Particle) -> bool:
@@ -249,10 +249,10 @@ class Simplifier:
             body = Particle("choice", tuple(map(self.bound, parts)), 1, 1)
         return self.simple(repeat(self.bound(body), 1, p.hi))
 
-    def factored(self, kids: list[Particle]) -> list[Particle]:
+    def factored(self, children: list[Particle]) -> list[Particle]:
         """Returns alternatives that begin with different elements where that is possible: (a, b) | (a, c) is a, (b | c)."""
         out: list[Particle] = []
-        for k in kids:
+        for k in children:
             items = parts_of(k)
             for i, other in enumerate(out):
                 theirs = parts_of(other)
@@ -267,12 +267,12 @@ class Simplifier:
 
 def parts_of(p: Particle) -> tuple[Particle, ...]:
     """Returns the parts of a sequence that occurs once, and else the particle alone."""
-    return p.body if p.kind == "sequence" and (p.lo, p.hi) == (1, 1) and p.body else (p,)
+    return tuple(p.body) if p.kind == "sequence" and (p.lo, p.hi) == (1, 1) and p.body else (p,)
 
 
 def alternatives(p: Particle) -> tuple[Particle, ...]:
     """Returns the alternatives of a choice that occurs once, and else the particle alone."""
-    return p.body if p.kind == "choice" and (p.lo, p.hi) == (1, 1) else (p,)
+    return tuple(p.body) if p.kind == "choice" and (p.lo, p.hi) == (1, 1) else (p,)
 
 
 def star_parts(p: Particle) -> list[Particle]:
@@ -328,7 +328,7 @@ def at(p: Particle, path: tuple[int, ...]) -> Particle:
     return p
 
 
-def mend(p: Particle) -> tuple[Particle, Particle]:
+def widened(p: Particle) -> tuple[Particle, Particle]:
     """Returns a WIDER, clear particle, and the group of p whose order and numbers it no longer checks."""
     places = sorted(groups(p))
     if len(places) * count(p) < 200_000:
@@ -348,7 +348,7 @@ def chunked(p: Particle, most: int = MOST_PARTICLES) -> Particle:
     """Returns the particle with at most `most` particles in one sequence or choice."""
     if p.kind == "element":
         return p
-    kids = [chunked(k, most) for k in p.body]
-    while p.kind != "all" and len(kids) > most:
-        kids = [Particle(p.kind, tuple(kids[i : i + most]), 1, 1) for i in range(0, len(kids), most)]
-    return Particle(p.kind, tuple(kids), p.lo, p.hi)
+    children = [chunked(k, most) for k in p.body]
+    while p.kind != "all" and len(children) > most:
+        children = [Particle(p.kind, tuple(children[i : i + most]), 1, 1) for i in range(0, len(children), most)]
+    return Particle(p.kind, tuple(children), p.lo, p.hi)

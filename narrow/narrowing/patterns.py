@@ -1,13 +1,12 @@
 """What can be said of a pattern: the words that it matches, where they are few, and how long they are."""
 from __future__ import annotations
 
+import importlib
 import re
+import sys
 from typing import Any, Optional
 
-try:
-    from re import _parser as sre_parse  # type: ignore[attr-defined]  # Python 3.11 and later
-except ImportError:
-    import sre_parse  # type: ignore[no-redef]
+sre_parse: Any = importlib.import_module("re._parser" if sys.version_info >= (3, 11) else "sre_parse")
 
 MOST_WORDS = 256  # A pattern that matches this many words or fewer becomes an enumeration.
 MOST_LENGTH = 65_535  # A greater length than this isn't written.

@@ -35,12 +35,12 @@ class Placing:
                 if item.kind == "element":
                     self.visit(item.body, namespace, 2)
                 elif item.kind == "complexType":
-                    self.walk(item.body, namespace, 2)
+                    self.place_parts(item.body, namespace, 2)
         for namespace, name, node in self.rewriting.added:
             kind = "complexType" if isinstance(node, Complex) else "simpleType"
             self.written.setdefault(namespace, []).append(Item(kind, name, node))
 
-    def walk(self, c: Any, namespace: str, level: int) -> None:
+    def place_parts(self, c: Any, namespace: str, level: int) -> None:
         """Places what is in a type that is written at a level of the file of a namespace."""
         if not isinstance(c, Complex):
             return
@@ -63,7 +63,7 @@ class Placing:
             spec.name = self.rewriting.named(spec.namespace, spec.hint + "-type", spec.definition).name
         if spec.name or id(spec) not in self.met:
             self.met[id(spec)] = spec
-            self.walk(spec.definition, spec.namespace if spec.name else home, 2 if spec.name else level + 1)
+            self.place_parts(spec.definition, spec.namespace if spec.name else home, 2 if spec.name else level + 1)
 
     @staticmethod
     def belongs_elsewhere(spec: Spec, home: str) -> bool:
@@ -87,11 +87,17 @@ class Pruning:
     """Keeps the components that the roots reach."""
 
     def __init__(self, rewriting: Rewriting, roots: list[str]) -> None:
-        self.rewriting, self.written = rewriting, rewriting.written
+        self.written = rewriting.written
         self.todo = [("element", name) for name in roots]
 
     def run(self) -> None:
-        """Drops all other components, with their lines of the report."""
+        """Drops all other components."""
+        reached = self.reached()
+        for namespace, items in self.written.items():
+            self.written[namespace] = [i for i in items if (KINDS[i.kind], i.name) in reached]
+
+    def reached(self) -> set[tuple[str, str]]:
+        """Returns the components to keep: element, attribute or type, and the name."""
         index = {(KINDS[item.kind], item.name): item for items in self.written.values() for item in items}
         reached: set[tuple[str, str]] = set()
         while self.todo:
@@ -100,10 +106,7 @@ class Pruning:
                 reached.add(key)
                 item = index[key]
                 self.follow(item.body.written() if item.kind == "element" else item.body)
-        for namespace, items in self.written.items():
-            self.written[namespace] = [i for i in items if (KINDS[i.kind], i.name) in reached]
-        said = self.rewriting.index.said
-        self.rewriting.report.keep({said(kind, name) for kind, name in reached})
+        return reached
 
     def follow(self, d: Any) -> None:
         """Adds what a definition refers to."""

@@ -93,10 +93,6 @@ class Report:
         """Says whether a line `refuses` is of the component."""
         return any(n.component == component and n.kind == "refuses" for n in self.notes)
 
-    def keep(self, components: set[str]) -> None:
-        """Drops the notes of all other components."""
-        self.notes = {n: None for n in self.notes if not n.component or n.component in components}
-
     def sorted(self) -> list[Note]:
         """Returns the notes by file and line, and as they came where these are the same."""
         return sorted(self.notes, key=lambda n: (n.file, n.line))

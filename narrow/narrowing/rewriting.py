@@ -8,8 +8,8 @@ from xmlschema.validators import XsdAttribute, XsdElement, XsdSimpleType
 
 from .contents import Contents
 from .index import Index
-from .names import XML, XSI, Attribute, Complex, Item, Ref, Spec, clark, split
-from .facts import is_builtin
+from .names import XML, XS, XSI, Attribute, Complex, Item, Ref, Spec, clark, split
+from .facts import accepts, is_builtin
 from .particles import EMPTY, NEVER
 from .report import Report
 from .simple_types import SimpleTypes
@@ -17,13 +17,16 @@ from .simple_types import SimpleTypes
 MOST_ATTRIBUTES = 400
 MOST_KNOWN = 100  # A wildcard of attributes that allows more of the set than this is dropped.
 Dead = set[tuple[str, Any]]
+Only = Optional[set[tuple[str, str]]]  # element, attribute or type, and the name
 
 
 class Rewriting:
-    """One pass over the set. `dead` has the elements and types by which nothing is valid, as far as they are known."""
+    """One pass over the set, or over those of its global components that are in `only`.
 
-    def __init__(self, index: Index, wildcards: str, dead: Dead) -> None:
-        self.index, self.maps, self.wildcards, self.dead = index, index.maps, wildcards, dead
+    `dead` has the elements and types by which nothing is valid, as far as they are known."""
+
+    def __init__(self, index: Index, wildcards: str, dead: Dead, only: Only = None) -> None:
+        self.index, self.maps, self.wildcards, self.dead, self.only = index, index.maps, wildcards, dead, only
         self.report = Report(index.place)
         self.simple = SimpleTypes(index.maps, self.report)
         self.contents = Contents(index, self.report, self, wildcards)
@@ -68,7 +71,7 @@ class Rewriting:
             spec.name = t.name
         if t.is_simple():
             node = self.simple.type_ref(t, self.report.node, subject)
-            spec.definition = self.simple.with_constraint(t, node, constraint) if constraint else node
+            spec.definition = self.simple.with_constraint(t, node, constraint, subject) if constraint else node
         elif not t.abstract and ("type", type_key(t)) not in self.dead:
             if t.name in self.index.derived:
                 with self.within(t):
@@ -113,13 +116,13 @@ class Rewriting:
             if constraint[:1] == ("fixed",):
                 self.report.note("element-fixed", constraint[1])
             result = self.contents.content(content)
-        mixed = not isinstance(result, Ref) and bool(t.mixed or content.mixed)
+        mixed = not isinstance(result, Ref) and is_mixed(t)
         if result == NEVER:
             return None
         return Complex(mixed, None if result == EMPTY else result, self.attributes(t))
 
     def named(self, namespace: str, name: str, node: Any) -> Ref:
-        """Returns a new name for a type that has none."""
+        """Returns a new name for a type without one."""
         name, n = re.sub(r"[^\w.-]", "", name)[:60], 1
         while clark(namespace, name if n == 1 else "%s%d" % (name, n)) in self.taken:
             n += 1
@@ -166,6 +169,8 @@ class Rewriting:
             ]
         if len(known) > MOST_KNOWN:
             known = []
+        if not a.namespace:
+            return []  # This wildcard allows nothing, as that of a restriction which has none.
         if not known:
             self.report.note("any-attribute", "each attribute that the wildcard allows here is refused", node=a.elem)
         elif a.process_contents != "strict":
@@ -182,10 +187,11 @@ class Rewriting:
         default, fixed = a.default, a.fixed
         f = self.simple.facts(a.type)
         is_alien = f.alien and f.kind == "text"
-        if fixed is not None and (is_alien or self.simple.hides_alien(a.type) or not a.type.is_valid(fixed)):
+        hides_alien = any(atom.alien and atom.kind == "text" for atom in self.simple.atoms(a.type))
+        if fixed is not None and (is_alien or hides_alien or not accepts(a.type, fixed)):
             self.report.note("attribute-fixed", '%s="%s"' % (a.local_name, fixed), node=a.elem)
             fixed = None
-        if default is not None and (is_alien or a.use == "required" or not a.type.is_valid(default)):
+        if default is not None and (is_alien or a.use == "required" or not accepts(a.type, default)):
             default = None  # An absent attribute stays absent: nothing is lost.
         if ref and a.elem.get("fixed") is None:
             fixed = None  # It is that of the global attribute.
@@ -199,12 +205,17 @@ class Rewriting:
         """Rewrites all global components."""
         target = self.index.target
         for namespace, c in self.index.order:
-            if namespace != XML or target == XML:
+            if self.is_planned(c) and (namespace != XML or target == XML):
                 with self.within(c):
                     self.component(c, self.written.setdefault(namespace, []))
         for c in self.xml_attributes if target != XML else ():
             with self.within(c):
                 self.component(c, self.written.setdefault(XML, []))
+
+    def is_planned(self, c: Any) -> bool:
+        """Says whether a global component is one of those to be written."""
+        kind = "element" if isinstance(c, XsdElement) else "attribute" if isinstance(c, XsdAttribute) else "type"
+        return self.only is None or (kind, c.name) in self.only
 
     def component(self, c: Any, out: list[Item]) -> None:
         """Adds what a global component becomes."""
@@ -218,9 +229,29 @@ class Rewriting:
             a = self.attribute(c, False)
             out.append(Item("attribute", c.name, a.type, default=a.default, fixed=a.fixed))
         elif isinstance(c, XsdSimpleType):
-            out.append(Item("simpleType", c.name, self.simple.definition(c)))
+            out.append(Item("simpleType", str(c.name), self.simple.definition(c)))
         elif not c.abstract and self.complex_type(c, c.local_name) is not None:
             out.append(Item("complexType", c.name, self.complex_type(c, c.local_name)))
+
+
+def is_mixed(t: Any) -> bool:
+    """Says whether a complex type allows text between its elements.
+
+    An extension that adds no elements has the content of its base (XML Schema Part 1, section 3.4.2), mixed or not.
+    xmlschema 1.10 calls it not mixed."""
+    met: list[Any] = []
+    while not (t.mixed or t.content.mixed) and t.derivation == "extension" and not adds_elements(t.elem):
+        met.append(t)
+        if t.base_type is None or t.base_type.has_simple_content() or any(t.base_type is other for other in met):
+            return False
+        t = t.base_type
+    return bool(t.mixed or t.content.mixed)
+
+
+def adds_elements(node: Any) -> bool:
+    """Says whether the definition of a complex type has particles in it."""
+    groups = [it for it in node.iter() if it.tag in ("{%s}%s" % (XS, kind) for kind in ("group", "all", "choice", "sequence"))]
+    return any(it.get("ref") or any(part.tag != "{%s}annotation" % XS for part in it) for it in groups)
 
 
 def subject_of(kind: str, x: Any) -> str:
@@ -233,11 +264,11 @@ def type_key(t: Any) -> Any:
     return t.name or id(t)
 
 
-def rewritten(index: Index, wildcards: str) -> Rewriting:
-    """Returns the rewriting of the set. It begins again where a circle turned out to have no valid content."""
+def rewritten(index: Index, wildcards: str, only: Only = None) -> Rewriting:
+    """Returns the rewriting of the set, or of some components. It begins again where a circle turned out to have no valid content."""
     dead: Dead = set()
     while True:
         before = set(dead)
-        rewriting = Rewriting(index, wildcards, dead)
+        rewriting = Rewriting(index, wildcards, dead, only)
         if before == dead:
             return rewriting

@@ -1,7 +1,7 @@
 """What a simple type becomes in the profile (docs/reference/SIMPLE-TYPES.md).
 
-A type becomes whole numbers, truth values, a list or a union where it can, and else a text, as it was written:
-what comes back from octets has to be valid by the original, and a number comes back in canonical spelling.
+A type becomes whole numbers, truth values, a list or a union where it can, and else a text, as it was written.
+A number comes back from octets in canonical spelling, and what comes back has to be valid by the original.
 """
 from __future__ import annotations
 
@@ -10,12 +10,12 @@ from typing import Any, Optional
 
 from xmlschema.validators import XsdAtomicRestriction, XsdList, XsdUnion
 
-from .facts import BY_SPACE, CHECKED, INTEGERS, LISTS, TEXTS, FactFinder, Facts, is_builtin
+from .facts import BY_SPACE, CHECKED, INTEGERS, LISTS, TEXTS, Facts, accepts, is_builtin
+from .finding import FactFinder
 from .names import EMPTY_TEXT, Listed, Ref, Restriction, Union, split, xs
 from .report import Report
 
 MOST_WORDS = 10_000
-MOST_MEMBERS = 1_000
 MOST_NUMBER = 2**127
 MOST_LENGTH = 2**32 - 1
 
@@ -58,10 +58,10 @@ class SimpleTypes(FactFinder):
     def definition(self, t: Any) -> Any:
         """Returns what the definition of t becomes."""
         facts = self.facts(t)
-        for rule, details, node in facts.told:
+        for rule, details, node in facts.notes:
             self.report.note(rule, *details, node=node)
         if isinstance(t, XsdList):
-            return Listed(self.type_ref(t.item_type, t.elem))
+            return Listed(self.type_ref(t.item_type, t.elem)) if facts.kind == "list" else xs("token")
         if isinstance(t, XsdUnion):
             return self.written_union(t)
         if not isinstance(t, XsdAtomicRestriction):
@@ -105,26 +105,23 @@ class SimpleTypes(FactFinder):
         return [("enumeration", str(w)) for w in words[:MOST_WORDS]]
 
     def written_union(self, t: Any) -> Any:
-        """Returns the members up to the first that accepts more texts than it did: from there on one text."""
-        nodes: list[Any] = []
-        for i, member in enumerate(t.member_types):
-            last = i + 1 == len(t.member_types)
-            if not last and (self.facts(member).loose or i + 1 >= MOST_MEMBERS):
-                spaces = {self.facts(m).space for m in t.member_types[i:]}
-                self.report.note("union-text", str(i + 1), node=t.elem)
-                nodes.append(xs(BY_SPACE[next(s for s in BY_SPACE if s in spaces)]))
-                break
-            nodes.append(self.type_ref(member, t.elem))
+        """Returns the members of a union, as far as it doesn't become a text."""
+        cut = self.facts(t).cut
+        nodes = [self.type_ref(member, t.elem) for member in t.member_types[:cut]]
+        if cut is not None:
+            spaces = {self.facts(m).space for m in t.member_types[cut:]}
+            self.report.note("union-text", str(cut + 1), node=t.elem)
+            nodes.append(xs(BY_SPACE[next(s for s in BY_SPACE if s in spaces)]))
         return nodes[0] if len(nodes) == 1 else Union(nodes) if nodes else xs("string")
 
-    def with_constraint(self, t: Any, node: Any, constraint: tuple[str, ...]) -> Any:
+    def with_constraint(self, t: Any, node: Any, constraint: tuple[str, ...], subject: str = "") -> Any:
         """Returns a type for elements with a default or fixed value: it accepts the empty text too, which means that value."""
         f = self.facts(t)
         if constraint[0] == "fixed":
             fixed = self.fixed_value(t, f, node, constraint[1])
             if fixed is not None:
                 return fixed
-            self.report.note("element-fixed", constraint[1])
+            self.report.note("element-fixed", constraint[1], subject=subject)
         texts = ("string", "normalizedString", "token", "anyURI")
         takes_empty = f.kind == "text" and f.words is None and not f.shortest and f.root in texts
         return node if takes_empty or f.kind == "list" and not f.shortest else Union([node, EMPTY_TEXT])
@@ -136,7 +133,7 @@ class SimpleTypes(FactFinder):
         words: tuple[str, ...] = (value,)
         if f.kind == "bool":
             node, words = xs("token"), (("true", "1") if value in ("true", "1") else ("false", "0"))
-        if not (f.kind in ("int", "bool") or f.kind == "text" and not f.alien) or not t.is_valid(text):
+        if not (f.kind in ("int", "bool") or f.kind == "text" and not f.alien) or not accepts(t, text):
             return None
         if f.kind == "int" and not (is_integer(value) and is_short(int(value))):
             return None
@@ -159,8 +156,10 @@ def is_short(n: int) -> bool:
 
 
 def number_facets(f: Facts, b: Facts) -> list[tuple[str, str]]:
-    """Returns the bounds of whole numbers that a base doesn't have."""
-    facets = []
+    """Returns the bounds of whole numbers that a base doesn't have. Over an enumeration there is none: it has the numbers within them."""
+    facets: list[tuple[str, str]] = []
+    if b.words is not None:
+        return facets
     if f.lo is not None and (b.lo is None or f.lo > b.lo):
         facets.append(("minInclusive", str(f.lo)))
     if f.hi is not None and (b.hi is None or f.hi < b.hi):

@@ -217,7 +217,7 @@ class Sources:
 
     def built(self) -> Any:
         """Loads the files in order: those of --location, those given, and those imported that aren't loaded yet."""
-        options = {"validation": "lax", "locations": self.locations, "allow": "local", "build": False}
+        options: dict[str, Any] = {"validation": "lax", "locations": self.locations, "allow": "local", "build": False}
         schema = XMLSchema10(self.start[0], **options)
         for path in self.start[1:] + self.imported:
             if not any(same_file(s.url, path) for s in schema.maps.iter_schemas()):

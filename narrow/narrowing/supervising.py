@@ -10,19 +10,21 @@ import sys
 import threading
 import time
 import traceback
-from typing import Any, Callable, Optional
+from typing import Any, Callable, Optional, TypeVar, cast
 
 MOST_SECONDS = 120
 MOST_MEMORY = 2_000_000_000
 STACK = 256 * 1024 * 1024
 DEBUG = "RUVKHISKA_NARROW_DEBUG"  # In the environment: internal errors show where they came from.
 
+T = TypeVar("T")
+
 
 class Failed(Exception):
     """The work didn't end well; `str` of it says why."""
 
 
-def bounded(work: Callable[[], Any]) -> Any:
+def bounded(work: Callable[[], T]) -> T:
     """Returns what the work returns, or raises Failed. The work runs in a process of its own."""
     if sys.stdout is not None:
         sys.stdout.flush()
@@ -49,7 +51,7 @@ def bounded(work: Callable[[], Any]) -> Any:
     good, result = pickle.loads(data)
     if not good:
         raise Failed(result)
-    return result
+    return cast(T, result)
 
 
 def kill(pid: int) -> None:
@@ -63,7 +65,7 @@ def kill(pid: int) -> None:
 
 def receive(reader: int, deadline: float) -> Optional[bytes]:
     """Returns all that is written to a pipe until it is closed, or None where that takes too long."""
-    parts = []
+    parts: list[bytes] = []
     while True:
         left = deadline - time.monotonic()
         if left <= 0 or not select.select([reader], [], [], left)[0]:
@@ -88,6 +90,7 @@ def run(work: Callable[[], Any]) -> bytes:
     resource.setrlimit(resource.RLIMIT_CORE, (0, 0))
     sys.setrecursionlimit(20_000)
     threading.stack_size(STACK)
+    threading.excepthook = lambda _: None  # Without memory not even that can be said: then nothing is sent.
     found: list[bytes] = []
     thread = threading.Thread(target=lambda: found.append(attempt(work)))
     thread.start()

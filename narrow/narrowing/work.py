@@ -4,7 +4,6 @@ from __future__ import annotations
 from dataclasses import dataclass, field
 
 from .index import Index
-from .names import split
 from .placing import Placing, Pruning
 from .report import STATUS, Note, shortened
 from .rewriting import Rewriting, rewritten
@@ -28,8 +27,9 @@ class Job:
 
 @dataclass
 class Outcome:
-    """What came of it: the texts of the new files by their names (none where the set can't be written), the lines of the
-    report, the kinds of these that are notes, and the exit status."""
+    """What came of it: the texts of the new files by their names, the lines of the report, and the exit status.
+
+    There are no texts where the set can't be written. `kinds` has the kind of each line that is a note."""
 
     texts: dict[str, str] = field(default_factory=dict)
     lines: list[str] = field(default_factory=list)
@@ -70,11 +70,15 @@ def rewrite(job: Job) -> Outcome:
     return outcome
 
 
+def place_and_words(index: Index, error: Exception) -> tuple[str, int, str]:
+    """Returns the file and the line of an error of the library, and what it says in its first line."""
+    file, line = index.place(getattr(error, "elem", None)) or index.place(None) or ("", 0)
+    return file, line, shortened(str(getattr(error, "message", error)).split("\n")[0])
+
+
 def unresolved_line(index: Index, error: Exception) -> str:
     """Returns the line of a reference that names nothing in the set."""
-    file, line = index.place(getattr(error, "elem", None)) or index.place(None) or ("", 0)
-    words = shortened(str(getattr(error, "message", error)).split("\n")[0])
-    return "%s:%d: failed: the set is incomplete: %s" % (file, line, words)
+    return "%s:%d: failed: the set is incomplete: %s" % place_and_words(index, error)
 
 
 def checked_rewriting(job: Job, index: Index, broken: list[Exception]) -> Rewriting:
@@ -86,26 +90,25 @@ def checked_rewriting(job: Job, index: Index, broken: list[Exception]) -> Rewrit
     except (AttributeError, KeyError, TypeError, ValueError) as fault:
         if not broken:
             raise
-        words = str(getattr(broken[0], "message", broken[0])).split("\n")[0]
-        place = index.place(getattr(broken[0], "elem", None)) or index.place(None) or ("", 0)
-        raise NoSchema(place[0], place[1], "is no valid schema: %s" % words) from fault
+        file, line, words = place_and_words(index, broken[0])
+        raise NoSchema(file, line, "is no valid schema: %s" % words) from fault
     for error in broken:
-        words = str(getattr(error, "message", error)).split("\n")[0]
-        file, line = index.place(getattr(error, "elem", None)) or index.place(None) or ("", 0)
-        note = Note(file, line, "", "not-valid", "the schema breaks a rule of XML Schema: %s" % shortened(words))
+        file, line, words = place_and_words(index, error)
+        note = Note(file, line, "", "not-valid", "the schema breaks a rule of XML Schema: %s" % words)
         rewriting.report.notes[note] = None
     return rewriting
 
 
 def placed(job: Job, index: Index, wildcards: str) -> Rewriting:
     """Returns the rewriting with all types placed, and only what the roots reach."""
+    for root in job.roots:
+        if ("element", root) not in index.globals:
+            raise NoSchema(job.files[0], 0, "the set has no global element %s" % root)
     rewriting = rewritten(index, wildcards)
     Placing(rewriting).run()
-    if job.roots:
-        known = {name for kind, name in index.globals if kind == "element"}
-        for root in job.roots:
-            if root not in known:
-                raise NoSchema(job.files[0], 0, "the set has no global element %s" % root)
+    if job.roots:  # Once more, so that all lines of the report are of what is left.
+        rewriting = rewritten(index, wildcards, Pruning(rewriting, job.roots).reached())
+        Placing(rewriting).run()
         Pruning(rewriting, job.roots).run()
     return rewriting
 
@@ -142,7 +145,7 @@ def written(rewriting: Rewriting) -> dict[str, str]:
     all_writers = writers(rewriting)
     names = file_names(rewriting.index, list(all_writers))
     texts = {names[u]: w.text(rewriting.written[u], names) for u, w in all_writers.items()}
-    check_names(rewriting)
+    check_names(all_writers)
     remedy = ": name the elements that are sent with --root"
     if not texts:
         raise Limit("nothing is left to be written: no component of the set can be said in the profile")
@@ -158,11 +161,11 @@ def written(rewriting: Rewriting) -> dict[str, str]:
     return texts
 
 
-def check_names(rewriting: Rewriting) -> None:
+def check_names(all_writers: dict[str, Writer]) -> None:
     """Raises Limit where a name or a namespace is too long for the profile."""
-    for kind, name in rewriting.index.globals:
-        namespace, local = split(name)
-        if len(local.encode()) > MOST_NAME:
-            raise Limit("the name of a %s has over 255 bytes: %s" % (kind, shortened(local, 60)))
+    for namespace, writer in all_writers.items():
         if len(namespace.encode()) > MOST_NAMESPACE:
             raise Limit("a namespace has over 1,023 bytes: %s" % shortened(namespace, 60))
+        for name in sorted(writer.names):
+            if len(name.encode()) > MOST_NAME:
+                raise Limit("a name has over 255 bytes: %s" % shortened(name, 60))

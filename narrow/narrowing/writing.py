@@ -23,13 +23,16 @@ def attribute_value(value: str) -> str:
 
 
 class Writer:
-    """One schema file: the components of a namespace. `components` and `levels` are what the file has of each."""
+    """One schema file: the components of a namespace.
+
+    `components` and `levels` are what the file has of each, and `names` those that it declares."""
 
     def __init__(self, index: Index, namespace: str, notes: dict[str, list[Note]]) -> None:
         self.index, self.namespace, self.notes = index, namespace, notes
         self.lines: list[str] = []
         self.used: set[str] = set()
         self.components, self.levels = 0, 1
+        self.names: set[str] = set()
         # The form of most local elements.
         self.form = "qualified" if namespace and index.is_qualified(namespace) else "unqualified"
 
@@ -83,6 +86,7 @@ class Writer:
         """Writes an element of the schema namespace."""
         self.components += name in COMPONENTS
         self.levels = max(self.levels, level + 1)
+        self.names.update(v for k, v in attributes if k == "name")
         said = "".join(" %s=%s" % (k, attribute_value(v)) for k, v in attributes)
         self.lines.append("%s<xs:%s%s%s>" % ("  " * level, name, said, "" if inner else "/"))
         if inner:
@@ -153,8 +157,13 @@ class Writer:
         """Writes a particle."""
         occurs = [("minOccurs", str(p.lo))] * (p.lo != 1)
         occurs += [("maxOccurs", "unbounded" if p.hi is None else str(p.hi))] * (p.hi != 1)
+
+        def inner() -> None:
+            for k in p.body:
+                self.particle(k, level + 1)
+
         if p.kind != "element":
-            self.tag(level, p.kind, occurs, lambda: [self.particle(k, level + 1) for k in p.body])
+            self.tag(level, p.kind, occurs, inner)
         elif p.body.ref:
             self.tag(level, "element", [("ref", self.q(p.body.name))] + occurs)
         else:

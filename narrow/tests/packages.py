@@ -6,10 +6,10 @@
 FOLDER has a folder for each package, with what `dpkg-deb -x` unpacks of it. A namespace that a schema imports from a place which
 isn't there is read from a file of the package, or else of another one, by --location. --download fetches the packages below into it by
 `apt-get download`, which needs their lists (`apt-get update`) and no rights. Each schema file is tried by itself, with what it
-includes and imports. The table whose totals docs/guide/NARROW.md has is written to standard output, and a line for each schema that isn't
+includes and imports. The table of docs/guide/NARROW.md is written to standard output, and a line for each schema that isn't
 accepted afterwards to standard error. The status is 1 where under 90 % of the schemas are accepted afterwards.
 
-PROGRAM names another program in place of bin/ruvkhiska; --only PACKAGE tries this package alone.
+PROGRAM names another program than bin/ruvkhiska; --only PACKAGE tries this package alone.
 """
 from __future__ import annotations
 
@@ -32,7 +32,6 @@ php-symfony-framework-bundle php-symfony-routing php-symfony-security-bundle php
 php-symfony-twig-bundle php-symfony-validator phpunit python3-xmlschema xcb-proto xmlstarlet xmltooling-schemas xsdcxx""".split()
 # Of openscap-common, which has 544 schemas in many versions, the newest of each, without those of OVAL.
 NEWEST = {"openscap-common": ("/arf/1.1/", "/common/", "/cpe/2.3/", "/cve/", "/ocil/2.0/", "/sce/1.0/", "/sds/1.3/", "/xccdf/1.2/")}
-
 
 # Schemas of other languages, and of XML Schema itself.
 OTHERS = {"-", "http://www.w3.org/2001/XMLSchema", "http://www.w3.org/2001/XMLSchema-instance"}
@@ -134,14 +133,14 @@ def main() -> int:
     if args.download:
         os.makedirs(args.folder, exist_ok=True)
         download(args.folder)
-    total, catalog = [0] * 6, Catalog(args.folder)
-    print(row(["Package", "Schemas", "Accepted before", "Afterwards", "Exact", "Nothing valid refused", "Incomplete"]))
-    print("|---" * 7 + "|")
+    total, catalog = [0] * 5, Catalog(args.folder)
+    print(row(["Package", "Schemas", "Accepted before", "Afterwards", "Exact", "Nothing valid refused"]))
+    print("|---" * 6 + "|")
     for package in sorted(os.listdir(args.folder)):
         files = schemas_of(os.path.join(args.folder, package))
         if not files or args.only and package not in args.only:
             continue
-        counts = [len(files), 0, 0, 0, 0, 0]
+        counts = [len(files), 0, 0, 0, 0]
         for path in files:
             start = time.monotonic()
             locations = catalog.locations(path)
@@ -150,7 +149,6 @@ def main() -> int:
             counts[2] += good
             counts[3] += good and status == 0
             counts[4] += good and status <= 1
-            counts[5] += "incomplete" in why
             if not good:
                 print("%s: status %d, %.1f s: %s" % (path, status, time.monotonic() - start, why), file=sys.stderr, flush=True)
         print(row([package] + counts), flush=True)

@@ -4,6 +4,7 @@ from __future__ import annotations
 import contextlib
 import io
 import os
+import shutil
 import stat
 import subprocess
 import sys
@@ -180,6 +181,27 @@ class Command(unittest.TestCase):
         self.refused("name the elements that are sent with --root", "s.xsd", status=3)
         self.assertEqual(self.narrow("--root", "f7", "s.xsd")[0], 0)
 
+    def test_too_many_namespaces(self) -> None:
+        """Tries a set of over 64 namespaces, entire and what a root needs."""
+        body = '<xs:complexType><xs:sequence><xs:element ref="n1:e"/></xs:sequence></xs:complexType>'
+        imports = "".join('<xs:import namespace="urn:n%d" schemaLocation="n%d.xsd"/>' % (i, i) for i in range(65))
+        self.write("s.xsd", schema(imports + element(body), "urn:a", 'xmlns:n1="urn:n1"'))
+        for i in range(65):
+            self.write("n%d.xsd" % i, schema(INT, "urn:n%d" % i))
+        self.refused("the set has 66 namespaces, and at most 64 files are accepted", "s.xsd", status=3)
+        self.assertEqual(self.narrow("--root", "{urn:a}e", "-o", "out", "s.xsd")[0], 0)
+        self.assertEqual(sorted(os.listdir("out")), ["n1.xsd", "s.xsd"])
+
+    def test_long_names(self) -> None:
+        """Tries a local name, a namespace and a prefix of the greatest length, and longer ones."""
+        body = complex_('<xs:sequence><xs:element name="%s" type="xs:int"/></xs:sequence>')
+        self.write("s.xsd", schema(body % ("n" * 255), "u" * 1023, 'xmlns:%s="%s"' % ("p" * 256, "u" * 1023)))
+        self.assertEqual(self.narrow("-o", "out", "s.xsd")[0], 0)
+        self.assertEqual(run([program(), "show", "out/s.xsd"]).returncode, 0)
+        shutil.rmtree("out")
+        self.refused("a name has over 255 bytes: nnn", self.write("s.xsd", schema(body % ("n" * 256))), status=3)
+        self.refused("a namespace has over 1,023 bytes: uuu", self.write("s.xsd", schema(INT, "u" * 1024)), status=3)
+
     # Schemas that are wrong.
 
     def test_no_schema(self) -> None:
@@ -229,6 +251,21 @@ class Command(unittest.TestCase):
         with self.assertRaisesRegex(supervising.Failed, "can't be rewritten"):
             supervising.bounded(lambda: os._exit(7))
 
+    def test_groups_that_double(self) -> None:
+        """Tries groups of which each has the next one twice."""
+        body = "".join('<xs:group name="g%d"><xs:sequence>%s</xs:sequence></xs:group>' % (i, '<xs:group ref="g%d"/>' % (i + 1) * 2) for i in range(60))
+        body += '<xs:group name="g60"><xs:sequence>%s</xs:sequence></xs:group>' % INT + complex_('<xs:group ref="g0"/>')
+        with mock.patch.object(supervising, "MOST_SECONDS", 3):
+            # Which of the limits comes first depends on the load of the machine.
+            out = self.refused("s.xsd: failed: ", self.write("s.xsd", schema(body)))
+        self.assertRegex(out, "takes over 3 seconds|within 3 seconds and 2 GB of memory|needs over 2 GB of memory")
+
+    def test_fault_without_memory(self) -> None:
+        """Tries that work which ends without a result is a line too, without a traceback."""
+        with mock.patch.object(supervising, "attempt", side_effect=MemoryError), contextlib.redirect_stderr(io.StringIO()):
+            with self.assertRaisesRegex(supervising.Failed, "can't be rewritten"):
+                supervising.bounded(lambda: 1)
+
     def test_broken_rules(self) -> None:
         """Tries schemas that break rules of XML Schema, and that what is written is accepted all the same."""
         body = complex_('<xs:sequence><xs:element name="a" type="xs:int"/><xs:element name="a" type="xs:string"/></xs:sequence>')
@@ -241,6 +278,11 @@ class Command(unittest.TestCase):
             rewritten = Set(folder, {"s.xsd": schema(body)})
             self.assertIn("not-valid", rewritten.rules())
             self.assertEqual(rewritten.accepted(), "")
+
+        body = '<xs:simpleType name="U"><xs:union memberTypes="xs:int xs:NMTOKENS"/></xs:simpleType>' + simple('<xs:list itemType="U"/>')
+        with tempfile.TemporaryDirectory() as folder:
+            rewritten = Set(folder, {"s.xsd": schema(body)})
+            self.assertEqual((rewritten.rules(), rewritten.accepted()), (["not-valid"], ""))
 
     def test_nothing_left(self) -> None:
         """Tries a set without components."""

@@ -1,4 +1,4 @@
-"""Random particles: `simplified` keeps the language and what is clear; `mend` gives a wider, clear particle.
+"""Random particles: `simplified` keeps the language and what is clear; `widened` gives a wider, clear particle.
 
 MANY in the environment is the number of particles (400), SEED the first random number (1)."""
 from __future__ import annotations
@@ -8,9 +8,9 @@ import os
 import random
 import unittest
 
-import support  # noqa: F401
+import support  # noqa: F401  # It makes the modules known.
 from narrowing.names import Spec, Use
-from narrowing.particles import EMPTY, NEVER, Particle, chunked, clear, count, faults, leaves, mend, simplified
+from narrowing.particles import EMPTY, NEVER, Particle, chunked, clear, count, faults, leaves, simplified, widened
 
 SPEC = Spec("", "a")
 USES = {n: Use(n, True, SPEC, False) for n in "abc"}
@@ -79,7 +79,7 @@ class Particles(unittest.TestCase):
         self.assertTrue(q in (EMPTY, NEVER) or 1 not in faults(q), (p, q))
         self.assertTrue(clear(q) or not clear(p), (p, q))
         if not clear(q):
-            wider, _ = mend(q)
+            wider, _ = widened(q)
             self.assertTrue(clear(wider) and language <= Language(wider).words, (p, wider))
 
     def test_growth_is_bounded(self) -> None:
@@ -90,7 +90,7 @@ class Particles(unittest.TestCase):
             p = Particle("choice", (p, Particle("sequence", (p, p), 0, 3)), 0, 1)
         q = simplified(p)
         self.assertTrue(q is None or count(q) <= 2 * count(p))
-        self.assertTrue(clear(mend(p)[0]))
+        self.assertTrue(clear(widened(p)[0]))
 
     def test_large_groups_are_cut(self) -> None:
         """Tries that no group is too large for the profile."""
