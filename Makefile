@@ -42,7 +42,7 @@ $(FIXED_BUILT): $(SOURCES)
 	cd crates/transcode_cmd && $(RT) run -- trial 1 > /dev/null
 	touch $(FIXED_BUILT)
 
-# Proves and builds both programs and the C library: all that is installed.
+# Proves and builds both programs and the C library, which are installed with the package for Python.
 .PHONY: build
 build: $(FIXED) $(PROGRAM) $(LIBRARY)
 
@@ -68,7 +68,8 @@ uninstall:
 deb: build
 	install/deb.sh out
 
-# Builds both programs without any proof, and puts them at bin/ruvkhiska-unproved and bin/transcode-unproved.
+# Builds both programs and the C library without any proof, as bin/ruvkhiska-unproved, bin/transcode-unproved and
+# bin/libruvkhiska-unproved.a and .so.
 .PHONY: quick
 quick:
 	RT=$(RT) tests/quick.sh

@@ -42,7 +42,7 @@ class Command:
 def argument_of(name, form, given, text):
     """Returns the argument of a row of the table. `given` is what its form has in parentheses, or None."""
     value = re.search(STRING, given or "")
-    flags = {"Words": [], "Short": [f"-{(given or '')[1:2]}"], "Long": [f"--{name}"], "Flag": [f"--{name}"]}[form]
+    flags = {"Word": [], "Words": [], "Short": [f"-{(given or '')[1:2]}"], "Long": [f"--{name}"], "Flag": [f"--{name}"]}[form]
     return Argument(flags, value[1] if value else "", text)
 
 
@@ -64,7 +64,7 @@ def table():
 
 def syntaxes():
     with open(f"{SOURCE}/syntaxes.rt", encoding="utf-8") as file:
-        return re.findall(rf"SyntaxOption \{{\s*name: {STRING}", file.read())
+        return re.findall(rf"\({STRING}, Syntax::", file.read())
 
 
 def values_of(argument, commands):

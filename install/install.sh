@@ -1,13 +1,14 @@
 #!/usr/bin/env bash
-# Installs the programs, the C library, the manual pages, the completions for shells, and the documentation; or removes what it
-# installed. `make install` and `make uninstall` call it.
+# Installs the programs, the C library, the package for Python, the manual pages, the completions for shells, and the documentation;
+# or removes what it installed. `make install` and `make uninstall` call it.
 #
 #     install/install.sh install        writes share/doc/ruvkhiska/installed, a list of the files and folders that it made
 #     install/install.sh uninstall      removes what that list has
 #
-# PREFIX is where: /usr/local if it isn't given. DESTDIR precedes each path, and is in no file. LIBDIR and ZSHDIR name other
-# folders for the library and for zsh. PEOPLE and PROGRAM name other programs than bin/ruvkhiska and bin/transcode, and LIBRARIES
-# another folder than bin with the result of install/library.sh.
+# PREFIX is where: /usr/local if it isn't given. DESTDIR precedes each path, and is in no file. LIBDIR, PYTHONDIR and ZSHDIR name
+# other folders for the library, for Python and for zsh. PYTHON names another interpreter than python3, in whose folder below PREFIX
+# the package is installed. PEOPLE and PROGRAM name other programs than bin/ruvkhiska and bin/transcode, and LIBRARIES another folder
+# than bin with the result of install/library.sh.
 set -eu
 umask 022
 export LC_ALL=C
@@ -78,16 +79,30 @@ Libs: -L\${libdir} -lruvkhiska
 EOF
 }
 
+# packages: where the interpreter looks for packages: in a folder of its own below PREFIX/lib, if it has one there.
+packages() {
+    "${PYTHON:-python3}" - "$prefix/lib" <<'EOF'
+import site, sys
+lib, version = sys.argv[1], "python%d.%d" % sys.version_info[:2]
+below = [it for it in site.getsitepackages() if it.startswith(lib + "/")]
+print([*below, f"{lib}/{version}/site-packages"][0])
+EOF
+}
+
 place() {
-    local it
+    local it pythondir
+    pythondir=${PYTHONDIR:-$(packages)}
     file 755 "$people" "$prefix/bin/ruvkhiska"
     file 755 "$program" "$prefix/bin/transcode"
+    file 755 narrow/ruvkhiska-narrow "$prefix/bin/ruvkhiska-narrow"
+    for it in narrow/narrowing/*.py; do file 644 "$it" "$prefix/share/ruvkhiska/narrowing/${it##*/}"; done
     file 644 include/ruvkhiska.h "$prefix/include/ruvkhiska.h"
     file 644 "$libraries/libruvkhiska.a" "$libdir/libruvkhiska.a"
     file 644 "$libraries/libruvkhiska.so.$version" "$libdir/libruvkhiska.so.$version"
     link "libruvkhiska.so.$version" "$libdir/libruvkhiska.so.${version%%.*}"
     link "libruvkhiska.so.${version%%.*}" "$libdir/libruvkhiska.so"
     file 644 "$work/ruvkhiska.pc" "$libdir/pkgconfig/ruvkhiska.pc"
+    for it in python/ruvkhiska/*.py python/ruvkhiska/py.typed; do file 644 "$it" "$pythondir/ruvkhiska/${it##*/}"; done
     for it in 1 3; do file 644 "$work/ruvkhiska.$it" "$prefix/share/man/man$it/ruvkhiska.$it"; done
     file 644 "$work/ruvkhiska" "$prefix/share/bash-completion/completions/ruvkhiska"
     file 644 "$work/_ruvkhiska" "$zshdir/_ruvkhiska"
@@ -95,6 +110,15 @@ place() {
     for it in README.md CHANGELOG.md; do file 644 "$it" "$doc/$it"; done
     files docs
     files examples
+}
+
+# compiled PATH: removes what interpreters compiled of a file of Python.
+compiled() {
+    local cache
+    cache=$(dirname "$1")/__pycache__
+    [ -d "$cache" ] || return 0
+    rm -f "$cache/$(basename "$1" .py)".*.pyc
+    rmdir --ignore-fail-on-non-empty "$cache"
 }
 
 case ${1:-} in
@@ -122,6 +146,7 @@ case ${1:-} in
                 rmdir --ignore-fail-on-non-empty "$root$it"
             else
                 rm -f "$root$it"
+                case $it in *.py) compiled "$root$it" ;; esac
             fi
         done <<< "$names"
         echo "removed from $root$prefix"

@@ -14,7 +14,7 @@ cd "$(dirname "$0")/.."
 version=$(cat install/version)
 library=${LIBRARY:-crates/ruvkhiska_c/out/libruvkhiska_c.a}
 [ -f "$library" ] || { echo "no archive at $library: make install" >&2; exit 2; }
-heap=${HEAP:-$(dirname "$(readlink -f "$(command -v "${RT:-rt}")")")/../c/liblibc_c.a}
+heap=${HEAP:-$(dirname "$("${RT:-rt}" doc)")/c/liblibc_c.a}
 [ -f "$heap" ] || { echo "no archive of the kit's heap at $heap" >&2; exit 2; }
 shared=$folder/libruvkhiska.so.$version
 work=$(mktemp -d)
