@@ -46,7 +46,7 @@ impl<'a, S: Source> BitSource<'a, S> {
         }
     }
 
-    /// Returns the number of bits taken or skipped so far.
+    /// Returns the number of bits read or skipped so far.
     pub fn position(&self) -> u64
         ensures { result ≡ self.now.position }
     {

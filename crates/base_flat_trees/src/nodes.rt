@@ -93,7 +93,7 @@ impl<'a, L> Node<'a, L> {
         self.kids().len()
     }
 
-    /// Returns the child of the node with this number, counted from 0. It visits the children before it.
+    /// Returns the child of the node with this number, counted from 0. It visits the children that precede it.
     pub fn kid(&self, i: usize) -> Node<'a, L>
         requires { i < length (kids_of self.now) }
         ensures { slice_get (kids_of self.now) i ≡ Some result }

@@ -1,4 +1,4 @@
-//! The walk over a schema document that lists its parts.
+//! The traversal of a schema document that lists its parts.
 ghost use Rattle.std.specs.Prelude.{◌≡◌, ◌++◌, ◌∷◌, [], Some, None, map, IfOk, OnOk};
 ghost use Rattle.std.specs.List.{flat_map};
 ghost use Rattle.base_trees.specs.Rose.{roses_of};
@@ -348,7 +348,7 @@ fn push_document<'a>(doc: &'a RawDoc, out: &mut Vec<Part<'a>>) -> Result<(), Mem
     Ok(())
 }
 
-/// The parts of the content of a complex type at this place, each behind the part that it stands in.
+/// Returns the parts of the content of a complex type at this place, each after the part that contains it.
 pub fn content_parts<'a>(
     alloc: Global,
     file: u32,
@@ -362,7 +362,7 @@ pub fn content_parts<'a>(
     Ok(found)
 }
 
-/// The parts of a document, each behind the part that it stands in: those of its global elements, its global attributes,
+/// Returns the parts of a document, each after the part that contains it: those of its global elements, its global attributes,
 /// its types with a name and its local elements. Time and memory grow with their number.
 pub fn document_parts<'a>(alloc: Global, doc: &'a RawDoc) -> Result<Vec<Part<'a>>, Memory>
     ensures { IfOk result (λ found. parts_of found.items ≡ told.in_document (doc_of doc.now)) }

@@ -1,4 +1,4 @@
-//! What may stand in an element of a complex type.
+//! What an element of a complex type may contain.
 ghost use Rattle.std.specs.Prelude.{◌≡◌, ◌+◌, ◌<◌, ◌^◌, IfOk, option_map};
 ghost use Rattle.base_trees.specs.Rose.{Allowed, label_of, kids_of};
 ghost use Rattle.content_models.specs.Kids.{MayHave};
@@ -20,7 +20,7 @@ use simple_types::boolean_of;
 use std::alloc::Global;
 use xml_read::ItemLabel;
 
-/// Whether the attribute of this name stands there and says `true` or `1`.
+/// Returns whether there is an attribute of this name, with the value `true` or `1`.
 pub(crate) fn is_true(name: &str, own: &[(Text, Text)]) -> bool
     ensures { result ≡ is_true name.now own.now }
 {

@@ -105,7 +105,7 @@ pub(crate) fn push_particle(
     Ok(())
 }
 
-/// Puts an element in the place of the local declaration with this number.
+/// Replaces the local declaration with this number by an element.
 pub(crate) fn put_own(locals: &mut Vec<RawLocal>, number: usize, element: RawElement)
     requires { number < length locals.old.items }
     ensures { map local_of locals.new.items ≡ set (map local_of locals.old.items) number (Own (element_of element)) }

@@ -120,7 +120,7 @@ impl SchemaWhy {
             SchemaWhy::UnknownElement => Reason {
                 name: "UnknownElement",
                 means: "an element of another namespace, or with a name that isn't known there",
-                remedy: "put it into annotation, or drop it",
+                remedy: "move it into annotation, or drop it",
             },
             SchemaWhy::Wildcard => Reason {
                 name: "Wildcard",

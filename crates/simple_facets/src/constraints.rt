@@ -1,4 +1,4 @@
-//! The constraints that the facets of a restriction put on a value.
+//! The constraints of a restriction's facets on a value.
 ghost use Rattle.std.specs.Prelude.{◌≡◌, ◌||◌, Ok, Err, not, MatchResult, Some, true, false};
 ghost use Rattle.simple_types.specs.Seen.{space_of};
 ghost use Rattle.simple_facets.specs.Applying as rule;

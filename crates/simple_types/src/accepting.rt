@@ -288,7 +288,7 @@ pub(crate) fn read(
 }
 
 /// The value that the type gives to the text, by XML Schema Part 2. A union takes the first member that accepts the
-/// text; the spelling of what was taken is read again until the member stays the same.
+/// text; the spelling of the accepted value is read again until the member stays the same.
 pub fn accept(alloc: Global, simple: &Simple, text: &Text) -> Result<Flat<ValueLabel>, SimpleError>
     requires { Sound (space_of simple.now) }
     ensures { AnswersReading result (rule.reads (space_of simple.now) text.now) }

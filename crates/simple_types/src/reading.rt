@@ -103,7 +103,7 @@ pub(crate) fn read_whole(
     }
 }
 
-/// Where the number stands among these, from 0. It is found by binary search.
+/// Returns the index of the number in the list. It is found by binary search.
 pub fn place_of(numbers: &[i128], n: i128) -> Option<u32>
     requires sorted { IsStrictlySortedBy int_cmp numbers.now }
     requires count { length numbers.now < 2 ^ 32 }
@@ -127,7 +127,7 @@ fn place_of_text(words: &[Text], text: &str) -> Option<u32>
     }
 }
 
-/// Where the text stands among these, from 0. It is found by binary search.
+/// Returns the index of the text in the list. It is found by binary search.
 pub fn place_of_word(words: &[Text], word: &Text) -> Option<u32>
     requires sorted { IsStrictlySortedBy (slice_cmp nat_cmp) words.now }
     requires count { length words.now < 2 ^ 32 }

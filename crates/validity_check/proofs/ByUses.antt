@@ -19,6 +19,10 @@ pub record FoundFrom (xs : List (Name × List ℕ)) (us : List AttributeUse) (fr
   pub texts : AreTexts (drop from xs) us found
   pub run : IsRun us known
 
+-- those of all attributes, where none is left before this number
+pub all_found : (xs : List (Name × List ℕ)) (us : List AttributeUse) (from : ℕ) (found : List (Option (Bor (List ℕ)))) (known : Run) → from ≤ 0 → FoundFrom xs us from found known → AreTexts xs us found
+all_found xs us from found known none h = let start : from ≡ 0 = omega (arith, none) in subst (λ n. AreTexts (drop n xs) us found) start h.texts
+
 past : {X : Type 0} (xs : List X) (i : ℕ) → length xs ≤ i → drop i xs ≡ []
 past [] zero h = refl
 past [] (suc i) h = refl

@@ -1,5 +1,5 @@
 -- Why an attribute is wrong whose type accepts its text.
-use Rattle.std.proofs.Common.{◌≡◌, ℕ, inr, List, Option, Some, None, sym, ap, subst, ◌∙◌}
+use Rattle.std.proofs.Common.{◌≡◌, ℕ, inl, inr, List, Option, Some, None, refl, sym, ap, subst, ◌∙◌}
 use Rattle.std.specs.Prelude.{slice_get, MatchOption, IfOk, Result, Ok, Err}
 use Rattle.std.specs.Option.{option_map}
 use Rattle.std.proofs.lemmas.Option.{slice_get-map}
@@ -8,18 +8,21 @@ use Rattle.base_trees.specs.Rose.{Rose}
 use Rattle.simple_types.specs.declared.labels.ValueLabel.{ValueLabel}
 use Rattle.simple_types.specs.Seen.{space_of}
 use Rattle.simple_types.specs.Space.{Space, Booleans}
-use Rattle.simple_types.specs.Reading.{spelled, Accepts}
+use Rattle.simple_types.specs.Reading.{reads, spelled, Accepts}
 use Rattle.schema_components.specs.declared.components.SimpleDef.{SimpleDef}
 use Rattle.schema_components.specs.Components.{Set}
 use Rattle.schema_components.specs.SetParts.{named_space, parts_of}
 use Rattle.validity_rules.specs.Asked.{Attribute, space_at}
-use Rattle.validity_rules.specs.Attributes.{declared, IsFixedTo, IsOtherThanFixed, Takes, Declines, IsRight, IsWrong}
+use Rattle.validity_rules.specs.Attributes.{declared, Refuses, IsFixedTo, IsOtherThanFixed, Takes, Declines, IsRight, IsWrong}
 use Rattle.validity_rules.specs.declared.why.InvalidWhy.{InvalidWhy}
 use Rattle.validity_rules.specs.declared.why.InvalidWhy.TheVariants.{UnknownAttribute, BadAttribute}
 
 pub space_found : (s : Set) (n : ℕ) (t : SimpleDef) → slice_get s.simples n ≡ Some t → space_at (parts_of s) n ≡ space_of t.space
 space_found s n t e =
     ap (λ o. elim o as (λ _. Space) [ None ↦ Booleans | Some x ↦ x.space ]) (slice_get-map named_space s.simples n ∙ ap (option_map named_space) e)
+
+pub unknown : (wanted : List Attribute) (x : Name × List ℕ) → declared wanted x.0 ≡ None → IsWrong wanted UnknownAttribute x
+unknown wanted x none = subst (λ o. elim o as (λ _. Type 0) [ None ↦ UnknownAttribute ≡ UnknownAttribute | Some b ↦ Declines b x.1 UnknownAttribute ]) (sym none) refl
 
 module _ (wanted : List Attribute) (name : Name) (text : List ℕ) (a : Attribute) (known : declared wanted name ≡ Some a) where
   abbrev Judges : Space → Option InvalidWhy → Type 0
@@ -35,6 +38,9 @@ module _ (wanted : List Attribute) (name : Name) (text : List ℕ) (a : Attribut
 
   wrong : (why : InvalidWhy) → Declines a text why → IsWrong wanted why (name, text)
   wrong why h = subst (λ o. elim o as (λ _. Type 0) [ None ↦ why ≡ UnknownAttribute | Some b ↦ Declines b text why ]) (sym known) h
+
+  pub refused : (space : Space) → a.space ≡ space → (why : InvalidWhy) → Refuses (reads space text) BadAttribute why → IsWrong wanted why (name, text)
+  refused space same why h = wrong why (inl (subst (λ z. Refuses (reads z text) BadAttribute why) (sym same) h))
 
   judged : (found : Option InvalidWhy) (v : Rose ValueLabel) → Accepts a.space text v → Judges a.space found → IsJudged found
   judged None v e h = right (v, e, h v e)

@@ -19,10 +19,10 @@ past [] (suc i) h = refl
 past (x ∷ xs) zero h = absurd (omega (arith, h))
 past (x ∷ xs) (suc i) h = past xs i (omega (arith, h))
 
-left_special : (x : Name × List ℕ) (xs : List (Name × List ℕ)) → is_special x.0 ≡ true → left (x ∷ xs) ≡ left xs
+pub left_special : (x : Name × List ℕ) (xs : List (Name × List ℕ)) → is_special x.0 ≡ true → left (x ∷ xs) ≡ left xs
 left_special x xs e = rw e refl
 
-left_plain : (x : Name × List ℕ) (xs : List (Name × List ℕ)) → is_special x.0 ≡ false → left (x ∷ xs) ≡ x ∷ left xs
+pub left_plain : (x : Name × List ℕ) (xs : List (Name × List ℕ)) → is_special x.0 ≡ false → left (x ∷ xs) ≡ x ∷ left xs
 left_plain x xs e = rw e refl
 
 module _ (wanted : List Attribute) (xs : List (Name × List ℕ)) where

@@ -98,6 +98,14 @@ module _ (us : List AttributeUse) (sorted : Ascend us) (space : List ℕ) where
     ]
   ]
 
+  -- a run of one use
+  pub alone : (place : ℕ) → place < length us → ((u : AttributeUse) → (get_or us place u).name.space ≡ space) → (last next : ℕ)
+      → IsRunOf us space (record { start = place; end = place + 1; last = last; next = next })
+  alone place there here last next = record {
+    within = omega (arith, there);
+    same = λ k d low high. let same : k ≡ place = omega (arith, low, high) in subst (λ n. (get_or us n d).name.space ≡ space) (sym same) (here d);
+  }
+
   module _ (run : Run) (met : run.start < run.end) (place : ℕ) (here : (u : AttributeUse) → (get_or us place u).name.space ≡ space) (h : IsRunOf us space run) where
     split : (a b : ℕ) → (a < b) ⊎ (b ≤ a)
     split a b = grind arith

@@ -1,5 +1,5 @@
 //! Attributes one by one.
-ghost use Rattle.std.specs.Prelude.{◌≡◌, true, Some, None, All, Contains, IsTrue, IsFalse, map, MatchOption, IfOk, IfSome};
+ghost use Rattle.std.specs.Prelude.{◌≡◌, ℕ, List, true, Some, None, All, IsTrue, IsFalse, length, map, MatchOption, IfOk};
 ghost use Rattle.simple_types.specs.Seen.{space_of};
 ghost use Rattle.simple_types.specs.Sound.{Sound};
 ghost use Rattle.base_texts.specs.declared.texts.Name.{Name};
@@ -57,26 +57,6 @@ pub fn text_of<'a>(attributes: &'a [(Name, Text)], name: &Name) -> Option<&'a Te
     None
 }
 
-// The use with this number, which is that of the name, if there is one.
-fn use_at<'a>(
-    uses: &'a [AttributeUse],
-    place: Option<usize>,
-    name: &Name,
-) -> Option<&'a AttributeUse>
-    requires ascending { Ascend uses.now }
-    requires place { IsPlace uses.now name.now place }
-    ensures found { (s : SetParts) → MatchOption result
-        (rule.declared (map (attribute_in s) uses.now) name.now ≡ None)
-        (λ u. rule.declared (map (attribute_in s) uses.now) name.now ≡ Some (attribute_in s u.now)) }
-    ensures one { IfSome result (λ u. Contains uses.now u.now) }
-{
-    let _ = name;
-    match place {
-        Some(place) => Some(&uses[place]),
-        None => None,
-    }
-}
-
 /// Why a text isn't accepted, where the type knows no better reason than this one. No items of a list are kept.
 pub fn text_fault(
     alloc: Global,
@@ -103,24 +83,24 @@ pub(crate) fn fault_at(
     set: &SchemaSet,
     uses: &[AttributeUse],
     place: Option<usize>,
-    name: &Name,
-    text: &Text,
+    found: &(Name, Text),
 ) -> Result<Option<InvalidWhy>, Memory>
     requires linked { IsLinked set.now }
     requires uses { All (IsUse set.now) uses.now }
     requires ascending { Ascend uses.now }
-    requires place { IsPlace uses.now name.now place }
-    ensures { IfOk result (λ found. MatchOption found
-        (rule.IsRight (map (attribute_in (parts_of set.now)) uses.now) (name.now, text.now))
-        (λ why. rule.IsWrong (map (attribute_in (parts_of set.now)) uses.now) why (name.now, text.now))) }
+    requires place { IsPlace uses.now found.now.0 place }
+    ensures { IfOk result (λ fault. MatchOption fault
+        (rule.IsRight (map (attribute_in (parts_of set.now)) uses.now) found.now)
+        (λ why. rule.IsWrong (map (attribute_in (parts_of set.now)) uses.now) why found.now)) }
 {
-    match use_at(uses, place, name) {
+    match place {
         None => Ok(Some(InvalidWhy::UnknownAttribute)),
-        Some(found) => {
-            let simple = set.simple(found.simple);
-            match text_fault(alloc, &simple.space, text, InvalidWhy::BadAttribute)? {
+        Some(place) => {
+            let declared = &uses[place];
+            let simple = set.simple(declared.simple);
+            match text_fault(alloc, &simple.space, &found.1, InvalidWhy::BadAttribute)? {
                 Some(why) => Ok(Some(why)),
-                None => fixed_fault(alloc, &simple.space, &found.standard, text),
+                None => fixed_fault(alloc, &simple.space, &declared.standard, &found.1),
             }
         }
     }
@@ -131,21 +111,20 @@ fn attribute_fault(
     alloc: Global,
     set: &SchemaSet,
     uses: &[AttributeUse],
-    name: &Name,
-    text: &Text,
+    found: &(Name, Text),
     run: &mut Run,
 ) -> Result<Option<InvalidWhy>, Memory>
     requires linked { IsLinked set.now }
     requires uses { All (IsUse set.now) uses.now }
     requires ascending { Ascend uses.now }
     requires run { IsRun uses.now run.old }
-    ensures found { IfOk result (λ found. MatchOption found
-        (rule.IsRight (map (attribute_in (parts_of set.now)) uses.now) (name.now, text.now))
-        (λ why. rule.IsWrong (map (attribute_in (parts_of set.now)) uses.now) why (name.now, text.now))) }
+    ensures found { IfOk result (λ fault. MatchOption fault
+        (rule.IsRight (map (attribute_in (parts_of set.now)) uses.now) found.now)
+        (λ why. rule.IsWrong (map (attribute_in (parts_of set.now)) uses.now) why found.now)) }
     ensures run { IsRun uses.now run.new }
 {
-    let place = place_of(uses, name, run);
-    fault_at(alloc, set, uses, place, name, text)
+    let place = place_of(uses, &found.0, run);
+    fault_at(alloc, set, uses, place, found)
 }
 
 /// Why the first attribute that is wrong is so, if there is one.
@@ -167,7 +146,7 @@ pub(crate) fn first_wrong(
         if is_special(&found.0) {
             continue;
         }
-        if let Some(why) = attribute_fault(alloc, set, uses, &found.0, &found.1, &mut run)? {
+        if let Some(why) = attribute_fault(alloc, set, uses, found, &mut run)? {
             return Ok(Some(why));
         }
     }
@@ -216,16 +195,11 @@ fn is_missing_text(wanted: &AttributeUse, text: Option<&Text>) -> bool
 }
 
 // Whether one that is required is missing among texts that stand in the order of the uses.
-pub(crate) fn lacks_among(
-    uses: &[AttributeUse],
-    attributes: &[(Name, Text)],
-    texts: &[Option<&Text>],
-) -> bool
-    requires { AreTexts attributes.now uses.now texts.now }
-    ensures lacks { IsTrue result → (s : SetParts) → rule.OneMissing (map (attribute_in s) uses.now) attributes.now }
-    ensures stand { IsFalse result → (s : SetParts) → rule.AllStand (map (attribute_in s) uses.now) attributes.now }
+pub(crate) fn lacks_among(uses: &[AttributeUse], texts: &[Option<&Text>]) -> bool
+    requires { length texts.now ≡ length uses.now }
+    ensures lacks { IsTrue result → (s : SetParts) (xs : List (Name × List ℕ)) → AreTexts xs uses.now texts.now → rule.OneMissing (map (attribute_in s) uses.now) xs }
+    ensures stand { IsFalse result → (s : SetParts) (xs : List (Name × List ℕ)) → AreTexts xs uses.now texts.now → rule.AllStand (map (attribute_in s) uses.now) xs }
 {
-    let _ = attributes;
     'uses: for i in 0..uses.len() {
         let wanted = &uses[i];
         let text = texts[i];

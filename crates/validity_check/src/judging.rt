@@ -1,10 +1,12 @@
 //! All that is wrong with the attributes of an element, of which each is looked up once.
-ghost use Rattle.std.specs.Prelude.{◌≡◌, ◌∷◌, ℕ, List, true, false, All, map, MatchOption, IfOk};
+ghost use Rattle.std.specs.Prelude.{◌≡◌, ◌∷◌, ℕ, List, Option, true, false, All, map, MatchOption, IfOk};
+ghost use Rattle.std.specs.Option.{option_or};
 ghost use Rattle.base_texts.specs.declared.texts.Name.{Name};
 ghost use Rattle.schema_components.specs.Linked.{IsUse, IsLinked};
 ghost use Rattle.schema_components.specs.SetParts.{SetParts, parts_of};
 ghost use Rattle.validity_rules.specs.Asked.{attribute_in};
 ghost use Rattle.validity_rules.specs.Attributes as rule;
+ghost use Rattle.validity_rules.specs.declared.why.InvalidWhy.{InvalidWhy};
 ghost use Rattle.validity_check.specs.Ascending.{Ascend};
 ghost use Rattle.validity_check.specs.Uses.{IsPlace};
 ghost use Rattle.validity_check.specs.First.{IsFirst};
@@ -26,63 +28,28 @@ pub struct Judged {
     pub lacks: bool,
 }
 
-// Why the first of the attributes from this one on is wrong, if one is, where this is so of those behind it.
-fn first_from(
+// Why an attribute is wrong, if it is. Those of XML Schema for documents are never wrong.
+fn wrong_at(
     alloc: Global,
     set: &SchemaSet,
     uses: &[AttributeUse],
     place: Option<usize>,
     found: &(Name, Text),
-    behind: Option<InvalidWhy>,
 ) -> Result<Option<InvalidWhy>, Memory>
     requires linked { IsLinked set.now }
     requires uses { All (IsUse set.now) uses.now }
     requires ascending { Ascend uses.now }
     requires place { IsPlace uses.now found.now.0 place }
-    ensures { IfOk result (λ first. (xs : List (Name × List ℕ)) → IsFirst (map (attribute_in (parts_of set.now)) uses.now) xs behind
-        → IsFirst (map (attribute_in (parts_of set.now)) uses.now) (found.now ∷ xs) first) }
+    ensures { IfOk result (λ fault. (xs : List (Name × List ℕ)) (behind : Option InvalidWhy) → IsFirst (map (attribute_in (parts_of set.now)) uses.now) xs behind
+        → IsFirst (map (attribute_in (parts_of set.now)) uses.now) (found.now ∷ xs) (option_or fault behind)) }
 {
     if is_special(&found.0) {
-        return Ok(behind);
+        return Ok(None);
     }
-    match fault_at(alloc, set, uses, place, &found.0, &found.1)? {
-        Some(why) => Ok(Some(why)),
-        None => Ok(behind),
-    }
+    fault_at(alloc, set, uses, place, found)
 }
 
-// Judges many attributes, or attributes against many uses, in time linear in both.
-fn judge_many(
-    alloc: Global,
-    set: &SchemaSet,
-    uses: &[AttributeUse],
-    attributes: &[(Name, Text)],
-) -> Result<Judged, Memory>
-    requires linked { IsLinked set.now }
-    requires uses { All (IsUse set.now) uses.now }
-    requires ascending { Ascend uses.now }
-    ensures wrong { IfOk result (λ judged. IsFirst (map (attribute_in (parts_of set.now)) uses.now) attributes.now judged.wrong) }
-    ensures lacks { IfOk result (λ judged. judged.lacks ≡ true → (s : SetParts) → rule.OneMissing (map (attribute_in s) uses.now) attributes.now) }
-    ensures stand { IfOk result (λ judged. judged.lacks ≡ false → (s : SetParts) → rule.AllStand (map (attribute_in s) uses.now) attributes.now) }
-{
-    let mut texts = no_texts(alloc, uses.len())?;
-    let mut run = Run::none();
-    let mut wrong = None;
-    let mut left = attributes.len();
-    'attributes: while 0 < left {
-        left -= 1;
-        let found = &attributes[left];
-        let place = place_of(uses, &found.0, &mut run);
-        wrong = first_from(alloc, set, uses, place, found, wrong)?;
-        if let Some(place) = place {
-            texts[place] = Some(&found.1);
-        }
-    }
-    let lacks = lacks_among(uses, attributes, &texts);
-    Ok(Judged { wrong, lacks })
-}
-
-/// What is wrong with the attributes of an element of a type with these uses.
+/// What is wrong with the attributes of an element of a type with these uses. The time is linear in both.
 pub(crate) fn judge(
     alloc: Global,
     set: &SchemaSet,
@@ -96,10 +63,25 @@ pub(crate) fn judge(
     ensures lacks { IfOk result (λ judged. judged.lacks ≡ true → (s : SetParts) → rule.OneMissing (map (attribute_in s) uses.now) attributes.now) }
     ensures stand { IfOk result (λ judged. judged.lacks ≡ false → (s : SetParts) → rule.AllStand (map (attribute_in s) uses.now) attributes.now) }
 {
-    if !are_few(uses, attributes) {
-        return judge_many(alloc, set, uses, attributes);
+    if are_few(uses, attributes) {
+        let wrong = first_wrong(alloc, set, uses, attributes)?;
+        let lacks = lacks_among_few(uses, attributes);
+        return Ok(Judged { wrong, lacks });
     }
-    let wrong = first_wrong(alloc, set, uses, attributes)?;
-    let lacks = lacks_among_few(uses, attributes);
+    let mut texts = no_texts(alloc, uses.len())?;
+    let mut run = Run::none();
+    let mut wrong = None;
+    let mut left = attributes.len();
+    'attributes: while 0 < left {
+        left -= 1;
+        let found = &attributes[left];
+        let place = place_of(uses, &found.0, &mut run);
+        let fault = wrong_at(alloc, set, uses, place, found)?;
+        wrong = fault.or(wrong);
+        if let Some(place) = place {
+            texts[place] = Some(&found.1);
+        }
+    }
+    let lacks = lacks_among(uses, &texts);
     Ok(Judged { wrong, lacks })
 }

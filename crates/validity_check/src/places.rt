@@ -1,5 +1,5 @@
 //! Where the use of a name stands among the uses of a type.
-ghost use Rattle.std.specs.Prelude.{◌≡◌, ℕ, List, ◌<◌, ◌≤◌, length, slice_index_or};
+ghost use Rattle.std.specs.Prelude.{◌≡◌, ℕ, List, ◌-◌, ◌^◌, ◌<◌, ◌≤◌, length, slice_index_or};
 ghost use Rattle.schema_components.specs.declared.components.AttributeUse.{AttributeUse};
 ghost use Rattle.base_texts.specs.Names.{name_eq, name_cmp};
 ghost use Rattle.validity_check.specs.Ascending.{Ascend};
@@ -61,14 +61,11 @@ impl Run {
     }
 
     // With one more use of the namespace, and with those between.
-    fn with(self, place: usize, uses: &[AttributeUse], name: &Name) -> Run
-        requires ascending { Ascend uses.now }
-        requires place { place < length uses.now }
-        requires space { (u : AttributeUse) → (slice_index_or uses.now place u).name.space ≡ name.now.space }
-        requires run { IsRunOf uses.now name.now.space self }
-        ensures { IsRunOf uses.now name.now.space result }
+    fn with(self, place: usize) -> Run
+        requires { place < 2 ^ 64 - 1 }
+        ensures { (us : List AttributeUse) (space : List ℕ) → Ascend us → place < length us → ((u : AttributeUse) → (slice_index_or us place u).name.space ≡ space)
+            → IsRunOf us space self → IsRunOf us space result }
     {
-        let _ = name;
         if self.end <= self.start {
             Run {
                 start: place,
@@ -124,7 +121,7 @@ fn compare(uses: &[AttributeUse], place: usize, name: &Name, run: &mut Run) -> O
         Ordering::Less => Ordering::Less,
         Ordering::Greater => Ordering::Greater,
         Ordering::Equal => {
-            *run = run.with(place, uses, name);
+            *run = run.with(place);
             found.local.cmp(&name.local)
         }
     }

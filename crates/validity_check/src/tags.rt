@@ -12,8 +12,6 @@ ghost use Rattle.validity_check.specs.Answers.{Tells, TagFault, IsGoodTag};
 
 use crate::declarations::Declared;
 use crate::error::CheckError;
-use crate::judging::Judged;
-use crate::uses::Uses;
 use base_texts::{Memory, Name, Text, WhiteSpace, XSI_SPACE};
 use schema_components::SchemaSet;
 use simple_types::{Simple, SimpleError, ValueLabel, accept};
@@ -81,20 +79,6 @@ pub fn nil_of(
     }
 }
 
-// Whether an attribute that is required is missing, those of XML Schema for documents left out: none of these is required.
-fn lacks(set: &SchemaSet, uses: &Uses<'_>, attributes: &[(Name, Text)], judged: &Judged) -> bool
-    requires uses { All (IsUse set.now) uses.now.list.now }
-    requires lacks { judged.now.lacks ≡ true → (s : SetParts) → rule.OneMissing (map (attribute_in s) uses.now.list.now) attributes.now }
-    requires stand { judged.now.lacks ≡ false → (s : SetParts) → rule.AllStand (map (attribute_in s) uses.now.list.now) attributes.now }
-    ensures lacks { IsTrue result → rule.OneMissing (map (attribute_in (parts_of set.now)) uses.now.list.now) (rule.left attributes.now) }
-    ensures stand { IsFalse result → rule.AllStand (map (attribute_in (parts_of set.now)) uses.now.list.now) (rule.left attributes.now) }
-{
-    let _ = set;
-    let _ = uses;
-    let _ = attributes;
-    judged.lacks
-}
-
 // Whether no attribute stands, and none is declared.
 fn is_bare(declared: &Declared, attributes: &[(Name, Text)]) -> bool
     ensures attributes { IsTrue result → attributes.now ≡ [] }
@@ -136,7 +120,7 @@ pub fn check_tag(
     if let Some(why) = judged.wrong {
         return Err(CheckError::Invalid { at, why });
     }
-    if lacks(set, &declared.uses, attributes, &judged) {
+    if judged.lacks {
         return Err(CheckError::Invalid {
             at,
             why: InvalidWhy::MissingAttribute,

@@ -16,11 +16,12 @@ returns-then-place-run-clause-order c = λ u.
     let answer : c.cmp.result ≡ slice_cmp nat_cmp found.name.local name.local = cc (c.cmp.ensures) in
     answer ∙ sym (by_local found.name name space) ∙ ap (λ x. name_cmp x.name name) (here ∙ same_at us c.args.place found u c.requires.place)
 
-pub with-requires-clause-space : goal.with-requires-clause-space
-with-requires-clause-space c = λ u.
+pub returns-in-Equal-clause-run : goal.returns-in-Equal-clause-run
+returns-in-Equal-clause-run c =
     let us = c.args.uses.now in
     let found = c.index-uses-place.result in
     let here = c.index-uses-place.is in
     let name = c.args.name.now in
     let tied : slice_cmp nat_cmp found.name.space name.space ≡ Equal = cc (c.cmp-2.ensures, c.in-Equal.is) in
-    sym (ap (λ x. x.name.space) (here ∙ same_at us c.args.place found u c.requires.place)) ∙ one_space found.name name tied
+    c.with.ensures us name.space c.requires.ascending c.requires.place
+    (λ u. sym (ap (λ x. x.name.space) (here ∙ same_at us c.args.place found u c.requires.place)) ∙ one_space found.name name tied) c.requires.run

@@ -3,7 +3,7 @@ use Rattle.schema_components.specs.SetParts.{parts_of}
 use Rattle.validity_rules.specs.Asked.{attribute_in}
 use Rattle.validity_check.specs.First.{IsFirst}
 use Rattle.validity_check.proofs.ByUses.{FoundFrom}
-use Rattle.validity_check.proofs.judging.judge_many.Given as goal
+use Rattle.validity_check.proofs.judging.judge.Given as goal
 
 -- the texts of those from this number on, and the first of these that is wrong
 abbrev pub invariant-attributes : goal.invariant-attributes
