@@ -6,9 +6,11 @@ ghost use Rattle.transcode_core.specs.Preparing.{prepared_seen};
 ghost use Rattle.transcode_core.specs.ReadBack.{DocumentedBack};
 ghost use Rattle.ruvkhiska_c.specs.Statuses.{PreparedOf, syntax_numbered, EncodedBy, DocumentedBy};
 
-use std::alloc::Global;
+use std::alloc::{AllocError, Global};
 use std::str::from_utf8;
-use transcode_messages::{Message, Outcome, Prepared, Root, SchemaFiles, Syntax, decode, encode};
+use transcode_messages::{
+    Message, Outcome, Prepared, Root, SchemaFiles, Shared, Syntax, decode, encode,
+};
 
 // The syntax of that number.
 fn syntax_of(number: u32) -> Option<Syntax>
@@ -39,20 +41,36 @@ fn root_of<'a>(space: &'a [u8], local: &'a [u8]) -> Option<Root<'a>>
     Some(Root { space, local })
 }
 
+// The first owner of what is prepared.
+fn boxed(alloc: Global, prepared: Prepared) -> Result<Box<Shared>, AllocError>
+    ensures { IfOk result (λ b. b.value ≡ prepared) }
+{
+    let shared = Shared::of(alloc, prepared)?;
+    Ok(Box::new(alloc, shared)?)
+}
+
+/// One more owner of what is prepared.
+pub(crate) fn share_boxed(alloc: Global, shared: &Shared) -> Result<Box<Shared>, AllocError>
+    ensures { IfOk result (λ b. b.value ≡ shared.now) }
+{
+    let more = shared.again()?;
+    Ok(Box::new(alloc, more)?)
+}
+
 /// What is prepared of the files and the root.
 pub(crate) fn prepare_boxed(
     alloc: Global,
     files: &SchemaFiles,
     space: &[u8],
     local: &[u8],
-) -> Result<Box<Prepared>, Outcome>
+) -> Result<Box<Shared>, Outcome>
     ensures { Answers (λ b. prepared_seen b.value) (PreparedOf files.now space.now local.now) NoMemory result }
 {
     let Some(root) = root_of(space, local) else {
         return Err(Outcome::Usage);
     };
     match files.prepare(alloc, root) {
-        Ok(prepared) => match Box::new(alloc, prepared) {
+        Ok(prepared) => match boxed(alloc, prepared) {
             Ok(b) => Ok(b),
             Err(_) => Err(Outcome::OutOfMemory),
         },

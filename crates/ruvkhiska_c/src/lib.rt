@@ -20,7 +20,7 @@ mod listed;
 mod parts;
 mod slots;
 
-use crate::boxes::{decode_boxed, encode_boxed, prepare_boxed};
+use crate::boxes::{decode_boxed, encode_boxed, prepare_boxed, share_boxed};
 use crate::complaint::{Complaint, tell};
 use crate::slots::{
     Bytes, Converter, Files, close, closed, drop_files, free, give, hold, no_files, nothing, open,
@@ -29,7 +29,10 @@ use base_texts::Memory;
 use std::alloc::Global;
 use std::mem::replace;
 use std::str::from_utf8;
-use transcode_messages::{AddError, Message, Outcome, Prepared, SchemaFiles, check};
+use transcode_messages::{AddError, Message, Outcome, SchemaFiles, Shared, check};
+
+// Major, minor and patch, two digits each.
+const VERSION: u32 = 10_000;
 
 const DONE: i32 = 0;
 
@@ -97,7 +100,7 @@ fn prepare_slot(
     files: &mut Files,
     space: &[u8],
     local: &[u8],
-) -> Result<Box<Prepared>, Outcome>
+) -> Result<Box<Shared>, Outcome>
     ensures due { Answers (λ b. prepared_seen b.value) (PreparedOf (files_in files.old.listed.value) space.now local.now) NoMemory result }
     ensures same { files.new.listed.value ≡ files.old.listed.value }
 {
@@ -138,6 +141,44 @@ pub extern "C" fn ruvkhiska_open(
     }
 }
 
+/// Makes the other converter one more owner of the same set, for another thread. What it had before is closed. On anything but 0 it
+/// is as it was.
+#[unsafe(no_mangle)]
+pub extern "C" fn ruvkhiska_share(
+    alloc: Global,
+    converter: &mut Converter,
+    other: &mut Converter,
+) -> i32
+    ensures same { converter.new.kept.value ≡ converter.old.kept.value }
+    ensures is_closed { (result ≡ pos 40) ↔ (converter.old.kept.value ≡ None) }
+    ensures shared { result ≡ pos 0 → other.new.kept.value ≡ converter.old.kept.value }
+    ensures unchanged { result ≢ pos 0 → other.new.kept.value ≡ other.old.kept.value }
+    ensures statuses { (result ≡ pos 0) ⊎ ((result ≡ pos 30) ⊎ (result ≡ pos 40)) }
+{
+    let Converter { is_open, kept } = replace(converter, closed(alloc));
+    if !is_open {
+        return CLOSED;
+    }
+    let shared = kept.into_box();
+    let more = share_boxed(alloc, &shared);
+    let _ = replace(converter, open(shared));
+    match more {
+        Ok(b) => {
+            close(replace(other, open(b)));
+            DONE
+        }
+        Err(_) => OUT_OF_MEMORY,
+    }
+}
+
+/// The number of the library's version: 10,000 for 1.0.0.
+#[unsafe(no_mangle)]
+pub extern "C" fn ruvkhiska_version() -> u32
+    ensures { result ≡ 10000 }
+{
+    VERSION
+}
+
 /// Closes the converter.
 #[unsafe(no_mangle)]
 pub extern "C" fn ruvkhiska_close(alloc: Global, converter: &mut Converter)
@@ -166,7 +207,7 @@ pub extern "C" fn ruvkhiska_check(
         return CLOSED;
     }
     let prepared = kept.into_box();
-    let checked = check(alloc, &prepared, document);
+    let checked = check(alloc, prepared.prepared(), document);
     let _ = replace(converter, open(prepared));
     match checked {
         Ok(()) => DONE,
@@ -222,7 +263,7 @@ pub extern "C" fn ruvkhiska_encode(
         return CLOSED;
     }
     let prepared = kept.into_box();
-    let encoded = encode_boxed(alloc, &prepared, syntax, document);
+    let encoded = encode_boxed(alloc, prepared.prepared(), syntax, document);
     let _ = replace(converter, open(prepared));
     hand_out(encoded, answer, complaint)
 }
@@ -253,7 +294,7 @@ pub extern "C" fn ruvkhiska_decode(
         return CLOSED;
     }
     let prepared = kept.into_box();
-    let decoded = decode_boxed(alloc, &prepared, syntax, octets);
+    let decoded = decode_boxed(alloc, prepared.prepared(), syntax, octets);
     let _ = replace(converter, open(prepared));
     hand_out(decoded, answer, complaint)
 }

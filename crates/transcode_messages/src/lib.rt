@@ -8,9 +8,11 @@ mod converting;
 mod lent;
 mod lines;
 mod schema_files;
+mod shared;
 
 pub use converting::{Message, check, decode, encode};
 pub use lines::{LINE_ROOM, line_of};
 pub use schema_files::{AddError, SchemaFiles};
+pub use shared::{Shared, may_cross};
 pub use transcode_core::Prepared;
 pub use transcode_words::{Outcome, Root, Syntax};
