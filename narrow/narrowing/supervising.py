@@ -43,8 +43,9 @@ def bounded(work: Callable[[], T]) -> T:
         data = receive(reader, time.monotonic() + MOST_SECONDS)
     finally:
         os.close(reader)
-        kill(pid)
-    if data is None:
+        ended = kill(pid)
+    # Processor time may end before the deadline. It is one limit, so both have one message.
+    if data is None or ended == signal.SIGXCPU:
         raise Failed("takes over %d seconds" % MOST_SECONDS)
     if not data:
         raise Failed("can't be rewritten within %d seconds and 2 GB of memory" % MOST_SECONDS)
@@ -54,13 +55,13 @@ def bounded(work: Callable[[], T]) -> T:
     return cast(T, result)
 
 
-def kill(pid: int) -> None:
-    """Ends a process of ours, and waits for it."""
+def kill(pid: int) -> int:
+    """Ends a process of ours, waits for it, and returns the signal that ended it, or 0."""
     try:
         os.kill(pid, signal.SIGKILL)
     except ProcessLookupError:
         pass
-    os.waitpid(pid, 0)
+    return os.WTERMSIG(os.waitpid(pid, 0)[1])
 
 
 def receive(reader: int, deadline: float) -> Optional[bytes]:
