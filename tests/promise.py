@@ -24,6 +24,7 @@ START = [
     ("transcode_cmd", "Runs", "Ends"),
     ("transcode_core", "Runs", "Runs"),
     ("transcode_core", "Requests/Answers", "Answers"),
+    ("transcode_core", "Agendas", "Begins"),
     ("transcode_words", "Asked", "IsWithin"),
     ("transcode_words", "AskedSeen", "asked_seen"),
     ("transcode_words", "Status", "status"),
@@ -33,7 +34,7 @@ START = [
 TRAITS = [("sources", "Source"), ("sinks", "Sink"), ("libraries", "Library")]
 # What std says of known bytes: the file in the kit.
 STD = "std/specs/Io/KnownBytes.antt"
-LIMIT = 9000
+LIMIT = 9200
 BROUGHT = re.compile(r"\s*(?:(?:unfoldable )?pub )?use ")
 ROW = re.compile(r"(?m)^- `(\w+)/([\w/]+)`, (\d+):")
 HEAD = re.compile(r"(?:abbrev |pub |unfoldable |record |data )*([^\s:({]+)")

@@ -1,5 +1,5 @@
 #!/usr/bin/env python3
-"""Gives the program for scripts the rows of crates/transcode_rows whose title has the words, or all of them. Compares its status,
+"""Gives the program for scripts the rows of crates/transcode_rows and tests/deep_rows whose title has the words, or all of them. Compares its status,
 its complaint and its output with those of the row. So a row is tried in a moment; the gate runs the table over objects in memory.
 
 A row's faults are made of what the system has. A file whose load fails is missing. An input that fails is a socket that the other
@@ -128,14 +128,15 @@ def main():
         return 2
     words, passed, failed = " ".join(sys.argv[1:]), 0, 0
     with tempfile.TemporaryDirectory() as work:
-        for row in rows_of(f"{HERE}/crates/transcode_rows/stdin"):
+        deep = rows_of(f"{HERE}/tests/deep_rows")
+        for row in rows_of(f"{HERE}/crates/transcode_rows/stdin") + deep:
             if words in row.title:
                 found = difference(row, work)
                 failed, passed = failed + bool(found), passed + (not found)
                 if found:
                     print(f"{row.title}: {found}", flush=True)
-    counts = f"{passed} rows passed, {failed} failed"
-    print(counts)
+    print(f"{passed} rows passed, {failed} failed")
+    counts = f"{passed - len(deep)} rows passed, {failed} failed"
     with open(f"{HERE}/crates/transcode_rows/stdout") as file:
         due = file.read().strip()
     if not words and counts != due:

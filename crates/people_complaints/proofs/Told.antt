@@ -8,7 +8,8 @@ use Rattle.base_texts.specs.Bytes.{AppendsFront}
 use Rattle.transcode_words.specs.declared.outcome.Outcome.{Outcome}
 use Rattle.transcode_words.specs.declared.outcome.Outcome.TheVariants.{Done, Usage, SchemaSyntax, SchemaFault, LinkFault, UnknownRoot, Stamp, DocSyntax, Invalid, PerFault, RecordFault, DerFault, ModuleFault, Trailing, TooLong, TooManyNodes, LoadFault, ReadFault, WriteFault, OutOfMemory}
 use Rattle.transcode_words.specs.Lines.{line, place, reason_name, schema_reason, link_reason, invalid_reason, per_reason, der_reason, module_reason}
-use Rattle.people_complaints.specs.Complaints.{IsNamed, IsPlaceOf, IsWithin, MayList, explained, IsComplaint, IsText, Complains}
+use Rattle.people_complaints.specs.Complaints.{IsNamed, IsPlaceOf, IsWithin, MayList, explained, IsComplaint, IsComplaintOf, IsText, Complains}
+use Rattle.people_complaints.specs.Subjects.{Texts, about}
 
 -- ---- composing
 
@@ -116,36 +117,37 @@ pub written : {A E : Type 0} (v : Result A E) (old new : Option (List ℕ)) (tex
 written (Ok a) old new text faults faults_now ok prefix counts = inl ok
 written (Err e) old new text faults faults_now ok prefix counts = inr (counts.rose refl, prefix)
 
-is_text : (o : Outcome) (text : List ℕ) → ((name contents : List ℕ) × IsComplaint o name contents text) ⊎ (text ≡ line o) → IsText o text
-is_text (SchemaSyntax k at why) text is = is
-is_text (SchemaFault k at why) text is = is
-is_text (LinkFault k at why) text is = is
-is_text (DocSyntax at why) text is = is
-is_text (Invalid at why) text is = is
-is_text (PerFault bit why) text is = is
-is_text (RecordFault number bit why) text is = is
-is_text (DerFault at why) text is = is
-is_text (ModuleFault at why) text is = is
-is_text (Trailing at) text is = is
-is_text (TooLong k) text is = is
-is_text (TooManyNodes count) text is = is
-is_text (LoadFault k) text is = is
-is_text Done text is = is
-is_text Usage text is = tt
-is_text UnknownRoot text is = is
-is_text Stamp text is = is
-is_text ReadFault text is = is
-is_text WriteFault text is = is
-is_text OutOfMemory text is = is
+is_text : (texts : Texts) (o : Outcome) (text : List ℕ) → IsComplaintOf texts o text ⊎ (text ≡ line o) → IsText texts o text
+is_text texts (SchemaSyntax k at why) text is = is
+is_text texts (SchemaFault k at why) text is = is
+is_text texts (LinkFault k at why) text is = is
+is_text texts (DocSyntax at why) text is = is
+is_text texts (Invalid at why) text is = is
+is_text texts (PerFault bit why) text is = is
+is_text texts (RecordFault number bit why) text is = is
+is_text texts (DerFault at why) text is = is
+is_text texts (ModuleFault at why) text is = is
+is_text texts (Trailing at) text is = is
+is_text texts (TooLong k) text is = is
+is_text texts (TooManyNodes count) text is = is
+is_text texts (LoadFault k) text is = is
+is_text texts Done text is = is
+is_text texts Usage text is = tt
+is_text texts UnknownRoot text is = is
+is_text texts Stamp text is = is
+is_text texts ReadFault text is = is
+is_text texts WriteFault text is = is
+is_text texts OutOfMemory text is = is
 
-module _ (o : Outcome) (old new : Option (List ℕ)) (text : List ℕ) (faults faults_now : ℕ) (to : Appends old new text ⊎ (HasRisen faults faults_now × AppendsFront old new text)) where
-  pub complaint_written : (name contents : List ℕ) → IsComplaint o name contents text → Complains o old new faults faults_now
-  complaint_written name contents c = record { text = text; is = is_text o text (inl (name, contents, c)); some = λ other e. some_complaint o name contents text c e; written = to }
+module _ (texts : Texts) (o : Outcome) (old new : Option (List ℕ)) (text : List ℕ) (faults faults_now : ℕ) (to : Appends old new text ⊎ (HasRisen faults faults_now × AppendsFront old new text)) where
+  pub complaint_written : IsComplaintOf texts o text → Complains texts o old new faults faults_now
+  complaint_written c =
+      record { text = text; is = is_text texts o text (inl c); some = λ other e. some_complaint o (about texts o).0 (about texts o).1 text c e; written = to }
 
-  pub line_written : text ≡ line o → Complains o old new faults faults_now
-  line_written is = record { text = text; is = is_text o text (inr is); some = λ other e. some_line o other (sym is ∙ e); written = to }
+  pub line_written : text ≡ line o → Complains texts o old new faults faults_now
+  line_written is = record { text = text; is = is_text texts o text (inr is); some = λ other e. some_line o other (sym is ∙ e); written = to }
 
 -- a message about words
-pub message_written : (old new : Option (List ℕ)) (text : List ℕ) (faults faults_now : ℕ) → Appends old new text ⊎ (HasRisen faults faults_now × AppendsFront old new text)
-    → (text ≡ [] → ⊥) → Complains Usage old new faults faults_now
-message_written old new text faults faults_now to some = record { text = text; is = tt; some = λ other e. some e; written = to }
+pub message_written : (texts : Texts) (old new : Option (List ℕ)) (text : List ℕ) (faults faults_now : ℕ) → Appends old new text ⊎ (HasRisen faults faults_now × AppendsFront old new text)
+    → (text ≡ [] → ⊥) → Complains texts Usage old new faults faults_now
+message_written texts old new text faults faults_now to some = record { text = text; is = tt; some = λ other e. some e; written = to }

@@ -12,6 +12,7 @@ use Rattle.transcode_words.specs.Lines.{line}
 pub use Rattle.transcode_words.specs.Status.{IsNamed}
 use Rattle.people_complaints.specs.Paths.{IsPath}
 use Rattle.people_complaints.specs.Places.{IsPlaced}
+use Rattle.people_complaints.specs.Subjects.{Texts, about}
 
 -- ---- the place
 
@@ -62,7 +63,7 @@ abbrev pub MayList : Outcome → List ℕ → Type 0
 MayList UnknownRoot more = Unit {0}
 MayList o more = more ≡ []
 
--- A complaint begins with the name of the text that the outcome is about, the place and the reason.
+-- The complaint about an outcome, and a text with this name and these contents: it begins with the name, the place and the reason.
 pub record IsComplaint (o : Outcome) (name contents complaint : List ℕ) : Type 0 where
   pub place : List ℕ
   pub reason : List ℕ
@@ -77,15 +78,20 @@ pub record IsComplaint (o : Outcome) (name contents complaint : List ℕ) : Type
   pub list : MayList o more
   pub text : complaint ≡ name ++ place ++ explained reason within means excerpt remedy ++ more
 
--- The text for an outcome: the complaint about a text with some name and some contents. Without memory for it, it is the line of the program
--- for scripts. For `Usage` it is in the form of the library that reads words.
-abbrev pub IsText : Outcome → List ℕ → Type 0
-IsText Usage text = Unit {0}
-IsText o text = ((name contents : List ℕ) × IsComplaint o name contents text) ⊎ (text ≡ line o)
+-- The complaint about an outcome of a request with these texts: its name is that of the text which the outcome is about, and its place
+-- is one in the contents of this text.
+abbrev pub IsComplaintOf : Texts → Outcome → List ℕ → Type 0
+IsComplaintOf texts o complaint = IsComplaint o (about texts o).0 (about texts o).1 complaint
+
+-- The text for an outcome of a request with these texts: the complaint about it. Without memory for it, it is the line of the program for
+-- scripts. For `Usage` it is in the form of the library that reads words.
+abbrev pub IsText : Texts → Outcome → List ℕ → Type 0
+IsText texts Usage text = Unit {0}
+IsText texts o text = IsComplaintOf texts o text ⊎ (text ≡ line o)
 
 -- Standard error received the text for an outcome, or a prefix of it and its count of failures rose. The text of a rejection isn't empty.
-pub record Complains (o : Outcome) (old new : Option (List ℕ)) (faults faults_now : ℕ) : Type 0 where
+pub record Complains (texts : Texts) (o : Outcome) (old new : Option (List ℕ)) (faults faults_now : ℕ) : Type 0 where
   pub text : List ℕ
-  pub is : IsText o text
+  pub is : IsText texts o text
   pub some : (o ≡ Done → ⊥) → text ≡ [] → ⊥
   pub written : Appends old new text ⊎ (HasRisen faults faults_now × AppendsFront old new text)

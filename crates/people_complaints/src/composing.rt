@@ -1,8 +1,9 @@
 //! The text of a complaint.
-ghost use Rattle.std.specs.Prelude.{◌≡◌, ◌++◌, ℕ, List, [], IfOk, OnOk, string_bytes};
+ghost use Rattle.std.specs.Prelude.{◌≡◌, ◌++◌, [], IfOk, OnOk, option_map, unwrap_or, string_bytes};
 ghost use Rattle.transcode_words.specs.declared.outcome.Outcome.TheVariants.{UnknownRoot};
 ghost use Rattle.transcode_words.specs.Status.{IsNamed};
 ghost use Rattle.people_complaints.specs.Complaints.{IsComplaint, IsWithin, explained};
+ghost use Rattle.people_complaints.specs.Subjects.{program};
 
 use crate::paths::path_at;
 use crate::places::place_of;
@@ -112,7 +113,8 @@ fn root_lines(alloc: Global, names: &[Name]) -> Result<String, Memory> {
 
 // Returns what the complaint about a root is about, and its reason.
 fn root_row(root: Option<&str>) -> (&str, Reason)
-    ensures { IsNamed UnknownRoot result.1.name.now }
+    ensures name { result.0.now ≡ unwrap_or (option_map (λ name. name.now) root.entry) program }
+    ensures reason { IsNamed UnknownRoot result.1.name.now }
 {
     match root {
         Some(name) => (name, Outcome::UnknownRoot.reason()),
@@ -120,14 +122,24 @@ fn root_row(root: Option<&str>) -> (&str, Reason)
     }
 }
 
+// Returns a text with this name and without contents.
+fn titled(name: &str) -> NamedText<'_>
+    ensures name { result.name.now ≡ name.now }
+    ensures contents { result.contents.now ≡ [] }
+{
+    NamedText {
+        name,
+        contents: b"",
+    }
+}
+
 /// Returns the complaint about the root with this name, or about the lack of a root, with the names of the roots that there are.
 pub fn root_complaint(alloc: Global, root: Option<&str>, names: &[Name]) -> Result<String, Memory>
-    ensures { IfOk result (λ text. (name contents : List ℕ) × IsComplaint UnknownRoot name contents (string_bytes text)) }
+    ensures { IfOk result (λ text. IsComplaint UnknownRoot (unwrap_or (option_map (λ name. name.now) root.entry) program) [] (string_bytes text)) }
 {
     let (name, reason) = root_row(root);
     let lines = root_lines(alloc, names)?;
-    let contents = b"".as_slice();
-    let about = NamedText { name, contents };
+    let about = titled(name);
     let mut text = compose(alloc, Outcome::UnknownRoot, reason, about)?;
     text.push_str(lines.as_str())?;
     Ok(text)

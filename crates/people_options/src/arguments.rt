@@ -1,6 +1,6 @@
 //! The words of the command line, with options.
 use crate::mistakes::mistake;
-use crate::options::{Action, Options};
+use crate::options::{Call, CommandName, Given};
 use crate::syntaxes::{syntax_named, wrong_syntax};
 use base_texts::{Memory, Text};
 use clap::error::ErrorKind;
@@ -8,16 +8,6 @@ use clap::{Arg, ArgAction, ArgMatches, Command, Error};
 use std::alloc::{AllocError, Global};
 use std::convert::AsStr;
 use transcode_words::Syntax;
-
-/// A command with its options, and the files that replace the standard streams.
-#[derive(Drop)]
-pub struct Call<'a> {
-    pub options: Options,
-    /// The file to read instead of the standard input.
-    pub input: Option<&'a str>,
-    /// The file to write instead of the standard output.
-    pub output: Option<&'a str>,
-}
 
 /// The meaning of the words.
 #[derive(Drop)]
@@ -227,7 +217,7 @@ const SUBCOMMANDS: &[Subcommand] = &[
 
 fn program<'a>(alloc: Global) -> Command<'a> {
     Command::new(alloc, "ruvkhiska")
-        .version("0.1")
+        .version("1.0.0 (proved by rattle-kit-13f logic dac8208d650f15bf)")
         .about("XML documents of a schema as the few octets of canonical PER, or DER, and back")
         .after_help("Example:\n  ruvkhiska show examples/order.xsd")
         .subcommand_required(true)
@@ -253,16 +243,16 @@ pub fn matches_of<'a, S: AsStr>(alloc: Global, words: &'a [S]) -> Result<ArgMatc
     command(alloc)?.try_get_matches_from(words)
 }
 
-// Returns the action of the command with this name, and `None` for the manual.
-fn action_of(name: &str) -> Option<Action> {
+// Returns the command with this name, and `None` for the manual.
+fn command_named(name: &str) -> Option<CommandName> {
     match name {
-        "show" => Some(Action::Show),
-        "show-back" => Some(Action::ShowBack),
-        "check" => Some(Action::Check),
-        "to-per" => Some(Action::ToPer),
-        "to-xml" => Some(Action::ToXml),
-        "each-to-xml" => Some(Action::EachToXml),
-        "trial" => Some(Action::Trial),
+        "show" => Some(CommandName::Show),
+        "show-back" => Some(CommandName::ShowBack),
+        "check" => Some(CommandName::Check),
+        "to-per" => Some(CommandName::ToPer),
+        "to-xml" => Some(CommandName::ToXml),
+        "each-to-xml" => Some(CommandName::EachToXml),
+        "trial" => Some(CommandName::Trial),
         _ => None,
     }
 }
@@ -282,22 +272,6 @@ fn text_if(alloc: Global, word: Option<&str>) -> Result<Option<Text>, Memory> {
     }
 }
 
-fn options_of(
-    alloc: Global,
-    action: Action,
-    syntax: Syntax,
-    matches: &ArgMatches<'_>,
-) -> Result<Options, Memory> {
-    Ok(Options {
-        action,
-        root: text_if(alloc, matches.get_str("root"))?,
-        words: texts(alloc, matches.get_strs("words").unwrap_or(&[]))?,
-        syntax,
-        plain: matches.get_flag("plain"),
-        stamp: matches.get_flag("stamp"),
-    })
-}
-
 // Returns an error about a value, with this message.
 fn value_error(alloc: Global, message: &str) -> Result<Error, AllocError> {
     command(alloc)?.error(ErrorKind::InvalidValue, message)
@@ -308,18 +282,55 @@ fn syntax_error(alloc: Global, name: &str) -> Result<Error, AllocError> {
     value_error(alloc, message.as_str())
 }
 
-// Returns the command with its options.
-fn call_of<'a>(alloc: Global, action: Action, matches: &ArgMatches<'a>) -> Result<Call<'a>, Error> {
-    let name = matches.get_str("syntax");
-    let Some(syntax) = syntax_named(name) else {
-        return Err(syntax_error(alloc, name.unwrap_or(""))?);
+// Returns the syntax that the options name, if they name one.
+fn syntax_given(alloc: Global, matches: &ArgMatches<'_>) -> Result<Option<Syntax>, Error> {
+    let Some(name) = matches.get_str("syntax") else {
+        return Ok(None);
     };
-    match options_of(alloc, action, syntax, matches) {
-        Ok(options) => Ok(Call {
-            options,
-            input: matches.get_str("input"),
-            output: matches.get_str("output"),
-        }),
+    match syntax_named(name) {
+        Some(syntax) => Ok(Some(syntax)),
+        None => Err(syntax_error(alloc, name)?),
+    }
+}
+
+// Returns the options, with this syntax.
+fn given_of<'a>(
+    alloc: Global,
+    syntax: Option<Syntax>,
+    matches: &ArgMatches<'a>,
+) -> Result<Given<'a>, Memory> {
+    Ok(Given {
+        root: text_if(alloc, matches.get_str("root"))?,
+        syntax,
+        plain: matches.get_flag("plain"),
+        stamp: matches.get_flag("stamp"),
+        input: matches.get_str("input"),
+        output: matches.get_str("output"),
+    })
+}
+
+// Returns the command with its options and its words.
+fn called<'a>(
+    alloc: Global,
+    command: CommandName,
+    syntax: Option<Syntax>,
+    matches: &ArgMatches<'a>,
+) -> Result<Call<'a>, Memory> {
+    Ok(Call {
+        command,
+        given: given_of(alloc, syntax, matches)?,
+        words: texts(alloc, matches.get_strs("words").unwrap_or(&[]))?,
+    })
+}
+
+fn call_of<'a>(
+    alloc: Global,
+    command: CommandName,
+    matches: &ArgMatches<'a>,
+) -> Result<Call<'a>, Error> {
+    let syntax = syntax_given(alloc, matches)?;
+    match called(alloc, command, syntax, matches) {
+        Ok(call) => Ok(call),
         Err(Memory) => Err(Error::from(AllocError)),
     }
 }
@@ -327,8 +338,8 @@ fn call_of<'a>(alloc: Global, action: Action, matches: &ArgMatches<'a>) -> Resul
 fn tried<'a>(alloc: Global, words: &'a [String]) -> Result<Parsed<'a>, Error> {
     let matches = matches_of(alloc, words)?;
     let (name, found) = matches.subcommand().unwrap_or(("manual", &matches));
-    match action_of(name) {
-        Some(action) => Ok(Parsed::Call(call_of(alloc, action, found)?)),
+    match command_named(name) {
+        Some(command) => Ok(Parsed::Call(call_of(alloc, command, found)?)),
         None => Ok(Parsed::Manual),
     }
 }
@@ -347,21 +358,21 @@ pub fn parse_words<'a>(alloc: Global, words: &'a [String]) -> Result<Parsed<'a>,
 }
 
 // Returns what a command requires that makes no request.
-fn requirement(action: Action) -> &'static str {
-    match action {
-        Action::Show => {
+fn requirement(command: CommandName) -> &'static str {
+    match command {
+        CommandName::Show => {
             "show requires 1 to 64 FILEs, and accepts at most one of --plain and --stamp"
         }
-        Action::ShowBack => "show-back requires one FILE",
-        Action::Trial => "N is a number from 1 to 100000",
-        Action::Check | Action::ToPer | Action::ToXml | Action::EachToXml => {
+        CommandName::ShowBack => "show-back requires one FILE",
+        CommandName::Trial => "N is a number from 1 to 100000",
+        CommandName::Check | CommandName::ToPer | CommandName::ToXml | CommandName::EachToXml => {
             "ROOT is name or {namespace}name, and there are 1 to 64 FILEs"
         }
     }
 }
 
 /// Returns the message about options that make no request.
-pub fn no_request(alloc: Global, action: Action, words: &[String]) -> Result<String, Error> {
-    let error = value_error(alloc, requirement(action))?;
+pub fn no_request(alloc: Global, command: CommandName, words: &[String]) -> Result<String, Error> {
+    let error = value_error(alloc, requirement(command))?;
     Ok(mistake(alloc, &error, words)?)
 }

@@ -1,5 +1,7 @@
 //! The schema files of the system. The contents that were loaded are kept for complaints.
-ghost use Rattle.std.specs.Prelude.{◌≡◌, ◌++◌, [], ◌∷◌, None, false, map, IfSome, IsNone};
+ghost use Rattle.std.specs.Prelude.{◌≡◌, ◌++◌, [], ◌∷◌, None, Some, false, map, IfSome, IsNone};
+ghost use Rattle.base_texts.specs.Entries.{after_next};
+ghost use Rattle.people_options.specs.Kept.{files_kept};
 
 use crate::progress::Progress;
 use base_files::Folder;
@@ -8,26 +10,40 @@ use std::alloc::Global;
 use std::rt::Files;
 use std::time::Clock;
 
-/// A library over the files of the system that keeps the contents of each load. Each load opens its file.
+/// A library over the files of a request in the system, each of which is loaded once, in their order. It keeps the contents of each.
 #[derive(Drop)]
 pub struct LoadedFiles<'a, R> {
     folder: Folder<'a, R>,
+    // The names of the files that aren't loaded yet.
+    names: &'a [Text],
     // None once there was no memory to keep contents.
     kept: Option<Vec<Vec<u8>>>,
     progress: &'a Progress<'a, R>,
 }
 
 impl<'a, R: Files + Clock> LoadedFiles<'a, R> {
-    pub fn new(alloc: Global, rt: &'a R, progress: &'a Progress<'a, R>) -> LoadedFiles<'a, R> {
+    /// Returns the library of the files with these names. None of them is loaded.
+    pub fn new(
+        alloc: Global,
+        rt: &'a R,
+        names: &'a [Text],
+        progress: &'a Progress<'a, R>,
+    ) -> LoadedFiles<'a, R>
+        ensures names { result.names.now ≡ names.entry.now }
+        ensures faults { result.folder.faults ≡ 0 }
+    {
         LoadedFiles {
             folder: Folder::new(rt),
+            names,
             kept: Some(Vec::new(alloc)),
             progress,
         }
     }
 
     /// Returns the contents of the files that were loaded, in their order; nothing if there was no memory to keep them.
-    pub fn kept(&self) -> &[Vec<u8>] {
+    pub fn kept(&self) -> &[Vec<u8>]
+        ensures { map (λ file. file.items) result.now ≡ files_kept self.now.kept }
+    {
         match &self.kept {
             Some(files) => files.as_slice(),
             None => &[],
@@ -49,14 +65,29 @@ fn keep(alloc: Global, kept: &mut Option<Vec<Vec<u8>>>, bytes: &[u8])
     }
 }
 
+// Returns the names after the next one.
+fn after(names: &[Text]) -> &[Text]
+    ensures { Some result.now ≡ after_next (Some names.now) }
+{
+    match names {
+        [_, rest @ ..] => rest,
+        [] => names,
+    }
+}
+
 impl<'a, R: Files + Clock> Library for LoadedFiles<'a, R> {
+    ghost use Rattle.std.specs.Prelude.{Some};
+
     ghost entries = { λ _. None };
 
     ghost is_sure = { λ _. false };
 
     ghost faults = { λ s. s.folder.faults };
 
+    ghost agenda = { λ s. Some s.names.now };
+
     fn load(&mut self, alloc: Global, name: &Text, limit: u64) -> Result<Vec<u8>, LoadError> {
+        self.names = after(self.names);
         let bytes = self.folder.load(alloc, name, limit)?;
         self.progress.add(bytes.len());
         keep(alloc, &mut self.kept, &bytes);

@@ -1,5 +1,6 @@
 //! The input: a file or the standard input. What was read is kept for complaints.
-ghost use Rattle.std.specs.Prelude.{◌≡◌, ◌++◌, None, IfSome, IsNone};
+ghost use Rattle.std.specs.Prelude.{◌≡◌, ◌++◌, None, IfOk, IfSome, IsNone};
+ghost use Rattle.people_options.specs.Kept.{input_kept};
 
 use crate::progress::{Counted, Progress};
 use base_files::Buffered;
@@ -33,7 +34,9 @@ impl<'a, R: Files + Clock> Input<'a, R> {
         stdin: Stdin,
         progress: &'a Progress<'a, R>,
         keeps: bool,
-    ) -> Result<Input<'a, R>, Memory> {
+    ) -> Result<Input<'a, R>, Memory>
+        ensures { IfOk result (λ input. input.faults ≡ 0) }
+    {
         let counted = Counted::new(stdin, progress);
         let origin = Origin::Standard(Buffered::new(alloc, counted)?);
         Ok(Input::of(alloc, origin, keeps))
@@ -46,7 +49,9 @@ impl<'a, R: Files + Clock> Input<'a, R> {
         name: &str,
         progress: &'a Progress<'a, R>,
         keeps: bool,
-    ) -> Result<Input<'a, R>, Memory> {
+    ) -> Result<Input<'a, R>, Memory>
+        ensures { IfOk result (λ input. input.faults ≡ 0) }
+    {
         let origin = match fs::open(rt, name) {
             Ok(file) => Origin::File(Buffered::new(alloc, Counted::new(file, progress))?),
             Err(_) => Origin::Missing,
@@ -54,7 +59,9 @@ impl<'a, R: Files + Clock> Input<'a, R> {
         Ok(Input::of(alloc, origin, keeps))
     }
 
-    fn of(alloc: Global, origin: Origin<'a, R>, keeps: bool) -> Input<'a, R> {
+    fn of(alloc: Global, origin: Origin<'a, R>, keeps: bool) -> Input<'a, R>
+        ensures { result.faults ≡ 0 }
+    {
         let kept = if keeps { Some(Vec::new(alloc)) } else { None };
         Input {
             origin,
@@ -64,7 +71,9 @@ impl<'a, R: Files + Clock> Input<'a, R> {
     }
 
     /// Returns what was read, if it is kept.
-    pub fn kept(&self) -> &[u8] {
+    pub fn kept(&self) -> &[u8]
+        ensures { result.now ≡ input_kept self.now.kept }
+    {
         match &self.kept {
             Some(bytes) => bytes.as_slice(),
             None => b"",

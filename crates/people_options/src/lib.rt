@@ -14,10 +14,10 @@ mod outputs;
 mod progress;
 mod syntaxes;
 
-pub use arguments::{Call, Parsed, no_request, parse_words};
+pub use arguments::{Parsed, no_request, parse_words};
 pub use files::LoadedFiles;
 pub use inputs::Input;
 pub use manual::manual_page;
-pub use options::{Action, Options};
+pub use options::{Action, Call, CommandName, Given};
 pub use outputs::Output;
 pub use progress::Progress;

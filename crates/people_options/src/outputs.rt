@@ -143,7 +143,9 @@ impl<'a, R: Files + Clock> Output<'a, R> {
         stdout: Stdout,
         note: Option<Stderr>,
         progress: &'a Progress<'a, R>,
-    ) -> Output<'a, R> {
+    ) -> Output<'a, R>
+        ensures { result.faults ≡ 0 }
+    {
         Output {
             place: Place::Standard(Writing::new(stdout)),
             progress,
@@ -160,7 +162,9 @@ impl<'a, R: Files + Clock> Output<'a, R> {
         name: &'a str,
         is_whole: bool,
         progress: &'a Progress<'a, R>,
-    ) -> Output<'a, R> {
+    ) -> Output<'a, R>
+        ensures { result.faults ≡ 0 }
+    {
         Output {
             place: Place::File(Saved {
                 alloc,
@@ -178,7 +182,8 @@ impl<'a, R: Files + Clock> Output<'a, R> {
     /// Completes the output of a request with this outcome, and returns the outcome. It is another only where a complete file
     /// can't get its name.
     pub fn finish(&mut self, outcome: Outcome) -> Outcome
-        ensures { (result ≡ outcome) ⊎ ((outcome ≡ Outcome.Done) × (result ≡ Outcome.WriteFault)) }
+        ensures result { (result ≡ outcome) ⊎ ((outcome ≡ Outcome.Done) × (result ≡ Outcome.WriteFault)) }
+        ensures same { self.new.faults ≡ self.old.faults }
     {
         let Place::File(saved) = &mut self.place else {
             return outcome;

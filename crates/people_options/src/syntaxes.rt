@@ -2,19 +2,16 @@
 use std::alloc::{AllocError, Global};
 use transcode_words::Syntax;
 
-// The first is the default. A further one is a row here.
+// A further one is a row here.
 const SYNTAXES: &[(&str, Syntax)] = &[
     ("per", Syntax::Aligned),
     ("uper", Syntax::Unaligned),
     ("der", Syntax::Der),
 ];
 
-/// Returns the syntax of this name; without a name, the first.
-pub fn syntax_named(name: Option<&str>) -> Option<Syntax> {
-    match name {
-        Some(name) => SYNTAXES.iter().find(|row| row.0 == name).map(|row| row.1),
-        None => SYNTAXES.first().map(|row| row.1),
-    }
+/// Returns the syntax of this name.
+pub fn syntax_named(name: &str) -> Option<Syntax> {
+    SYNTAXES.iter().find(|row| row.0 == name).map(|row| row.1)
 }
 
 /// Returns the message about a name that no syntax has.

@@ -9,6 +9,6 @@ use Rattle.people_results.specs.Serving.{IsAnswer, Serves}
 
 -- the outcome, once the file of the output has its name or can't get it
 pub finished : (asked : Asked) (old new : Environment) (A B : Type 0) (o : Outcome) → Answers asked old new A B o → (r : Outcome) → (r ≡ o) ⊎ ((o ≡ Done) × (r ≡ WriteFault))
-    → Serves asked r
-finished asked old new A B o a r (inl same) = inl (old, new, subst (λ p. Answers asked old new (Unit {0}) (Unit {0}) p) (sym same) (answers_unseen old new A B o asked a))
-finished asked old new A B o a r (inr (is, fault)) = inr (fault, (old, new, subst (λ p. Answers asked old new (Unit {0}) (Unit {0}) p) is (answers_unseen old new A B o asked a)))
+    → Serves asked old new r
+finished asked old new A B o a r (inl same) = inl (subst (λ p. IsAnswer asked old new p) (sym same) (answers_unseen old new A B o asked a))
+finished asked old new A B o a r (inr (is, fault)) = inr (fault, subst (λ p. IsAnswer asked old new p) is (answers_unseen old new A B o asked a))

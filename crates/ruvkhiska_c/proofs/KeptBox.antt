@@ -6,8 +6,8 @@ use Rattle.std_alloc.proofs.BoxSteps.Form.{Bx}
 use Rattle.std_heap.specs.contracts.Global as Heap
 use Rattle.std_heap.specs.contracts.GlobalAllocator.TheImpl.{ghosts, dict}
 use Rattle.std_heap.proofs.Global.TheLaws as heap
-use Rattle.transcode_core.specs.contracts.prepared.Prepared as Held
-use Rattle.transcode_core.proofs.prepared.Prepared.TheLaws as held
+use Rattle.transcode_messages.specs.contracts.shared.Shared as Held
+use Rattle.transcode_messages.proofs.shared.Shared.TheLaws as held
 use Rattle.ruvkhiska_c.specs.contracts.parts.Parts as Parts
 use Rattle.ruvkhiska_c.specs.contracts.kept.Kept as Kept
 

@@ -1,4 +1,4 @@
--- What a `Kept` owns: what a `Box<Prepared>` does, or nothing.
+-- What a `Kept` owns: what a `Box<Shared>` does, or nothing.
 use base.Fml.{Fml, ftrue}
 use base.Stored.{Coded}
 use denote.RawPtr.{Ptr}
@@ -8,7 +8,7 @@ use Rattle.std.specs.declared.option.Option.{Option}
 use Rattle.std.specs.declared.option.Option.TheVariants.{None, Some}
 use Rattle.std.specs.declared.alloc.Global.{Global}
 use Rattle.std.specs.contracts.impls.GlobalAllocator.TheImpl.{ghosts}
-use Rattle.transcode_core.specs.contracts.prepared.Prepared.{the_row}
+use Rattle.transcode_messages.specs.contracts.shared.Shared.{the_row}
 
 abbrev pub kept_owns : Global → Ptr → Option the_row.Denot → Fml
 kept_owns alloc p None = ftrue

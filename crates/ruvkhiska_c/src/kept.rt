@@ -1,13 +1,13 @@
 //! What C keeps between calls: a box of what was prepared, as its pointer, or nothing.
 ghost use Rattle.std.specs.Prelude.{◌≡◌, IsSome, Option, None, Some};
-ghost use Rattle.transcode_core.specs.declared.prepared.Prepared.{Prepared as Held};
+ghost use Rattle.transcode_messages.specs.declared.shared.Shared.{Shared as Held};
 ghost use Rattle.ruvkhiska_c.specs.Kept.{kept_owns, kept_coded};
 
 use crate::parts::Parts;
 use std::alloc::Global;
 use std::marker::Model;
 use std::ptr::null_mut;
-use transcode_messages::Prepared;
+use transcode_messages::Shared;
 
 /// In C one pointer.
 #[repr(C)]
@@ -30,13 +30,13 @@ impl Kept {
         Kept::nothing(at, alloc)
     }
 
-    pub(crate) fn of(b: Box<Prepared>) -> Kept
+    pub(crate) fn of(b: Box<Shared>) -> Kept
         ensures { result.value ≡ Some b.value }
     {
         Kept::of_parts(Parts::of(b))
     }
 
-    pub(crate) fn into_box(self) -> Box<Prepared>
+    pub(crate) fn into_box(self) -> Box<Shared>
         requires { IsSome self.value }
         ensures { self.value ≡ Some result.value }
     {
@@ -49,7 +49,7 @@ impl Kept {
         Kept { ptr, alloc }
     }
 
-    fn of_parts(parts: Parts<Prepared, Global>) -> Kept
+    fn of_parts(parts: Parts<Shared, Global>) -> Kept
         ensures { result.value ≡ Some parts.value }
     {
         let Parts { ptr, alloc } = parts;
@@ -59,13 +59,13 @@ impl Kept {
         }
     }
 
-    fn into_parts(self) -> Parts<Prepared, Global>
+    fn into_parts(self) -> Parts<Shared, Global>
         requires { IsSome self.value }
         ensures { self.value ≡ Some result.value }
     {
         let Kept { ptr, alloc } = self;
         Parts {
-            ptr: ptr.cast::<Prepared>(),
+            ptr: ptr.cast::<Shared>(),
             alloc,
         }
     }

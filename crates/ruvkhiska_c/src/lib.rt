@@ -3,13 +3,14 @@
 //! Read first: `specs/Statuses`, then the calls below; `src/slots.rt` has what C holds between them.
 #![tactic(auto)]
 
-ghost use Rattle.std.specs.Prelude.{◌≡◌, ◌≢◌, ◌↔◌, ◌⊎◌, ◌<◌, ◌++◌, [], ◌∷◌, pos, take, length, IsUtf8, IfSome, IfErr, IsSomeAnd, MatchResult, None, Some, Ok};
+ghost use Rattle.std.specs.Prelude.{◌≡◌, ◌≢◌, ◌↔◌, ◌⊎◌, ◌<◌, ◌++◌, [], ◌∷◌, pos, length, IsUtf8, IfSome, IfErr, IsSomeAnd, MatchResult, None, Some, Ok};
 ghost use Rattle.transcode_words.specs.Answers.{Answers, NoMemory, IsRefusal};
 ghost use Rattle.transcode_words.specs.Status.{status};
 ghost use Rattle.transcode_core.specs.Preparing.{prepared_seen};
 ghost use Rattle.transcode_core.specs.Due.{Checked};
 ghost use Rattle.transcode_core.specs.ReadBack.{DocumentedBack};
-ghost use Rattle.transcode_messages.specs.Messages.{IsLine};
+ghost use Rattle.transcode_core.specs.Stamps.{Stamped};
+ghost use Rattle.ruvkhiska_c.specs.Complaints.{Tells, IsQuiet};
 ghost use Rattle.ruvkhiska_c.specs.Statuses.{Refuses, files_in, PreparedOf, syntax_numbered, EncodedBy, DocumentedBy};
 ghost use Rattle.ruvkhiska_c.specs.Pointing.{PointsTo};
 
@@ -19,10 +20,12 @@ mod given;
 mod kept;
 mod listed;
 mod parts;
+mod places;
+mod records;
 mod slots;
 
-use crate::boxes::{decode_boxed, encode_boxed, prepare_boxed};
-use crate::complaint::{Complaint, tell};
+use crate::boxes::{decode_boxed, encode_boxed, prepare_boxed, share_boxed};
+use crate::complaint::{Complaint, clear, tell};
 use crate::slots::{
     Bytes, Converter, Files, close, closed, drop_files, free, give, hold, no_files, nothing, open,
 };
@@ -30,7 +33,11 @@ use base_texts::Memory;
 use std::alloc::Global;
 use std::mem::replace;
 use std::str::from_utf8;
-use transcode_messages::{AddError, Message, Outcome, Prepared, SchemaFiles, check};
+use transcode_core::STAMP_LENGTH;
+use transcode_messages::{AddError, Message, Outcome, SchemaFiles, Shared, check};
+
+// Major, minor and patch, two digits each.
+const VERSION: u32 = 10_000;
 
 const DONE: i32 = 0;
 
@@ -98,7 +105,7 @@ fn prepare_slot(
     files: &mut Files,
     space: &[u8],
     local: &[u8],
-) -> Result<Box<Prepared>, Outcome>
+) -> Result<Box<Shared>, Outcome>
     ensures due { Answers (λ b. prepared_seen b.value) (PreparedOf (files_in files.old.listed.value) space.now local.now) NoMemory result }
     ensures same { files.new.listed.value ≡ files.old.listed.value }
 {
@@ -125,18 +132,56 @@ pub extern "C" fn ruvkhiska_open(
 ) -> i32
     ensures same_files { files.new.listed.value ≡ files.old.listed.value }
     ensures opened { result ≡ pos 0 → IsSomeAnd converter.new.kept.value (λ p. PreparedOf (files_in files.old.listed.value) space.now local.now (Ok (prepared_seen p))) }
-    ensures refused { result ≢ pos 0 → Refuses (PreparedOf (files_in files.old.listed.value) space.now local.now) result (take complaint.new.count complaint.new.text) }
+    ensures refused { result ≢ pos 0 → Refuses (PreparedOf (files_in files.old.listed.value) space.now local.now) result complaint.new }
     ensures unchanged { result ≢ pos 0 → converter.new.kept.value ≡ converter.old.kept.value }
-    ensures quiet { result ≡ pos 0 → complaint.new.count ≡ 0 }
+    ensures quiet { result ≡ pos 0 → IsQuiet complaint.new }
 {
     match prepare_slot(alloc, files, space, local) {
         Ok(b) => {
             close(replace(converter, open(b)));
-            complaint.count = 0;
+            clear(complaint);
             DONE
         }
         Err(outcome) => tell(outcome, complaint),
     }
+}
+
+/// Opens the second converter on what the first one has, for another thread. On 0 both own it, and what the second had before is
+/// closed. Otherwise the second is as it was.
+#[unsafe(no_mangle)]
+pub extern "C" fn ruvkhiska_share(
+    alloc: Global,
+    converter: &mut Converter,
+    mine: &mut Converter,
+) -> i32
+    ensures same { converter.new.kept.value ≡ converter.old.kept.value }
+    ensures is_closed { (result ≡ pos 40) ↔ (converter.old.kept.value ≡ None) }
+    ensures shared { result ≡ pos 0 → mine.new.kept.value ≡ converter.old.kept.value }
+    ensures unchanged { result ≢ pos 0 → mine.new.kept.value ≡ mine.old.kept.value }
+    ensures statuses { (result ≡ pos 0) ⊎ ((result ≡ pos 30) ⊎ (result ≡ pos 40)) }
+{
+    let Converter { is_open, kept } = replace(converter, closed(alloc));
+    if !is_open {
+        return CLOSED;
+    }
+    let shared = kept.into_box();
+    let more = share_boxed(alloc, &shared);
+    let _ = replace(converter, open(shared));
+    match more {
+        Ok(b) => {
+            close(replace(mine, open(b)));
+            DONE
+        }
+        Err(_) => OUT_OF_MEMORY,
+    }
+}
+
+/// Returns the version of the library: 10,000 for 1.0.0.
+#[unsafe(no_mangle)]
+pub extern "C" fn ruvkhiska_version() -> u32
+    ensures { result ≡ 10000 }
+{
+    VERSION
 }
 
 /// Closes the converter.
@@ -158,17 +203,17 @@ pub extern "C" fn ruvkhiska_check(
     ensures same { converter.new.kept.value ≡ converter.old.kept.value }
     ensures is_closed { (result ≡ pos 40) ↔ (converter.old.kept.value ≡ None) }
     ensures valid { result ≡ pos 0 → IfSome converter.old.kept.value (λ p. Checked (prepared_seen p) (Some document.now) (Ok [])) }
-    ensures refused { result ≢ pos 0 → IfSome converter.old.kept.value (λ p. Refuses (Checked (prepared_seen p) (Some document.now)) result (take complaint.new.count complaint.new.text)) }
-    ensures quiet { (result ≡ pos 0) ⊎ (result ≡ pos 40) → complaint.new.count ≡ 0 }
+    ensures refused { result ≢ pos 0 → IfSome converter.old.kept.value (λ p. Refuses (Checked (prepared_seen p) (Some document.now)) result complaint.new) }
+    ensures quiet { (result ≡ pos 0) ⊎ (result ≡ pos 40) → IsQuiet complaint.new }
 {
-    complaint.count = 0;
+    clear(complaint);
     let Converter { is_open, kept } = replace(converter, closed(alloc));
     if !is_open {
         return CLOSED;
     }
-    let prepared = kept.into_box();
-    let checked = check(alloc, &prepared, document);
-    let _ = replace(converter, open(prepared));
+    let shared = kept.into_box();
+    let checked = check(alloc, shared.prepared(), document);
+    let _ = replace(converter, open(shared));
     match checked {
         Ok(()) => DONE,
         Err(outcome) => tell(outcome, complaint),
@@ -184,15 +229,15 @@ fn hand_out(
     requires { IfErr answered (λ o. IsRefusal o ⊎ NoMemory o) }
     ensures answer { MatchResult answered
         (λ b. (result ≡ pos 0) × (answer.new.given.value ≡ Some b.value) × PointsTo answer.new.start answer.new.count b.value)
-        (λ o. (result ≡ pos (status o)) × (answer.new.given.value ≡ answer.old.given.value) × IsLine o (take complaint.new.count complaint.new.text)) }
+        (λ o. (result ≡ pos (status o)) × (answer.new.given.value ≡ answer.old.given.value) × Tells o complaint.new) }
     ensures not_closed { result ≢ pos 40 }
     ensures not_done { IfErr answered (λ _. result ≢ pos 0) }
-    ensures quiet { result ≡ pos 0 → complaint.new.count ≡ 0 }
+    ensures quiet { result ≡ pos 0 → IsQuiet complaint.new }
 {
     match answered {
         Ok(b) => {
             free(replace(answer, give(b)));
-            complaint.count = 0;
+            clear(complaint);
             DONE
         }
         Err(outcome) => tell(outcome, complaint),
@@ -213,18 +258,18 @@ pub extern "C" fn ruvkhiska_encode(
     ensures is_closed { (result ≡ pos 40) ↔ (converter.old.kept.value ≡ None) }
     ensures given { result ≡ pos 0 → IfSome converter.old.kept.value (λ p. IsSomeAnd answer.new.given.value (λ m.
         EncodedBy syntax (prepared_seen p) document.now (Ok m.bytes.items) × PointsTo answer.new.start answer.new.count m)) }
-    ensures refused { result ≢ pos 0 → IfSome converter.old.kept.value (λ p. Refuses (EncodedBy syntax (prepared_seen p) document.now) result (take complaint.new.count complaint.new.text)) }
+    ensures refused { result ≢ pos 0 → IfSome converter.old.kept.value (λ p. Refuses (EncodedBy syntax (prepared_seen p) document.now) result complaint.new) }
     ensures unchanged { result ≢ pos 0 → answer.new.given.value ≡ answer.old.given.value }
-    ensures quiet { (result ≡ pos 0) ⊎ (result ≡ pos 40) → complaint.new.count ≡ 0 }
+    ensures quiet { (result ≡ pos 0) ⊎ (result ≡ pos 40) → IsQuiet complaint.new }
 {
     let Converter { is_open, kept } = replace(converter, closed(alloc));
     if !is_open {
-        complaint.count = 0;
+        clear(complaint);
         return CLOSED;
     }
-    let prepared = kept.into_box();
-    let encoded = encode_boxed(alloc, &prepared, syntax, document);
-    let _ = replace(converter, open(prepared));
+    let shared = kept.into_box();
+    let encoded = encode_boxed(alloc, shared.prepared(), syntax, document);
+    let _ = replace(converter, open(shared));
     hand_out(encoded, answer, complaint)
 }
 
@@ -244,19 +289,48 @@ pub extern "C" fn ruvkhiska_decode(
         DocumentedBy syntax (prepared_seen p) octets.now (Ok m.bytes.items) × PointsTo answer.new.start answer.new.count m)) }
     ensures back { result ≡ pos 0 → IfSome converter.old.kept.value (λ p. IsSomeAnd answer.new.given.value (λ m.
         IfSome (syntax_numbered syntax) (λ s. DocumentedBack s (prepared_seen p) (Some octets.now) m.bytes.items))) }
-    ensures refused { result ≢ pos 0 → IfSome converter.old.kept.value (λ p. Refuses (DocumentedBy syntax (prepared_seen p) octets.now) result (take complaint.new.count complaint.new.text)) }
+    ensures refused { result ≢ pos 0 → IfSome converter.old.kept.value (λ p. Refuses (DocumentedBy syntax (prepared_seen p) octets.now) result complaint.new) }
     ensures unchanged { result ≢ pos 0 → answer.new.given.value ≡ answer.old.given.value }
-    ensures quiet { (result ≡ pos 0) ⊎ (result ≡ pos 40) → complaint.new.count ≡ 0 }
+    ensures quiet { (result ≡ pos 0) ⊎ (result ≡ pos 40) → IsQuiet complaint.new }
 {
     let Converter { is_open, kept } = replace(converter, closed(alloc));
     if !is_open {
-        complaint.count = 0;
+        clear(complaint);
         return CLOSED;
     }
-    let prepared = kept.into_box();
-    let decoded = decode_boxed(alloc, &prepared, syntax, octets);
-    let _ = replace(converter, open(prepared));
+    let shared = kept.into_box();
+    let decoded = decode_boxed(alloc, shared.prepared(), syntax, octets);
+    let _ = replace(converter, open(shared));
     hand_out(decoded, answer, complaint)
+}
+
+/// Writes the stamp of the set, which has 8 octets. On anything but 0 they are as they were.
+#[unsafe(no_mangle)]
+pub extern "C" fn ruvkhiska_stamp(alloc: Global, converter: &mut Converter, stamp: &mut [u8]) -> i32
+    ensures same { converter.new.kept.value ≡ converter.old.kept.value }
+    ensures is_closed { (result ≡ pos 40) ↔ (converter.old.kept.value ≡ None) }
+    ensures stamped { result ≡ pos 0 → IfSome converter.old.kept.value (λ p. Stamped (prepared_seen p) (Ok stamp.new)) }
+    ensures unchanged { result ≢ pos 0 → stamp.new ≡ stamp.old }
+    ensures usage { result ≡ pos 2 → length stamp.old ≢ 8 }
+    ensures statuses { (result ≡ pos 0) ⊎ ((result ≡ pos 2) ⊎ ((result ≡ pos 30) ⊎ (result ≡ pos 40))) }
+{
+    let Converter { is_open, kept } = replace(converter, closed(alloc));
+    if !is_open {
+        return CLOSED;
+    }
+    let shared = kept.into_box();
+    let made = shared.prepared().stamp(alloc);
+    let _ = replace(converter, open(shared));
+    if stamp.len() != STAMP_LENGTH {
+        return USAGE;
+    }
+    match made {
+        Ok(octets) => {
+            stamp.copy_from_slice(octets.as_slice());
+            DONE
+        }
+        Err(_) => OUT_OF_MEMORY,
+    }
 }
 
 /// Frees the answer.

@@ -8,7 +8,7 @@ use crate::kept::Kept;
 use crate::listed::Listed;
 use std::alloc::Global;
 use std::ptr::null;
-use transcode_messages::{Message, Prepared, SchemaFiles};
+use transcode_messages::{Message, SchemaFiles, Shared};
 
 /// In C `struct { bool is_open; void *at; }`, zeros at first, and never copied while it is open: what was prepared.
 #[repr(C)]
@@ -49,7 +49,7 @@ pub(crate) fn closed(alloc: Global) -> Converter
     }
 }
 
-pub(crate) fn open(b: Box<Prepared>) -> Converter
+pub(crate) fn open(b: Box<Shared>) -> Converter
     ensures { result.kept.value ≡ Some b.value }
 {
     Converter {

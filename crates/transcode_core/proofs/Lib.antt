@@ -2,6 +2,7 @@ pub mod SetLaws
 pub mod Roots
 pub mod Single
 pub mod Loading
+pub mod Agendas
 pub mod DerOctets
 pub mod Syntaxes
 pub mod Octets
@@ -20,3 +21,4 @@ pub mod EachLaws
 pub mod Ready
 pub mod Exits
 pub mod Requests
+pub mod FirstRecords

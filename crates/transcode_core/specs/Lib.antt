@@ -1,6 +1,7 @@
 pub mod Syntaxes
 pub mod Trial
 pub mod Causes
+pub mod Agendas
 pub mod Steps
 pub mod Due
 pub mod Preparing
@@ -11,3 +12,5 @@ pub mod Runs
 pub mod Environments
 pub mod Digits
 pub mod Requests
+pub mod Next
+pub mod Stamps

@@ -26,8 +26,8 @@ const LIMIT: u64 = 1_073_741_824;
 /// The number of turns after which these octets are at their end: each record has at least one octet, and the last turn finds the end.
 const TURNS: u64 = 1_073_741_825;
 
-// Returns the document of a record's value.
-fn record_text(
+/// Returns the document of a record's value.
+pub fn record_text(
     alloc: Global,
     opened: &Opened,
     typed: &RootModule,

@@ -16,6 +16,7 @@ mod judging;
 mod laws;
 mod linking;
 mod modules;
+mod next;
 mod opened;
 mod opening;
 mod prepared;
@@ -34,9 +35,10 @@ pub use asking::answer;
 pub use counting::run_in;
 pub use environments::Environment;
 pub use laws::{
-    back_and_there, complete, exactly_one_of_both, one_answer, order, some_answer, there_and_back,
-    trial_elements,
+    back_and_there, complete, exactly_one_of_both, one_answer, order, records_back_and_there,
+    records_there_and_back, some_answer, there_and_back, trial_elements,
 };
+pub use next::NextRecord;
 pub use prepared::Prepared;
 pub use stamps::{STAMP_LENGTH, stamp_line, stamp_of};
 pub use top::run;

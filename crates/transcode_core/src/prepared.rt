@@ -3,14 +3,16 @@ ghost use Rattle.std.specs.Prelude.{◌≡◌, ℕ, ◌+◌, ◌*◌, ◌≤◌,
 ghost use Rattle.std.specs.Io.KnownBytes.{IsAtEnd};
 ghost use Rattle.schema_components.specs.SetParts.{parts_of};
 ghost use Rattle.xml_items.specs.Counts.{element_count};
-ghost use Rattle.transcode_words.specs.Seen.{root_seen};
+ghost use Rattle.transcode_words.specs.AskedSeen.{chosen_seen};
 ghost use Rattle.transcode_words.specs.Order.{Give, Then};
 ghost use Rattle.transcode_words.specs.Answers.{Answers, NoMemory};
+ghost use Rattle.transcode_core.specs.Agendas.{Begins, LoadsFirst};
 ghost use Rattle.transcode_core.specs.Private.Seen.{opened_seen};
 ghost use Rattle.transcode_core.specs.Preparing.{prepared_seen};
 ghost use Rattle.transcode_core.specs.Steps.{RootType, Typed, Judged, ValueIn, Encoding};
-ghost use Rattle.transcode_core.specs.Due as due;
 ghost use Rattle.transcode_core.specs.Due.{ItemsIn, Checked, Encoded, Documented};
+ghost use Rattle.transcode_core.specs.Next.{NextDocument, NextBack};
+ghost use Rattle.transcode_core.specs.Stamps.{Stamped};
 ghost use Rattle.transcode_core.specs.Requests.Answers.{ReceivedBack, TakesRecords, TakesStamped};
 ghost use Rattle.transcode_core.specs.Requests.Due as request;
 ghost use Rattle.transcode_core.specs.Requests.Records.{EndsRecords, streams_of};
@@ -20,18 +22,20 @@ ghost use Rattle.transcode_core.specs.Causes.{SomeLoad, OneRead, TakesOctets, St
 use crate::documents::{lent_items, read_items};
 use crate::each::write_records;
 use crate::judging::{check_input, judge};
+use crate::next::{NextRecord, next_record};
 use crate::opened::{Opened, RootModule};
 use crate::opening::open_asked;
 use crate::receiving::write_input;
 use crate::sending::{encode_value, value_of};
 use crate::stamped::{pass_stamp, with_stamp};
+use crate::stamps::{STAMP_LENGTH, module_stamp};
 use crate::typing::map_root;
 use base_texts::{Library, Sink, Source, Steps, Text};
 use std::alloc::Global;
 use std::marker::Model;
 use std::sync::ledger::Ledger;
-use transcode_words::asked::Root as Chosen;
-use transcode_words::{Outcome, Root, Syntax};
+use transcode_words::asked::Root;
+use transcode_words::{Outcome, Syntax};
 use value_laws::documents_of_values;
 use xml_read::Items;
 
@@ -77,13 +81,15 @@ impl Prepared {
         root: Root<'_>,
         names: &[Text],
     ) -> Result<Prepared, Outcome>
-        requires { length names.now ≤ 64 }
-        ensures due { Answers prepared_seen (due.Opened (F.entries files.old) (root_seen root.entry) names.now)
+        requires few { length names.now ≤ 64 }
+        requires named { Begins (F.agenda files.old) names.now }
+        ensures due { Answers prepared_seen (request.Opened (F.entries files.old) (chosen_seen root.entry) names.now)
             (SomeLoad (F.faults files.old) (F.faults files.new) (F.is_sure files.old) (F.entries files.old) names.now) result }
         ensures files { (F.entries files.new ≡ F.entries files.old) × (F.is_sure files.new ≡ F.is_sure files.old) }
+        ensures named { LoadsFirst names.now (F.agenda files.old) (F.agenda files.new) }
         ensures later { F.faults files.old ≤ F.faults files.new }
     {
-        let opened = open_asked(alloc, files, Chosen::Named(root), names)?;
+        let opened = open_asked(alloc, files, root, names)?;
         Prepared::of(alloc, opened)
     }
 
@@ -276,6 +282,22 @@ impl Prepared {
         } else {
             self.decode(alloc, syntax, input)
         }
+    }
+
+    /// Returns the document of the first record that the input has left.
+    pub fn next<S: Source>(&self, alloc: Global, input: &mut S) -> Result<NextRecord, Outcome>
+        ensures due { Answers (λ next. (next.text.items, next.octets)) (NextDocument (prepared_seen self.now) (S.left input.old)) (OneRead (S.faults input.old) (S.faults input.new)) result }
+        ensures back { IfOk result (λ next. NextBack (prepared_seen self.now) (S.left input.old) (next.text.items, next.octets)) }
+        ensures later { S.faults input.old ≤ S.faults input.new }
+    {
+        next_record(alloc, &self.opened, &self.typed, input)
+    }
+
+    /// Returns the stamp of the set.
+    pub fn stamp(&self, alloc: Global) -> Result<[u8; STAMP_LENGTH], Outcome>
+        ensures { Answers (λ stamp. stamp) (Stamped (prepared_seen self.now)) NoMemory result }
+    {
+        module_stamp(alloc, &self.typed.module)
     }
 
     /// Writes the documents of the records that the input has left.

@@ -13,13 +13,14 @@ use base_texts::{Entry, Memory, Steps, SureLibrary, Text};
 use itoa::Buffer;
 use std::alloc::Global;
 use std::sync::ledger::Ledger;
-use transcode_words::{Outcome, Root, Syntax};
+use transcode_words::asked::{Root, RootName};
+use transcode_words::{Outcome, Syntax};
 
 // The name of the schema file.
 const NAME: &str = "order.xsd";
 
 // The root of the trial document.
-const ROOT: Root<'static> = Root {
+const ROOT: RootName<'static> = RootName {
     space: "urn:po",
     local: "order",
 };
@@ -106,7 +107,7 @@ fn open_trial(alloc: Global) -> Result<Prepared, Outcome>
     let (Ok(name), Ok(mut files)) = (schema_name(alloc), schema_files(alloc)) else {
         return Err(Outcome::OutOfMemory);
     };
-    Prepared::open(alloc, &mut files, ROOT, &[name])
+    Prepared::open(alloc, &mut files, Root::Named(ROOT), &[name])
 }
 
 // Returns the encoding of a document of the schema of the trial.

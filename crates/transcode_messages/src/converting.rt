@@ -3,6 +3,7 @@ ghost use Rattle.std.specs.Prelude.{◌≡◌, ◌<◌, [], Some, IfOk};
 ghost use Rattle.transcode_words.specs.Answers.{Answers, NoMemory};
 ghost use Rattle.transcode_core.specs.Preparing.{prepared_seen};
 ghost use Rattle.transcode_core.specs.Due.{Checked, Encoded, Documented};
+ghost use Rattle.transcode_core.specs.Next.{NextDocument, NextBack};
 ghost use Rattle.transcode_core.specs.ReadBack.{DocumentedBack};
 
 use crate::lent::Lent;
@@ -17,6 +18,13 @@ use transcode_words::{Outcome, Syntax};
 #[derive(Drop)]
 pub struct Message {
     pub bytes: Vec<u8>,
+}
+
+/// What is given for the first of the records in octets: its document, and the number of its octets.
+#[derive(Drop)]
+pub struct First {
+    pub message: Message,
+    pub octets: u64,
 }
 
 // Counts steps in a ledger of its own.
@@ -86,4 +94,17 @@ pub fn decode(
     let mut input = Lent::new(octets);
     let bytes = prepared.decode(alloc, syntax, &mut input)?;
     Ok(Message { bytes })
+}
+
+/// Returns the document of the first record of the octets, which may go on after it, and is read back as the record's value.
+pub fn next(alloc: Global, prepared: &Prepared, octets: &[u8]) -> Result<First, Outcome>
+    ensures due { Answers (λ first. (first.message.bytes.items, first.octets)) (NextDocument (prepared_seen prepared.now) (Some octets.now)) NoMemory result }
+    ensures back { IfOk result (λ first. NextBack (prepared_seen prepared.now) (Some octets.now) (first.message.bytes.items, first.octets)) }
+{
+    let mut input = Lent::new(octets);
+    let found = prepared.next(alloc, &mut input)?;
+    Ok(First {
+        message: Message { bytes: found.text },
+        octets: found.octets,
+    })
 }

@@ -7,8 +7,11 @@
 mod converting;
 mod lent;
 mod schema_files;
+mod shared;
 
-pub use converting::{Message, check, decode, encode};
+pub use converting::{First, Message, check, decode, encode, next};
 pub use schema_files::{AddError, SchemaFiles};
+pub use shared::Shared;
 pub use transcode_core::Prepared;
-pub use transcode_words::{Outcome, Root, Syntax, line_of};
+pub use transcode_words::asked::{Root, RootName};
+pub use transcode_words::{Outcome, Syntax, line_of};

@@ -1,10 +1,10 @@
 //! Schema files in memory.
 ghost use Rattle.std.specs.Prelude.{◌≡◌, ◌<◌, ◌≤◌, ◌++◌, [], ◌∷◌, true, Some, None, MatchOption, MatchResult, IfOk, length, bytes_eq};
 ghost use Rattle.base_texts.specs.Entries.{beside};
-ghost use Rattle.transcode_words.specs.Seen.{root_seen};
+ghost use Rattle.transcode_words.specs.AskedSeen.{chosen_seen};
 ghost use Rattle.transcode_words.specs.Answers.{Answers, NoMemory};
-ghost use Rattle.transcode_core.specs.Due as due;
 ghost use Rattle.transcode_core.specs.Preparing.{prepared_seen};
+ghost use Rattle.transcode_core.specs.Requests.Due.{Opened};
 ghost use Rattle.transcode_messages.specs.Messages.{names_of};
 
 use base_texts::{Library, LoadError, Memory, Text};
@@ -12,7 +12,8 @@ use std::alloc::Global;
 use std::marker::Model;
 use thiserror::Error;
 use transcode_core::Prepared;
-use transcode_words::{Outcome, Root};
+use transcode_words::Outcome;
+use transcode_words::asked::Root;
 
 /// How many files there may be.
 const MOST: usize = 64;
@@ -96,6 +97,8 @@ impl<'a> Library for Shelf<'a> {
 
     ghost faults = { λ s. s.faults };
 
+    ghost agenda = { λ _. None };
+
     fn load(&mut self, alloc: Global, name: &Text, limit: u64) -> Result<Vec<u8>, LoadError> {
         let Some(found) = find(self.files, name) else {
             self.faults = self.faults.saturating_add(1);
@@ -125,7 +128,7 @@ fn file_names(alloc: Global, files: &[SchemaFile]) -> Result<Vec<Text>, Memory>
 // What is prepared of these files and a root.
 fn prepare(alloc: Global, files: &[SchemaFile], root: Root<'_>) -> Result<Prepared, Outcome>
     requires { length files.now ≤ 64 }
-    ensures { Answers prepared_seen (due.Opened (Some files.now) (root_seen root.entry) (names_of files.now)) NoMemory result }
+    ensures { Answers prepared_seen (Opened (Some files.now) (chosen_seen root.entry) (names_of files.now)) NoMemory result }
 {
     let Ok(names) = file_names(alloc, files) else {
         return Err(Outcome::OutOfMemory);
@@ -182,7 +185,7 @@ impl SchemaFiles {
     /// The set that the files are, with the root in it and its map, ready for any number of messages; or the first fault. The
     /// files may be dropped then.
     pub fn prepare(&self, alloc: Global, root: Root<'_>) -> Result<Prepared, Outcome>
-        ensures { Answers prepared_seen (due.Opened (Some self.now) (root_seen root.entry) (names_of self.now)) NoMemory result }
+        ensures { Answers prepared_seen (Opened (Some self.now) (chosen_seen root.entry) (names_of self.now)) NoMemory result }
     {
         prepare(alloc, &self.files, root)
     }

@@ -1,13 +1,13 @@
-use Rattle.std.proofs.Common.{rules, ◌≡◌, ℕ, length, take, Box, Global, Some}
+use Rattle.std.proofs.Common.{rules, ◌≡◌, Box, Global, Some}
 use Rattle.transcode_messages.specs.declared.converting.Message.{Message}
 use Rattle.transcode_core.specs.Preparing.{prepared_seen}
 use Rattle.ruvkhiska_c.specs.Statuses.{DocumentedBy}
 use Rattle.ruvkhiska_c.specs.Pointing.{PointsTo}
-use Rattle.ruvkhiska_c.proofs.Refusals.{answer_told, answer_given}
+use Rattle.ruvkhiska_c.proofs.Refusals.{by_status, answer_told, answer_given}
 use Rattle.ruvkhiska_c.proofs.ruvkhiska_decode.Goals as goal
 
 pub returns-clause-refused : goal.returns-clause-refused
 returns-clause-refused c =
-    let is : c.args.converter.now.kept.value ≡ Some c.deref.result.now = search rules in
-    λ other. answer_told (λ p. DocumentedBy c.args.syntax (prepared_seen p) c.args.octets.now) c.args.converter.now.kept.value c.deref.result.now is c.hand_out.result
-    (take c.hand_out.new.complaint.count c.hand_out.new.complaint.text) (λ (b : Box Message Global). b.value.bytes.items) c.decode_boxed-decoded.result (λ b. c.hand_out.new.answer.given.value ≡ Some b.value) (λ b. PointsTo c.hand_out.new.answer.start c.hand_out.new.answer.count b.value) (c.hand_out.new.answer.given.value ≡ c.args.answer.now.given.value) c.decode_boxed-decoded.ensures.due c.hand_out.ensures.answer other
+    let is : c.args.converter.now.kept.value ≡ Some c.prepared.result.now = search rules in
+    λ other. answer_told by_status (λ p. DocumentedBy c.args.syntax (prepared_seen p) c.args.octets.now) c.args.converter.now.kept.value c.prepared.result.now is c.hand_out.result
+    c.hand_out.new.complaint (λ (b : Box Message Global). b.value.bytes.items) c.decode_boxed-decoded.result (λ b. c.hand_out.new.answer.given.value ≡ Some b.value) (λ b. PointsTo c.hand_out.new.answer.start c.hand_out.new.answer.count b.value) (c.hand_out.new.answer.given.value ≡ c.args.answer.now.given.value) c.decode_boxed-decoded.ensures.due c.hand_out.ensures.answer other

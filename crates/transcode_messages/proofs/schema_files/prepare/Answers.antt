@@ -1,15 +1,15 @@
 use Rattle.std.proofs.Common.{Some, ap, length, ◌∙◌, arith}
-use Rattle.transcode_words.specs.Seen.{root_seen}
+use Rattle.transcode_words.specs.AskedSeen.{chosen_seen}
 use Rattle.transcode_core.specs.Preparing.{prepared_seen}
-use Rattle.transcode_core.specs.Due.{Opened}
+use Rattle.transcode_core.specs.Requests.Due.{Opened}
 use Rattle.transcode_messages.specs.Messages.{names_of}
 use Rattle.transcode_messages.proofs.Named.{only_memory, length-names}
 use Rattle.transcode_messages.proofs.schema_files.prepare.Goals as goal
 
-pub open-requires : goal.open-requires
-open-requires c = omega (arith, ap length (c.deref.ensures.value ∙ c.in-Ok.ensures), length-names c.args.files.now, c.requires)
+pub open-requires-clause-few : goal.open-requires-clause-few
+open-requires-clause-few c = omega (arith, ap length (c.deref.ensures.value ∙ c.in-Ok.ensures), length-names c.args.files.now, c.requires)
 
 pub returns : goal.returns
 returns c =
-    only_memory (Opened (Some c.args.files.now) (root_seen c.args.root) (names_of c.args.files.now)) prepared_seen c.args.files.now 0 c.open.new.files.faults c.open.result
+    only_memory (Opened (Some c.args.files.now) (chosen_seen c.args.root) (names_of c.args.files.now)) prepared_seen c.args.files.now 0 c.open.new.files.faults c.open.result
     (rw (c.deref.ensures.value ∙ c.in-Ok.ensures) at c.open.ensures.due)

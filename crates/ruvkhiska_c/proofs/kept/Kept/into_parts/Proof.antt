@@ -29,7 +29,7 @@ use contract.Monad.{fact}
 use Rattle.std.proofs.lemmas.Bool.{false≢true}
 use denote.Steps.{heard}
 use types.Kit.{rewrite}
-use Rattle.transcode_core.specs.declared.prepared.Prepared.{Prepared}
+use Rattle.transcode_messages.specs.declared.shared.Shared.{Shared}
 use Rattle.ruvkhiska_c.specs.contracts.kept.Kept as Kept
 use Rattle.std_alloc.proofs.BoxSteps.Form.{D, B, word, box_typed}
 use Rattle.std_alloc.proofs.BoxSteps.Steps.{box_out, box_in}
@@ -58,12 +58,12 @@ module _ {M : Type 1} {𝓤 : Ura M} (𝓛 : Logic 𝓤) (at_mem : Memory → SP
       → ent 𝓤 ((walk_of 𝓛 F.ended stayed (F.clauses 𝓛 at_mem run)).pre z) (WpFn 𝓤 H 𝓣.C 𝓣.Λ code.function (z.0.4.0 ++ []) ((walk_of 𝓛 F.ended stayed (F.clauses 𝓛 at_mem run)).post z))
   walk z =
       let Post = (walk_of 𝓛 F.ended stayed (F.clauses 𝓛 at_mem run)).post z in
-      let ptr = z.0.3.0.ptr in let alloc = z.0.3.0.alloc in let value : Option Prepared = z.0.3.0.value in
+      let ptr = z.0.3.0.ptr in let alloc = z.0.3.0.alloc in let value : Option Shared = z.0.3.0.value in
       let To = type_at (F.signature).result tt in
       qed 𝓛 ((‵ ftrue ⊛ ‵ (fsep (Kept.the_row.own_val z.0.3.0 z.0.4.0) ftrue)) ∷ raw (fact 𝓤 (IsSome value)) ∷ []) ∵ split ! $ drop ! $ move ! (1 ∷ []) $ heard ! (IsSome value) (λ is.
       let v : D E = record { ptr = ptr; alloc = alloc; value = some_of value is } in
       let made : To.Denot = record { ptr = v.ptr; alloc = v.alloc; value = v.value } in
-      rewrite ! 0 (λ (q : Option Prepared). ‵ (fsep (Kept.the_row.own_val (record { ptr = ptr; alloc = alloc; value = q }) z.0.4.0) ftrue)) (is_some_of value is) refl $ fsplit ! $ use1 𝓛 (‵ ((B E).own_val v z.0.4.0)) (id⊢ 𝓤 _) $
+      rewrite ! 0 (λ (q : Option Shared). ‵ (fsep (Kept.the_row.own_val (record { ptr = ptr; alloc = alloc; value = q }) z.0.4.0) ftrue)) (is_some_of value is) refl $ fsplit ! $ use1 𝓛 (‵ ((B E).own_val v z.0.4.0)) (id⊢ 𝓤 _) $
       box_out E ! v z.0.4.0 (λ b o hv e ws fa. box_in E ! v b o v.value e refl $ use1 𝓛 (‵ (To.own_val made (word E hv b o ∷ []))) (id⊢ 𝓤 _) $ move ! (1 ∷ []) $ drop ! $
       let w = word E hv b o in
       let Γ : List (Item 𝓤) = ‵ (To.own_val made (w ∷ [])) ∷ [] in
