@@ -23,7 +23,9 @@ PROVE = RT=$(RT) tests/prove.py $(if $(JOBS),--jobs $(JOBS))
 run: $(FIXED) $(PROGRAM)
 	$(PROGRAM) show examples/order.xsd
 
+# `bin/ruvkhiska --version` names the kit that is in the source.
 $(PROGRAM): $(BUILT)
+	@grep -qF "(proved by $$($(RT) version))" crates/people_options/src/arguments.rt || echo "note: --version names another kit than $$($(RT) version)"
 	mkdir -p bin
 	cp $(BUILT) $(PROGRAM)
 

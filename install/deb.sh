@@ -97,7 +97,7 @@ echo "libruvkhiska $major libruvkhiska$major (>= $version)" > "$work/libruvkhisk
 echo 'activate-noawait ldconfig' > "$work/libruvkhiska$major/DEBIAN/triggers"
 describe libruvkhiska-dev libdevel "libruvkhiska$major (= $version)" \
     'XML documents as canonical PER or DER (C header)' "$text This package has the header, the static library and their manual page."
-describe ruvkhiska utils "$programs" \
+describe ruvkhiska utils "$programs, python3:any" \
     'XML documents as canonical PER or DER, and back' "$text This package has the programs, the documentation and the examples."
 describe python3-ruvkhiska python "python3 (>= 3.9), libruvkhiska$major (>= $version)" \
     'XML documents as canonical PER or DER (Python)' "$text This package has the package for Python."

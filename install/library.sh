@@ -20,7 +20,8 @@ shared=$folder/libruvkhiska.so.$version
 work=$(mktemp -d)
 trap 'rm -rf "$work"' EXIT
 
-grep -o '\bruvkhiska_[a-z_]*(' include/ruvkhiska.h | tr -d '(' | sort -u > "$work/calls"
+# The declarations alone: what is inline isn't in the library.
+sed -nE 's/^(int32_t|uint32_t|void) (ruvkhiska_[a-z_]+)\(.*/\2/p' include/ruvkhiska.h | sort -u > "$work/calls"
 {
     echo "RUVKHISKA_${version%%.*} { global:"
     sed 's/$/;/' "$work/calls"

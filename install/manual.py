@@ -56,9 +56,10 @@ def roff_of(lines):
 
 
 def calls_of(header):
-    """Yields the comment and the declaration of each call."""
-    for comment, declaration in re.findall(rf"{COMMENT}\n((?:int32_t|void|\w[\w *]*) \*?ruvkhiska_[a-z_]+\([^;]*\);)", header, re.S):
-        yield comment.rpartition("/*")[2], " ".join(declaration.split())
+    """Yields the comment and the declaration of each call. Of one that is inline, its body isn't part of that."""
+    declared = r"(?:static inline (?=int32_t))?((?:int32_t|uint32_t|void) ruvkhiska_[a-z_]+\([^;{]*\))(?:;| \{)"
+    for comment, declaration in re.findall(rf"{COMMENT}\n{declared}", header, re.S):
+        yield comment.rpartition("/*")[2], " ".join(declaration.split()) + ";"
 
 
 def values_of(header):

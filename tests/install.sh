@@ -37,6 +37,9 @@ same() {
     [ "$2" = "$3" ] || fail "$1: '$3', not '$2'"
 }
 
+same 'the latest version of CHANGELOG.md' "$version" "$(sed -n 's/^## \[\([0-9.]*\)\] - .*/\1/p' CHANGELOG.md | head -n 1)"
+same 'the kit that --version names' "$(rt version)" "$(sed -n 's/.*\.version("[0-9.]* (proved by \(.*\))").*/\1/p' crates/people_options/src/arguments.rt)"
+
 # A C++ program. It has a function with the name of one of the kit's heap, which the library must not call.
 cat > "$work/program.cpp" <<'EOF'
 #include <ruvkhiska.h>
@@ -74,15 +77,22 @@ EOF
 # The octets of examples/order.xml, as README.md has them.
 octets=0000070102413104
 
+# The line of README.md that converts after an installation. It writes order.per.
+converts=$(sed -n 's/^    \(ruvkhiska to-per .* -o order.per\)$/\1/p' README.md)
+[ -n "$converts" ] || fail 'README.md has no line that converts'
+
 # try_programs PREFIX: the commands of README.md, in the folder of the installed documentation.
 try_programs() {
     local octets_file=$work/order.per
+    same 'the version of the program' "ruvkhiska $version" "$("$1/bin/ruvkhiska" --version | sed -E 's/ \((not proved|proved by .*)\)$//')"
     cd "$1/share/doc/ruvkhiska"
     same 'to-per' $octets "$("$1/bin/ruvkhiska" to-per examples/order.xsd -i examples/order.xml | od -An -v -tx1 | tr -d ' \n')"
     "$1/bin/ruvkhiska" to-per examples/order.xsd -i examples/order.xml -o "$octets_file" || fail "to-per -o: status $?"
     same 'to-xml' "$(sed -n 's/^    <n1:order /<n1:order /p' README.md)" "$("$1/bin/ruvkhiska" to-xml examples/order.xsd -i "$octets_file" | tail -n 1)"
     same 'transcode' $octets "$("$1/bin/transcode" to-per '{urn:po}order' examples/order.xsd < examples/order.xml | od -An -v -tx1 | tr -d ' \n')"
-    rm "$octets_file"
+    PATH=$1/bin:$PATH sh -c "$converts" || fail "$converts"
+    cmp order.per "$octets_file" || fail "$converts: other octets"
+    rm order.per "$octets_file"
     cd "$here"
 }
 
@@ -114,6 +124,9 @@ try_library() {
         cc -std=c11 -Wall -Wextra -pedantic -Wconversion -Werror $flags examples/messages.c "$libdir/libruvkhiska.a" -o "$work/c-static"
         c++ -std=c++17 -Wall -Wextra -pedantic -Wconversion -Werror $flags "$work/program.cpp" $libs -o "$work/cpp-shared"
         c++ -std=c++17 -Wall -Wextra -pedantic -Wconversion -Werror $flags "$work/program.cpp" "$libdir/libruvkhiska.a" -o "$work/cpp-static"
+        cc -std=c11 -Wall -Wextra -pedantic -Wconversion -Werror -pthread $flags examples/threads.c $libs -o "$work/threads"
+        cc -std=c99 -Wall -Wextra -pedantic -Wconversion -Werror $flags examples/records.c $libs -o "$work/records-c"
+        c++ -std=c++17 -Wall -Wextra -pedantic -Wconversion -Werror -x c++ $flags examples/records.c -x none $libs -o "$work/records-cpp"
     } || fail 'a program does not compile or link'
     for it in shared static; do
         LD_LIBRARY_PATH=$libdir "$work/c-$it" urn:po order 0 examples/orders.txt examples/order.xsd > "$work/by-$it" || fail "C, $it: status $?"
@@ -121,6 +134,10 @@ try_library() {
     done
     cmp "$work/by-shared" "$work/by-static" || fail 'the shared and the static library give other lines'
     same 'C: the first message' "$(head -n 1 examples/orders.txt | tr -d '\n' | "$prefix/bin/transcode" to-per '{urn:po}order' examples/order.xsd | od -An -v -tx1 | tr -d ' \n')" "$(head -n 1 "$work/by-shared")"
+    same 'C: threads' '2 messages' "$(LD_LIBRARY_PATH=$libdir "$work/threads" urn:po order examples/orders.txt examples/order.xsd | grep -o '[0-9]* messages')"
+    for it in c cpp; do
+        same "records, $it" 2 "$(printf '\0\0\7\1\2A1\4\0\0\7\1\2A1\4' | LD_LIBRARY_PATH=$libdir "$work/records-$it" urn:po order examples/order.xsd | grep -c '<n1:sku>A1</n1:sku>')"
+    done
     # The program needs the library by its soname, and no path is in it.
     by_name=$(objdump -p "$work/c-shared" | awk '$1 == "NEEDED" && $2 ~ /ruvkhiska/ { print $2 } /RPATH|RUNPATH/')
     same 'the name that is linked' "libruvkhiska.so.${version%%.*}" "$by_name"
@@ -157,7 +174,7 @@ try_pages() {
         MANWIDTH=100 man -l "$page" 2> /dev/null | col -b > "$work/page" || fail "man -l $page"
         grep -q '^NAME$' "$work/page" || fail "ruvkhiska($it) has no name"
     done
-    grep -o '\bruvkhiska_[a-z_]*(' include/ruvkhiska.h | sort -u | while read -r it; do
+    sed -nE 's/^(int32_t|uint32_t|void|static inline int32_t) (ruvkhiska_[a-z_]+\().*/\2/p' include/ruvkhiska.h | sort -u | while read -r it; do
         grep -F " $it" "$work/page" > /dev/null || echo "$it"
     done > "$work/lacking"
     same 'calls that ruvkhiska(3) lacks' '' "$(cat "$work/lacking")"
@@ -230,7 +247,9 @@ import ruvkhiska
 path = '/usr/share/doc/ruvkhiska/examples/order'
 with open(path + '.xml', 'rb') as file:
     print(ruvkhiska.Schemas.from_files(path + '.xsd').prepare().encode(file.read()).hex())")"
-    same 'to-per in the root' $octets "$(chroot "$root" sh -c 'cd /usr/share/doc/ruvkhiska && ruvkhiska to-per examples/order.xsd -i examples/order.xml' | od -An -v -tx1 | tr -d ' \n')"
+    chroot "$root" sh -c "cd /usr/share/doc/ruvkhiska && $converts" || fail "$converts, in the root"
+    same "$converts, in the root" $octets "$(od -An -v -tx1 "$root/usr/share/doc/ruvkhiska/order.per" | tr -d ' \n')"
+    rm "$root/usr/share/doc/ruvkhiska/order.per"
 }
 
 if [ "$(id -u)" != 0 ] || ! command -v dpkg-deb > /dev/null; then

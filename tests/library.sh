@@ -43,7 +43,7 @@ $cc -O2 $warnings tests/library.c "$library" -o "$work/library-plain"
 # The shared object: it hands out the calls of the header alone.
 {
     echo '{ global:'
-    grep -o 'ruvkhiska_[a-z_]*(' include/ruvkhiska.h | tr -d '(' | sort -u | sed 's/$/;/'
+    sed -nE 's/^(int32_t|uint32_t|void) (ruvkhiska_[a-z_]+)\(.*/\2;/p' include/ruvkhiska.h | sort -u
     echo 'local: *; };'
 } > "$work/calls.map"
 $cc -shared -o "$work/libruvkhiska.so" -Wl,--whole-archive "$library" -Wl,--no-whole-archive "$heap" \

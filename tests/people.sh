@@ -11,6 +11,7 @@ program=$(realpath -m "${PEOPLE:-bin/ruvkhiska}")
 tests=$(realpath tests)
 [ -x "$program" ] || { echo "no program at $program: make run" >&2; exit 2; }
 examples=$(realpath examples)
+version=$(cat install/version)
 work=$(mktemp -d)
 trap 'rm -rf "$work"' EXIT
 cd "$work"
@@ -79,7 +80,13 @@ for command in '' show check to-per to-xml each-to-xml show-back trial; do
     [ "$(wc -l < out)" -lt 24 ] || { echo "wrong: $command --help has $(wc -l < out) lines"; wrong=1; }
     grep -q Example out || { echo "wrong: $command --help has no example"; wrong=1; }
 done
+# The version, and what proved the program.
 expect 0 '' --version
+case $program in
+    *unproved*) due='not proved' ;;
+    *) due="proved by $(rt version)" ;;
+esac
+[ "$(cat out)" = "ruvkhiska $version ($due)" ] || { echo "wrong: --version: $(cat out), not $version ($due)"; wrong=1; }
 expect 0 '' manual
 grep -q '^\.SH EXIT STATUS' out || { echo 'wrong: the manual'; wrong=1; }
 # A wrong word tells how the nearest right one is used.
@@ -114,6 +121,8 @@ expect 4 'a.xsd:2:14: Wildcard: ' show a.xsd
 printf '%s' "$(sed -n 3p err)" > mark
 printf '\t            ^' > due
 same mark due 'the mark beneath'
+cp a.xsd a
+expect 4 'a:2:14: Wildcard: ' show a order.xsd
 printf '%s\n</xs:schemas>' "$head" > b.xsd
 expect 3 'b.xsd:2:1: WrongEnd: ' show b.xsd
 printf '%s\n<xs:simpleType name="t"><xs:restriction base="xs:byte"><xs:maxInclusive value="200"/></xs:restriction></xs:simpleType></xs:schema>' "$head" > c.xsd

@@ -7,6 +7,8 @@ The schemas are read once. Then any number of documents is checked, encoded and 
     >>> octets = orders.encode('<order xmlns="urn:po" id="7"><line><sku>A1</sku><qty>3</qty></line></order>')
     >>> octets.hex()
     '0000070102413104'
+    >>> orders.stamp.hex()
+    '650e89cab5f26de2'
     >>> print(orders.decode(octets).decode())
     <?xml version="1.0" encoding="UTF-8"?>
     <n1:order xmlns:n1="urn:po" id="7"><n1:line><n1:sku>A1</n1:sku><n1:qty>3</n1:qty></n1:line></n1:order>
@@ -25,10 +27,13 @@ What is rejected raises an exception with its first fault:
 The package calls the shared C library libruvkhiska.so.1. It looks for it at the path in the environment variable
 RUVKHISKA_LIBRARY, next to its own installation, and where the loader looks.
 
-Threads may use one `Prepared` at the same time. The calls release the interpreter's lock. A converter of the C library must stay on
-one thread, so each thread opens its own at its first call, which reads the schemas once more.
+Threads may use one `Prepared` at the same time. The calls release the interpreter's lock, and no call waits for another thread's.
 
-Stamps and record streams, which the programs have, aren't available.
+Octets that follow one another, as from a link, are read as they come:
+
+    >>> import io
+    >>> [len(document) for document in orders.records(io.BytesIO(octets + octets))]
+    [142, 142]
 """
 
 from ._errors import DocumentError, EncodingError, Error, OutOfMemory, Place, SchemaError

@@ -6,18 +6,22 @@ import ctypes
 import os
 from collections.abc import Iterator
 from contextlib import contextmanager
-from ctypes import POINTER, Structure, byref, c_bool, c_int, c_int32, c_size_t, c_ssize_t, c_uint8, c_uint32, c_void_p
+from ctypes import POINTER, Structure, byref, c_bool, c_int, c_int32, c_size_t, c_ssize_t, c_uint8, c_uint32, c_uint64, c_void_p
 from mmap import mmap
 from pathlib import Path
 from typing import Union
 
 NAME = "libruvkhiska.so.1"
+# The first version of the library that has all of the calls, as `RUVKHISKA_VERSION_NUMBER` of the header.
+_LEAST = 10_000
 # Bytes that a call reads: any object with a buffer.
 Readable = Union[bytes, bytearray, memoryview, mmap]
 
 
 class Complaint(Structure):
-    _fields_ = [("count", c_size_t), ("text", c_uint8 * 128)]
+    """The line of a rejection, and the place of the fault: a file from 1, or 0 for the input, and an offset in it."""
+
+    _fields_ = [("count", c_size_t), ("at", c_uint64), ("file", c_uint32), ("has_place", c_bool), ("text", c_uint8 * 128)]
 
     def line(self) -> str:
         return bytes(self.text[: self.count]).decode().rstrip("\n")
@@ -64,6 +68,30 @@ def _paths() -> Iterator[str]:
     yield NAME
 
 
+def _declare(library: ctypes.CDLL) -> None:
+    """Gives the calls of the library their types. Raises AttributeError if it lacks one."""
+    lent = [c_void_p, c_size_t]
+    slot, answer, complaint, number = POINTER(Slot), POINTER(Answer), POINTER(Complaint), POINTER(c_uint64)
+    for name, result, parameters in [
+        ("version", c_uint32, []),
+        ("add", c_int32, [slot, *lent, *lent]),
+        ("drop_files", None, [slot]),
+        ("open", c_int32, [slot, *lent, *lent, slot, complaint]),
+        ("share", c_int32, [slot, slot]),
+        ("close", None, [slot]),
+        ("check", c_int32, [slot, *lent, complaint]),
+        ("encode", c_int32, [slot, c_uint32, *lent, answer, complaint]),
+        ("decode", c_int32, [slot, c_uint32, *lent, answer, complaint]),
+        ("next", c_int32, [slot, *lent, answer, POINTER(c_size_t), complaint]),
+        ("stamp", c_int32, [slot, *lent]),
+        ("spot", c_int32, [*lent, c_uint64, number, number]),
+        ("path", c_int32, [*lent, c_uint64, answer]),
+        ("free", None, [answer]),
+    ]:
+        call = getattr(library, "ruvkhiska_" + name)
+        call.restype, call.argtypes = result, parameters
+
+
 def _load() -> ctypes.CDLL:
     """Returns the library with the types of its calls. CDLL releases the interpreter's lock during each call."""
     for path in _paths():
@@ -75,20 +103,12 @@ def _load() -> ctypes.CDLL:
             break
     else:
         raise ImportError(f"{why}: set RUVKHISKA_LIBRARY to the path of {NAME}", path=path)
-    lent = [c_void_p, c_size_t]
-    slot, answer, complaint = POINTER(Slot), POINTER(Answer), POINTER(Complaint)
-    for name, result, parameters in [
-        ("add", c_int32, [slot, *lent, *lent]),
-        ("drop_files", None, [slot]),
-        ("open", c_int32, [slot, *lent, *lent, slot, complaint]),
-        ("close", None, [slot]),
-        ("check", c_int32, [slot, *lent, complaint]),
-        ("encode", c_int32, [slot, c_uint32, *lent, answer, complaint]),
-        ("decode", c_int32, [slot, c_uint32, *lent, answer, complaint]),
-        ("free", None, [answer]),
-    ]:
-        call = getattr(library, "ruvkhiska_" + name)
-        call.restype, call.argtypes = result, parameters
+    try:
+        _declare(library)
+    except AttributeError as error:
+        raise ImportError(f"{error}: this package needs a later version of the library", path=path) from error
+    if library.ruvkhiska_version() < _LEAST:
+        raise ImportError(f"version {library.ruvkhiska_version()} of {path} is too old for this package", path=path)
     return library
 
 

@@ -4,8 +4,10 @@
 """
 
 import array
+import ctypes
 import doctest
 import gc
+import io
 import mmap
 import os
 import pickle
@@ -13,6 +15,7 @@ import subprocess
 import sys
 import tempfile
 import threading
+import time
 import unittest
 import weakref
 from unittest import mock
@@ -104,15 +107,15 @@ class Converting(unittest.TestCase):
         self.assertEqual(octets.hex(), "8003416e6e03f200fa")
         self.assertEqual(schema('<xs:element name="a" type="xs:boolean"/>').prepare("a").encode("<a>1</a>"), b"\x80")
         two = schema('<xs:element name="a" type="xs:int"/><xs:element name="b" type="xs:int"/>', ' targetNamespace="urn:t"')
-        for root in (None, "a", "{urn:other}a", "{urn:t}c", ""):
+        for root in (None, "a", "{urn:other}a", "{urn:t}c"):
             with self.assertRaises(SchemaError) as caught:
                 two.prepare(root)
             self.assertEqual((caught.exception.status, caught.exception.line, caught.exception.place), (6, "unknown root", None))
             self.assertEqual(str(caught.exception), "unknown root; the global elements are: {urn:t}a, {urn:t}b")
         b = two.prepare("{urn:t}b")
         self.assertIn(b">5<", b.decode(b.encode('<b xmlns="urn:t"> 05 </b>')))
-        self.assertRaises(ValueError, two.prepare, "{urn:t")
-        self.assertRaises(ValueError, two.prepare, "\ud800")
+        for root in ("{urn:t", "", "{}", "{urn:t}", "\ud800"):
+            self.assertRaises(ValueError, two.prepare, root)
         self.assertRaises(SchemaError, schema("").prepare)
         self.assertRaises(SchemaError, Schemas([]).prepare)
 
@@ -124,11 +127,17 @@ class Converting(unittest.TestCase):
                 octets = prepared.encode(contents(f"{name}.xml"), syntax)
                 self.assertEqual(prepared.encode(prepared.decode(octets, syntax), syntax), octets, name)
 
+    def test_stamp(self):
+        # As docs/guide/PROGRAM.md has it.
+        self.assertEqual(self.orders.stamp.hex(), "650e89cab5f26de2")
+        self.assertEqual(self.orders.stamp, schemas("order").prepare().stamp)
+        self.assertNotEqual(self.orders.stamp, schemas("river").prepare().stamp)
+
     def test_docstring(self):
         at = os.getcwd()
         os.chdir(os.path.dirname(EXAMPLES))
         try:
-            self.assertEqual(doctest.testmod(ruvkhiska, verbose=False), (0, 6))
+            self.assertEqual(doctest.testmod(ruvkhiska, verbose=False), (0, 9))
         finally:
             os.chdir(at)
 
@@ -159,7 +168,7 @@ class Rejecting(unittest.TestCase):
         error = self.rejects(SchemaError, schemas("refused-wider-facet").prepare, "x")
         # As in docs/guide/PROGRAM.md.
         self.assertEqual((error.status, error.reason, error.place.line, error.place.column), (5, "Widens", 1, 80))
-        self.assertEqual(error.line, "file 1, byte 79: link: Facet Widens")
+        self.assertEqual((error.line, error.path), ("file 1, byte 79: link: Facet Widens", None))
         self.assertEqual(str(error), f"{EXAMPLES}/refused-wider-facet.xsd:1:80: link: Facet Widens")
         error = self.rejects(SchemaError, schemas("parcel").prepare)
         self.assertEqual((error.reason, error.place.line, error.place.column), ("Unresolved", 3, 56))
@@ -191,12 +200,15 @@ class Rejecting(unittest.TestCase):
             self.assertEqual((error.status, error.line, error.reason, error.place), (11, "input: too long", None, None))
         # The message of docs/guide/PROGRAM.md.
         error = self.rejects(DocumentError, self.orders.check, contents("order.xml").replace(b"<qty>3", b"<qty>300"))
-        self.assertEqual(str(error), "input:6:5: invalid: BadText")
+        self.assertEqual((str(error), error.path), ("input:6:5: invalid: BadText", "/order/line/qty"))
+        twice = ORDER.replace(b"</line>", b"</line><line><sku/><qty>0</qty></line>")
+        self.assertEqual(self.rejects(DocumentError, self.orders.check, twice).path, "/order/line[2]/qty")
+        self.assertIsNone(self.rejects(DocumentError, self.orders.check, bytes(16_777_217)).path)
 
     def test_encodings(self):
         octets = bytes.fromhex(ENCODINGS["per"])
         error = self.rejects(EncodingError, self.orders.decode, octets[:3])
-        self.assertEqual((error.status, error.reason, error.place.unit, error.place.line), (9, "Short", "bit", None))
+        self.assertEqual((error.status, error.reason, error.place.unit, error.place.line, error.path), (9, "Short", "bit", None, None))
         self.assertEqual(str(error), error.line)
         error = self.rejects(EncodingError, self.orders.decode, octets + b"\0")
         self.assertEqual((error.status, error.line, error.reason, error.place), (10, "input, byte 8: trailing", None, Place(None, "byte", 8)))
@@ -232,6 +244,96 @@ class Rejecting(unittest.TestCase):
         self.assertEqual((type(again), again.args, str(again)), (DocumentError, error.args, str(error)))
 
 
+class Pieces(io.RawIOBase):
+    """A file that gives its octets in pieces, and counts those that were read."""
+
+    def __init__(self, octets, size):
+        self.octets, self.size, self.at = octets, size, 0
+
+    def readable(self):
+        return True
+
+    def readinto(self, room):
+        piece = self.octets[self.at : self.at + min(self.size, len(room))]
+        room[: len(piece)] = piece
+        self.at += len(piece)
+        return len(piece)
+
+
+class Records(unittest.TestCase):
+    @classmethod
+    def setUpClass(cls):
+        cls.orders = schemas("order").prepare()
+        cls.documents = [ORDER.replace(b"7", b"%d" % it).replace(b"A1", b"A" * it) for it in range(1, 40)]
+        cls.octets = [cls.orders.encode(it) for it in cls.documents]
+        cls.decoded = [cls.orders.decode(it) for it in cls.octets]
+
+    def test_all(self):
+        joined = b"".join(self.octets)
+        self.assertEqual(list(self.orders.records(io.BytesIO(joined))), self.decoded)
+        self.assertEqual(list(self.orders.records(io.BytesIO(b""))), [])
+        self.assertEqual(len(list(self.orders.records(io.BytesIO(joined * 1000)))), 39_000)
+        with tempfile.TemporaryFile() as file:
+            file.write(joined)
+            file.seek(0)
+            self.assertEqual(list(self.orders.records(file)), self.decoded)
+
+    def test_pieces(self):
+        """A document comes before more is read than its record's octets, in pieces of any size."""
+        for size in (1, 3, 1000):
+            file = Pieces(b"".join(self.octets), size)
+            end = 0
+            for octets, due, got in zip(self.octets, self.decoded, self.orders.records(file)):
+                end += len(octets)
+                self.assertEqual(got, due)
+                self.assertLess(file.at, end + size)
+
+    def test_pipe(self):
+        """The next document comes from a pipe whose other end stays open."""
+        read, write = os.pipe()
+        with open(read, "rb") as file, open(write, "wb", 0) as link:
+            records = self.orders.records(file)
+            for octets, due in zip(self.octets, self.decoded):
+                link.write(octets)
+                self.assertEqual(next(records), due)
+            link.close()
+            self.assertEqual(list(records), [])
+
+    def test_long(self):
+        """A record of a megabyte is read in pieces that double."""
+        document = b'<order xmlns="urn:po" id="7">' + b"<line><sku>A1</sku><qty>3</qty></line>" * 250_000 + b"</order>"
+        octets = self.orders.encode(document)
+        file = Pieces(octets + self.octets[0], 10_000_000)
+        began = time.monotonic()
+        self.assertEqual([len(it) for it in self.orders.records(file)], [len(self.orders.decode(octets)), len(self.decoded[0])])
+        self.assertLess(time.monotonic() - began, 60)
+
+    def test_faults(self):
+        whole = b"".join(self.octets)
+        for octets, reason, number in ((whole[:-1], "Short", 39), (whole + b"\xff\xff", None, 40)):
+            records = self.orders.records(io.BytesIO(octets))
+            got = []
+            with self.assertRaises(EncodingError) as caught:
+                for it in records:
+                    got.append(it)
+            error = caught.exception
+            self.assertEqual(got, self.decoded[: number - 1])
+            self.assertEqual((error.status, error.note, error.place.unit), (9, f"record {number}", "bit"))
+            self.assertTrue(reason is None or error.reason == reason, error)
+            self.assertRaises(StopIteration, next, records)
+        with mock.patch.object(Pieces, "readinto", lambda *_: None):
+            self.assertRaises(BlockingIOError, next, self.orders.records(Pieces(b"", 1)))
+
+    def test_threads(self):
+        """A record iterator may be continued in another thread."""
+        records = self.orders.records(io.BytesIO(b"".join(self.octets)))
+        got = [next(records)]
+        thread = threading.Thread(target=lambda: got.append(next(records)))
+        thread.start()
+        thread.join()
+        self.assertEqual(got + list(records), self.decoded)
+
+
 class Recording:
     """The library, and which thread made which call with which slot."""
 
@@ -242,10 +344,13 @@ class Recording:
         call = getattr(ruvkhiska._library.library, name)
 
         def recorded(slot, *given):
-            self.calls.append((name, id(slot._obj), threading.get_ident()))
+            self.calls.append((name, ctypes.addressof(slot._obj), threading.get_ident()))
             return call(slot, *given)
 
         return recorded
+
+    def count(self, name):
+        return sum(it[0] == name for it in self.calls)
 
 
 class Threads(unittest.TestCase):
@@ -288,49 +393,82 @@ class Threads(unittest.TestCase):
 
         self.in_threads(8, work)
 
-    def test_converters(self):
-        """No thread touches another's converter, and each closes its own."""
+    def recorded(self):
+        """Returns the library, whose calls are recorded until the test ends."""
         recording = Recording()
-        at_end = (recording.ruvkhiska_close, *_schemas._Converters.__del__.__defaults__[1:])
-        with mock.patch.object(_schemas, "library", recording), mock.patch.object(_schemas._Converters.__del__, "__defaults__", at_end):
-            held = [schemas("order").prepare()]
-            barrier = threading.Barrier(3)
+        at_end = (recording.ruvkhiska_close, *_schemas._Converter.__del__.__defaults__[1:])
+        for where, name, new in ((_schemas, "library", recording), (_schemas._Converter.__del__, "__defaults__", at_end)):
+            patch = mock.patch.object(where, name, new)
+            patch.start()
+            self.addCleanup(patch.stop)
+        return recording
 
-            def work(_):
-                barrier.wait()
-                for _ in range(3):
-                    held[0].encode(ORDER)
-                gc.collect()
-                barrier.wait()
+    def test_shared(self):
+        """The schemas are read once. No thread uses another's converter, and each converter is closed once."""
+        recording = self.recorded()
+        held = [schemas("order").prepare()]
+        held[0].check(ORDER)
+        barrier = threading.Barrier(3)
 
-            self.in_threads(3, work)
-            opened = [it for it in recording.calls if it[0] == "ruvkhiska_add"]
-            self.assertEqual(len({thread for _, _, thread in opened}), 4)
-            self.assertEqual(len(opened), 4)
-            users = {}
-            for name, slot, thread in recording.calls:
-                if name in ("ruvkhiska_encode", "ruvkhiska_check"):
-                    users.setdefault(slot, set()).add(thread)
-            self.assertEqual([len(it) for it in users.values()], [1] * len(users))
-            mine = threading.get_ident()
-            others = {thread for _, _, thread in opened} - {mine}
-            self.assertEqual({it[2] for it in recording.calls if it[0] == "ruvkhiska_close"}, others)
-            held.clear()
-            closed = [it[2] for it in recording.calls if it[0] == "ruvkhiska_close"]
-            self.assertEqual((len(closed), closed[-1]), (4, mine))
+        def work(_):
+            for _ in range(3):
+                held[0].encode(ORDER)
+                held[0].check(ORDER)
+            barrier.wait()
+
+        self.in_threads(3, work)
+        gc.collect()
+        self.assertEqual(recording.count("ruvkhiska_open"), 1)
+        self.assertEqual(recording.count("ruvkhiska_share"), 4)
+        users = {}
+        for name, slot, thread in recording.calls:
+            if name in ("ruvkhiska_encode", "ruvkhiska_check"):
+                users.setdefault(slot, set()).add(thread)
+        self.assertEqual([len(it) for it in users.values()], [1] * 4)
+        # Those of the threads that have ended are closed, and with the set the others.
+        self.assertEqual(recording.count("ruvkhiska_close"), 3)
+        held.clear()
+        self.assertEqual(recording.count("ruvkhiska_close"), 5)
 
     def test_dropped_by_another(self):
-        """A thread that drops a set leaves another thread's converter to that thread."""
-        recording = Recording()
-        with mock.patch.object(_schemas, "library", recording):
-            held = [schemas("order").prepare()]
-            alone = schemas("order").prepare()
-            gone = weakref.ref(held[0])
-            self.in_threads(1, lambda _: held.clear())
-            self.assertIsNone(gone())
-            self.assertEqual([it for it in recording.calls if it[0] == "ruvkhiska_close"], [])
-            alone.check(ORDER)
-            self.assertEqual([it[2] for it in recording.calls if it[0] == "ruvkhiska_close"], [threading.get_ident()])
+        """A thread that drops a set closes the converters of all threads."""
+        recording = self.recorded()
+        held = [schemas("order").prepare()]
+        held[0].check(ORDER)
+        gone = weakref.ref(held[0])
+        self.in_threads(1, lambda _: held.clear())
+        self.assertIsNone(gone())
+        self.assertEqual(recording.count("ruvkhiska_close"), 2)
+
+    def test_dropped_in_call(self):
+        """A set that is dropped during a call is closed after it."""
+        recording = self.recorded()
+        held = [schemas("order").prepare()]
+        document = b'<order xmlns="urn:po" id="7">' + b"<line><sku>A1</sku><qty>3</qty></line>" * 20_000 + b"</order>"
+        began = threading.Event()
+        ended = []
+
+        def work(_):
+            check = held[0].check
+            began.set()
+            check(document)
+            ended.append(recording.count("ruvkhiska_close"))
+
+        thread = threading.Thread(target=work, args=(0,))
+        thread.start()
+        began.wait()
+        held.clear()
+        thread.join()
+        self.assertEqual(ended, [0])
+        self.assertEqual(recording.count("ruvkhiska_close"), 2)
+
+    def test_shared_without_memory(self):
+        """A thread whose converter can't be made gets a MemoryError, and can repeat the call."""
+        prepared = schemas("order").prepare()
+        with mock.patch.object(_schemas, "library", mock.Mock(wraps=_schemas.library)) as library:
+            library.ruvkhiska_share = lambda *_: 30
+            self.assertRaises(ruvkhiska.OutOfMemory, prepared.check, ORDER)
+        prepared.check(ORDER)
 
     def test_lock(self):
         """Other threads run during a call."""
