@@ -4,6 +4,7 @@
 #![tactic(auto)]
 
 mod bounds;
+mod crossing;
 mod laws;
 mod marks;
 mod modules;
@@ -15,6 +16,7 @@ mod said;
 mod simples;
 mod types;
 
+pub use crossing::module_crosses;
 pub use laws::{references, types_of_modules};
 pub use marks::{Instruction, Marks};
 pub use modules::{Assignment, Module};

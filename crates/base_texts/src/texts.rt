@@ -13,8 +13,8 @@ use std::cmp::Ordering;
 use std::hash::{Hash, Hasher};
 use std::marker::Model;
 use std::mem::size_of;
-use std::rc::RcStr;
 use std::str;
+use std::sync::ArcStr;
 use thiserror::Error;
 
 /// Out of memory.
@@ -148,7 +148,7 @@ impl Short {
 #[derive(Drop)]
 enum Storage {
     Here(Short),
-    There(RcStr),
+    There(ArcStr),
 }
 
 impl Storage {
@@ -208,7 +208,7 @@ impl Text {
         if text.len() <= ROOM {
             return Ok(Text::here(text));
         }
-        let long = RcStr::from_str(alloc, text)?;
+        let long = ArcStr::from_str(alloc, text)?;
         Ok(Text {
             kept: Storage::There(long),
         })
@@ -230,7 +230,7 @@ impl Text {
         if string.len() <= ROOM {
             return Ok(Text::here(string.as_str()));
         }
-        let long = RcStr::from_string(string)?;
+        let long = ArcStr::from_string(string)?;
         Ok(Text {
             kept: Storage::There(long),
         })

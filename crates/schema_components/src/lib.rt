@@ -6,6 +6,7 @@
 
 mod attribute_uses;
 mod components;
+mod crossing;
 mod declarations;
 mod documents;
 mod laws;
@@ -17,6 +18,7 @@ pub use attribute_uses::RawUse;
 pub use components::{
     AttributeUse, ComplexDef, Content, ElementDecl, GlobalAttribute, SimpleDef, TypeOf, Uses,
 };
+pub use crossing::set_crosses;
 pub use declarations::{
     RawAttribute, RawComplex, RawContent, RawElement, RawKind, RawLocal, RawType, RawUses,
 };

@@ -5,7 +5,7 @@ use base_texts::{Memory, Text};
 use std::alloc::Global;
 use std::marker::Model;
 use std::mem::size_of;
-use std::rc::RcSlice;
+use std::sync::ArcSlice;
 
 // The greatest number of flags stored in place: with their number and the tag of `FlagStorage` they have 24 bytes, as a vector
 // has.
@@ -159,16 +159,16 @@ const _: () = prove!(size_of::<Flags>() == 24);
 /// Whole numbers. A copy shares them.
 #[derive(Drop)]
 pub struct NumberList {
-    entries: RcSlice<i128>,
+    entries: ArcSlice<i128>,
 }
 
 impl Model for NumberList {
     ghost use Rattle.std.specs.Prelude.{List, ℤ};
-    ghost use Rattle.std.specs.Rc.{rc_slice_items};
+    ghost use Rattle.std.specs.Arc.{arc_slice_items};
 
     ghost Value = { List ℤ };
 
-    ghost view = { λ a. rc_slice_items a.entries };
+    ghost view = { λ a. arc_slice_items a.entries };
 }
 
 impl NumberList {
@@ -176,7 +176,7 @@ impl NumberList {
     pub fn of(entries: Vec<i128>) -> Result<NumberList, Memory>
         ensures { IfOk result (λ numbers. numbers ≡ entries.items) }
     {
-        let entries = RcSlice::from_vec(entries)?;
+        let entries = ArcSlice::from_vec(entries)?;
         Ok(NumberList { entries })
     }
 
@@ -198,16 +198,16 @@ impl NumberList {
 /// Texts. A copy shares them.
 #[derive(Drop)]
 pub struct TextList {
-    entries: RcSlice<Text>,
+    entries: ArcSlice<Text>,
 }
 
 impl Model for TextList {
     ghost use Rattle.std.specs.Prelude.{List, ℕ};
-    ghost use Rattle.std.specs.Rc.{rc_slice_items};
+    ghost use Rattle.std.specs.Arc.{arc_slice_items};
 
     ghost Value = { List (List ℕ) };
 
-    ghost view = { λ a. rc_slice_items a.entries };
+    ghost view = { λ a. arc_slice_items a.entries };
 }
 
 impl TextList {
@@ -215,7 +215,7 @@ impl TextList {
     pub fn of(entries: Vec<Text>) -> Result<TextList, Memory>
         ensures { IfOk result (λ texts. texts ≡ entries.items) }
     {
-        let entries = RcSlice::from_vec(entries)?;
+        let entries = ArcSlice::from_vec(entries)?;
         Ok(TextList { entries })
     }
 
