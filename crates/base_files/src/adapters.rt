@@ -137,6 +137,8 @@ impl<'a, R: Files> Library for Folder<'a, R> {
 
     ghost faults = { λ s. s.faults };
 
+    ghost agenda = { λ _. None };
+
     fn load(&mut self, alloc: Global, name: &Text, limit: u64) -> Result<Vec<u8>, LoadError> {
         match load_path(self.rt, alloc, name.bytes(), limit) {
             Ok(bytes) => Ok(bytes),

@@ -28,6 +28,17 @@ abbrev pub HasLonger : Option (List (List ℕ × List ℕ)) → List ℕ → ℕ
 HasLonger None name limit = ⊤
 HasLonger (Some entries) name limit = (bytes : List ℕ) × (beside name entries ≡ Some bytes) × (limit < length bytes)
 
+-- If the names that are to be loaded are known, this one is the next.
+abbrev pub IsNext : Option (List (List ℕ)) → List ℕ → Type 0
+IsNext None name = ⊤
+IsNext (Some names) name = (rest : List (List ℕ)) × (names ≡ name ∷ rest)
+
+-- The names that are to be loaded after the next one.
+abbrev pub after_next : Option (List (List ℕ)) → Option (List (List ℕ))
+after_next None = None
+after_next (Some []) = Some []
+after_next (Some (name ∷ rest)) = Some rest
+
 -- The load failed.
 abbrev pub has_failed : {A : Type 0} → Result A LoadError → Bool
 has_failed (Err Failed) = true

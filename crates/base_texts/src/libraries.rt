@@ -1,7 +1,7 @@
 //! Libraries of named files.
 ghost use Rattle.std.specs.Prelude.{◌≡◌, ◌⊎◌, ℕ, Bool, true, false, ◌+◌, ◌-◌, ◌^◌, ◌<◌, ◌≤◌, ◌↔◌, ◌&&◌, min, List, [], ◌∷◌, length, map, bytes_eq, nat_lt, Option, Some, None, Ok, Err, MatchOption, MatchResult, IsErr, IsErrOf, IfOk, IfSome, IsTrue, IsSome, Contains, if◌then◌else◌};
 ghost use Rattle.base_texts.specs.Faults.{Counts, count_after, one_more};
-ghost use Rattle.base_texts.specs.Entries.{beside, HasEntry, HasLonger, Lacks, has_failed};
+ghost use Rattle.base_texts.specs.Entries.{beside, HasEntry, HasLonger, Lacks, IsNext, after_next, has_failed};
 
 use crate::texts::Text;
 use std::alloc::Global;
@@ -30,14 +30,19 @@ pub trait Library {
     /// The number of failures so far. The count remains at 2^64 - 1 once it is reached.
     ghost faults: { Self → ℕ };
 
+    /// The names that may still be loaded, in their order and once each. `None` for a library that may be asked for any name.
+    ghost agenda: { Self → Option (List (List ℕ)) };
+
     /// Returns the contents of the first entry of that name, if they have at most `limit` bytes. The entries are unchanged.
     fn load(&mut self, alloc: Global, name: &Text, limit: u64) -> Result<Vec<u8>, LoadError>
-        requires { limit ≤ 2 ^ 32 }
+        requires small { limit ≤ 2 ^ 32 }
+        requires next { IsNext (agenda self.old) name.now }
         ensures most { IfOk result (λ bytes. length bytes.items ≤ limit) }
         ensures contents { IfOk result (λ bytes. HasEntry (entries self.old) name.now bytes.items) }
         ensures too_long { IsErrOf result LoadError.TooLong → HasLonger (entries self.old) name.now limit }
         ensures kept { entries self.new ≡ entries self.old }
         ensures sure { is_sure self.new ≡ is_sure self.old }
+        ensures rest { agenda self.new ≡ after_next (agenda self.old) }
         ensures cause { Counts (faults self.old) (faults self.new) (IsErrOf result LoadError.Failed) }
         // A sure library fails only on a name that isn't there.
         ensures missing { IsTrue (is_sure self.old) → (faults self.old < faults self.new) ⊎ IsErrOf result LoadError.Failed → Lacks (entries self.old) name.now };
@@ -122,6 +127,8 @@ impl Library for SureLibrary {
 
     ghost faults = { λ s. s.faults };
 
+    ghost agenda = { λ _. None };
+
     fn load(&mut self, alloc: Global, name: &Text, limit: u64) -> Result<Vec<u8>, LoadError>
         ensures most { IfOk result (λ bytes. length bytes.items ≤ limit) }
         ensures contents { IfOk result (λ bytes. HasEntry (Some self.old.entries) name.now bytes.items) }
@@ -183,6 +190,8 @@ impl Library for MemoryLibrary {
     ghost is_sure = { λ _. false };
 
     ghost faults = { λ s. s.faults };
+
+    ghost agenda = { λ _. None };
 
     fn load(&mut self, alloc: Global, name: &Text, limit: u64) -> Result<Vec<u8>, LoadError>
         ensures most { IfOk result (λ bytes. length bytes.items ≤ limit) }

@@ -56,6 +56,8 @@ impl<'a, R: Files + Clock> Library for LoadedFiles<'a, R> {
 
     ghost faults = { λ s. s.folder.faults };
 
+    ghost agenda = { λ _. None };
+
     fn load(&mut self, alloc: Global, name: &Text, limit: u64) -> Result<Vec<u8>, LoadError> {
         let bytes = self.folder.load(alloc, name, limit)?;
         self.progress.add(bytes.len());

@@ -96,6 +96,8 @@ impl<'a> Library for Shelf<'a> {
 
     ghost faults = { λ s. s.faults };
 
+    ghost agenda = { λ _. None };
+
     fn load(&mut self, alloc: Global, name: &Text, limit: u64) -> Result<Vec<u8>, LoadError> {
         let Some(found) = find(self.files, name) else {
             self.faults = self.faults.saturating_add(1);
