@@ -3,8 +3,8 @@
 
     install/completions.py FOLDER          writes ruvkhiska (bash), _ruvkhiska (zsh) and ruvkhiska.fish
 
-The table is crates/people_options/src/arguments.rt; the names after `-t` are those of syntaxes.rt next to it. tests/completions.py
-compares the completions with the help of the built program.
+The table is crates/people_options/src/arguments.rt; the names after `-t` and `--tags` are those of syntaxes.rt and tagging.rt next to
+it. tests/completions.py compares the completions with the help of the built program.
 """
 import os
 import re
@@ -62,16 +62,17 @@ def table():
     return [*commands, Command("help", HELP_COMMAND, [Argument([], "COMMAND", "The command")])]
 
 
-def syntaxes():
-    with open(f"{SOURCE}/syntaxes.rt", encoding="utf-8") as file:
-        return re.findall(rf"\({STRING}, Syntax::", file.read())
+def names_in(file, kind):
+    """Returns the names in the table of this file, whose rows have values of this type."""
+    with open(f"{SOURCE}/{file}.rt", encoding="utf-8") as table:
+        return re.findall(rf"\({STRING}, {kind}::", table.read())
 
 
 def values_of(argument, commands):
     """Returns the words that complete a value: None for names of files, and an empty list where nothing is known."""
     if argument.value in ("FILE", "WORD"):
         return None
-    return {"SYNTAX": syntaxes(), "COMMAND": [it.name for it in commands]}.get(argument.value, [])
+    return {"SYNTAX": names_in("syntaxes", "Syntax"), "TAGS": names_in("tagging", "Tags"), "COMMAND": [it.name for it in commands]}.get(argument.value, [])
 
 
 TOP = [Argument(["-h", "--help"], "", HELP), Argument(["-V", "--version"], "", VERSION)]

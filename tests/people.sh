@@ -64,14 +64,45 @@ sed 's/value="100"/value="99"/' order.xsd > other.xsd
 expect 9 'stamped.per: Stamp: ' to-xml "$root" other.xsd -i stamped.per --stamp
 expect 9 'order.per: Stamp: ' to-xml "$root" order.xsd -i order.per --stamp
 
-# The module for other compilers has nothing of X.693: tests/strip_xer.py, which is written apart from the program, leaves the same.
-for name in order features names boolean defaults; do
-    expect 0 '' show --plain "$examples/$name.xsd"
+# The module for other compilers has nothing of X.693: tests/strip_xer.py, which is written apart from the program, leaves the same, and
+# tests/write_tags.py writes the same tags.
+cat > words.xsd << 'END'
+<xs:schema xmlns:xs="http://www.w3.org/2001/XMLSchema">
+<xs:element name="ANY" type="TIME"/>
+<xs:element name="ANY-1" type="xs:int"/>
+<xs:complexType name="TIME">
+  <xs:sequence><xs:element ref="ANY" minOccurs="0"/><xs:element ref="ANY-1"/></xs:sequence>
+  <xs:attribute name="DATE" type="xs:string" default="ANY"/>
+</xs:complexType>
+</xs:schema>
+END
+for name in words "$examples"/{order,features,names,boolean,defaults,any-order}; do
+    expect 0 '' show --plain "$name.xsd"
     grep -q 'XER\|\[' out && { echo "wrong: --plain of $name"; wrong=1; }
     mv out plain
-    "$program" show "$examples/$name.xsd" | python3 "$tests/strip_xer.py" > due
+    "$program" show "$name.xsd" | python3 "$tests/strip_xer.py" > due
     same plain due "--plain of $name"
+    expect 0 '' show --plain --tags automatic "$name.xsd"
+    same out plain "--tags automatic of $name"
+    expect 0 '' show --plain --tags explicit "$name.xsd"
+    python3 "$tests/write_tags.py" < plain > due
+    same out due "--tags explicit of $name"
 done
+cat > due << 'EOF'
+Schema-Set DEFINITIONS IMPLICIT TAGS ::= BEGIN
+ANY-2 ::= TIME-1
+ANY-1 ::= INTEGER (-2147483648..2147483647)
+TIME-1 ::= SEQUENCE {
+    dATE [0] UTF8String DEFAULT "ANY",
+    aNY [1] ANY-2 OPTIONAL,
+    aNY-1 [2] ANY-1
+}
+END
+EOF
+expect 0 '' show --plain --tags explicit words.xsd
+same out due 'names with suffixes'
+expect 2 'error: show requires 1 to 64 FILEs, ' show --tags explicit order.xsd
+expect 2 "error: no kind of tags has the name 'implicit' " show --plain --tags implicit order.xsd
 
 # Helps: at most 23 lines each, with an example; the manual.
 for command in '' show check to-per to-xml each-to-xml show-back trial; do

@@ -112,7 +112,7 @@ class Request:
         self.action = rng.choice(["show", "check", "to-per", "to-per", "to-xml", "to-xml", "each-to-xml", "show-back", "trial"])
         self.syntax = rng.choice([None, "per", "uper", "der"]) if self.action in ("to-per", "to-xml") else None
         self.stamp = self.action in ("to-per", "to-xml") and rng.random() < 0.4
-        self.form = rng.choice([None, "--plain", "--stamp"]) if self.action == "show" else None
+        self.form = rng.choice([None, "--plain", "--plain --tags explicit", "--stamp"]) if self.action == "show" else None
         self.files = self.some_files()
         self.globals = [it for file in self.files for it in SCHEMAS[file][0]]
         self.root, self.is_left = self.some_root()
@@ -237,9 +237,9 @@ class Request:
         done = by_transcode("show", *self.files)
         if done.status == 0 and self.form == "--stamp":
             done.written = (stamp_of(self.files).hex() + "\n").encode()
-        elif done.status == 0 and self.form == "--plain":
-            strip = [sys.executable, os.path.join(HERE, "tests/strip_xer.py")]
-            done.written = call(strip, done.written).stdout
+        elif done.status == 0 and self.form:
+            for script in ["strip_xer.py", "write_tags.py"][: 1 + ("--tags" in self.form)]:
+                done.written = call([sys.executable, os.path.join(HERE, "tests", script)], done.written).stdout
         return done
 
     def opened(self):
@@ -385,6 +385,15 @@ class Checks:
             (2, "error: ", f"show {' '.join(many)}"),
             (2, "error: ", "show --plain --stamp one.xsd"),
             (2, "error: ", "show --plain --plain one.xsd"),
+            (2, "error: ", "show --tags explicit one.xsd"),
+            (2, "error: ", "show --tags automatic one.xsd"),
+            (2, "error: ", "show --stamp --tags explicit one.xsd"),
+            (2, "error: ", "show --plain --stamp --tags explicit one.xsd"),
+            (2, "error: ", "show --plain --tags implicit one.xsd"),
+            (2, "error: ", "show --plain --tags explicit --tags explicit one.xsd"),
+            (2, "error: ", "check --tags explicit one.xsd -i n.xml"),
+            (0, "", "show --plain --tags=automatic one.xsd"),
+            (0, "", "show --tags explicit --plain one.xsd"),
             (2, "error: ", "check --root n --root n one.xsd -i n.xml"),
             (2, "error: ", "to-per -t per -t per one.xsd -i n.xml"),
             (2, "error: ", "each-to-xml -t der one.xsd -i n.per"),

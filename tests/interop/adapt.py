@@ -3,7 +3,8 @@
 
     bin/ruvkhiska show --plain FILE... | tests/interop/adapt.py TOOL > MODULE
 
-TOOL is asn1c-uper, asn1c-der, wireshark or libtasn1; the table TOOLS says what changes for each.
+TOOL is asn1c-uper, asn1c-der, wireshark or libtasn1; the table TOOLS says what changes for each. libtasn1 also needs
+`show --plain --tags explicit`.
 """
 import sys
 
@@ -13,7 +14,7 @@ CHANGES = {
     "default": "OPTIONAL in place of DEFAULT and its value: who reads assumes the value, who writes omits the component if it is equal",
     "comment": "no (CONSTRAINED BY {/* */})",
     "range": "no range of an INTEGER, which DER doesn't see",
-    "tags": "the automatic tags written (X.680, clauses 25.7 and 29.2), and no identifiers of items",
+    "item": "no identifiers of the items of a SEQUENCE OF",
     "empty": "in a SEQUENCE without components, one that is always absent",
     "number": "the number of each item of an ENUMERATED, and no items with numbers below 0, whose octets are shown as they are",
 }
@@ -21,7 +22,7 @@ TOOLS = {
     "asn1c-uper": ("default",),
     "asn1c-der": ("default", "range"),
     "wireshark": ("comment",),
-    "libtasn1": ("default", "comment", "tags", "empty", "number"),
+    "libtasn1": ("default", "comment", "item", "empty", "number"),
 }
 
 
@@ -32,9 +33,8 @@ class Printer:
         self.module, self.changes = module, changes
 
     def text(self):
-        tags = "IMPLICIT" if "tags" in self.changes else "AUTOMATIC"
         lines = [f"{name} ::= {self.type(it, '')}" for name, it in self.module.types.items()]
-        return "\n".join([f"Schema-Set DEFINITIONS {tags} TAGS ::= BEGIN", *lines, "END\n"])
+        return "\n".join([self.module.head, *lines, "END\n"])
 
     def type(self, type_, indent):
         comment = "" if "comment" in self.changes or not type_.comment else f" (CONSTRAINED BY {{{type_.comment}}})"
@@ -45,9 +45,9 @@ class Printer:
         if type_.kind == "ENUMERATED":
             return f"ENUMERATED {{ {', '.join(self.items(type_))} }}{comment}"
         if type_.kind == "SEQUENCE OF":
-            name = f"{type_.name} " if type_.name and "tags" not in self.changes else ""
+            name = f"{type_.name} " if type_.name and "item" not in self.changes else ""
             return f"SEQUENCE{self.bounds(type_)} OF {name}{self.type(type_.of, indent)}{comment}"
-        parts = [f"{indent}    {self.part(number, it, indent + '    ')}" for number, it in enumerate(type_.parts)]
+        parts = [f"{indent}    {self.part(it, indent + '    ')}" for it in type_.parts]
         if not parts and "empty" in self.changes:
             parts = [f"{indent}    none [0] NULL OPTIONAL"]
         inner = ",\n".join(parts)
@@ -67,10 +67,8 @@ class Printer:
         is_counted = "number" not in self.changes and all(number == place for place, (_, number) in enumerate(items))
         return [name if is_counted else f"{name}({number})" for name, number in items]
 
-    def part(self, number, part, indent):
-        tag = ""
-        if "tags" in self.changes:
-            tag = f"[{number}] " + "EXPLICIT " * (self.module.real(part.type).kind == "CHOICE")
+    def part(self, part, indent):
+        tag = f"{part.tag} " if part.tag else ""
         ending = ""
         if part.default and "default" not in self.changes:
             ending = f" DEFAULT {part.default_text}"

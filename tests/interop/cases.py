@@ -6,7 +6,7 @@ import os
 import re
 import subprocess
 import sys
-from dataclasses import dataclass, field
+from dataclasses import dataclass, field, replace
 
 sys.path.insert(0, os.path.dirname(os.path.dirname(os.path.abspath(__file__))))
 import random_cases
@@ -36,14 +36,15 @@ class Case:
 
 @dataclass
 class Set:
-    """Schema files, their module, and the cases of documents."""
+    """Schema files, their module, with automatic tags and with tags written out, and the cases of documents."""
 
     name: str
     files: list
     module: Module
+    tagged: Module
     full: str
     cases: list = field(default_factory=list)
-    # The change of adapt.py that the module of this set goes without.
+    # The change of adapt.py, or `tags`, that the module of this set goes without.
     without: str = ""
     # The transfer syntaxes that it is tried in.
     syntaxes: tuple = SYNTAXES
@@ -53,9 +54,11 @@ class Set:
         return subprocess.run([PROGRAM, command, *words, *self.files], input=octets, capture_output=True, timeout=300)
 
     def root_type(self, root):
-        """Returns the name of the root's assignment: the first without ATTRIBUTE whose NAME and NAMESPACE give the element's name."""
+        """Returns the name of the root's assignment: the first without ATTRIBUTE whose NAME and NAMESPACE give the element's name. In the
+        plain module the assignment has the same place, and the name may have a suffix."""
         namespace, _, name = root.rpartition("}")
-        for reference, marks in re.findall(r'(?m)^([A-Z][\w-]*) ::= ((?:\[(?:"(?:[^"]|"")*"|[^"\]])*\] )*)', self.full):
+        assignments = re.findall(r'(?m)^([A-Z][\w-]*) ::= ((?:\[(?:"(?:[^"]|"")*"|[^"\]])*\] )*)', self.full)
+        for plain, (reference, marks) in zip(self.module.types, assignments, strict=True):
             given = reference
             if "[NAME AS UNCAPITALIZED]" in marks:
                 given = reference[0].lower() + reference[1:]
@@ -64,7 +67,7 @@ class Set:
             space = re.search(r'\[NAMESPACE AS "((?:[^"]|"")*)"\]', marks)
             space = space[1].replace('""', '"') if space else ""
             if (space, given) == (namespace[1:], name) and "[ATTRIBUTE]" not in marks:
-                return reference
+                return plain
         raise ValueError(f"no assignment has the name {root}")
 
     def add(self, root, document, value=None, places=None):
@@ -83,11 +86,11 @@ class Set:
 
 
 def set_of(name, files):
-    made = Set(name, files, None, "")
-    plain, full = made.run("show", "--plain"), made.run("show")
+    made = Set(name, files, None, None, "")
+    plain, tagged, full = made.run("show", "--plain"), made.run("show", "--plain", "--tags", "explicit"), made.run("show")
     if plain.returncode:
         raise ValueError(f"{name}: {plain.stderr.decode()}")
-    made.full, made.module = full.stdout.decode(), Module(plain.stdout.decode())
+    made.full, made.module, made.tagged = full.stdout.decode(), Module(plain.stdout.decode()), Module(tagged.stdout.decode())
     return made
 
 
@@ -227,6 +230,47 @@ EXAMPLES = {
           "choice-list-1": [("u", "abcde"), ("choice", ("v", True))], "choice": ("aLL-list", [False]), "choice-list-2": ["a"], "choice-list-3": 1}),
     ],
 }
+
+
+# A schema whose names are words that other compilers reserve, with references to each, and a name with the first suffix.
+WORDS = """
+<xs:element name="ANY"><xs:complexType><xs:sequence>
+  <xs:element ref="DATE"/><xs:element ref="DEFINED" minOccurs="0"/><xs:element name="ANY-1" type="TIME-OF-DAY"/><xs:element ref="NOT-A-NUMBER"/>
+</xs:sequence></xs:complexType></xs:element>
+<xs:element name="ANY-1" type="DURATION"/>
+<xs:element name="DATE" type="xs:int"/>
+<xs:element name="DEFINED" type="xs:boolean"/>
+<xs:element name="NOT-A-NUMBER" type="TIME"/>
+<xs:simpleType name="DATE-TIME"><xs:restriction base="xs:token"/></xs:simpleType>
+<xs:simpleType name="DURATION"><xs:restriction base="xs:unsignedByte"/></xs:simpleType>
+<xs:simpleType name="TIME"><xs:union memberTypes="xs:boolean DATE-TIME"/></xs:simpleType>
+<xs:complexType name="TIME-OF-DAY"><xs:choice><xs:element name="OID-IRI" type="xs:int"/><xs:element name="RELATIVE-OID-IRI" type="TIME"/></xs:choice></xs:complexType>
+"""
+# Its documents: root, text, value.
+NAMED = [
+    ("ANY", "<ANY><DATE>1</DATE><ANY-1><OID-IRI>2</OID-IRI></ANY-1><NOT-A-NUMBER>never</NOT-A-NUMBER></ANY>",
+     {"dATE": 1, "aNY-1": {"choice": ("oID-IRI", 2)}, "nOT-A-NUMBER": ("alt-1", "never")}),
+    ("ANY-1", "<ANY-1>7</ANY-1>", 7),
+    ("DATE", "<DATE>-7</DATE>", -7),
+    ("DEFINED", "<DEFINED>true</DEFINED>", True),
+    ("NOT-A-NUMBER", "<NOT-A-NUMBER>true</NOT-A-NUMBER>", ("alt", True)),
+]
+
+
+def named_set(folder):
+    """Returns the set of WORDS."""
+    path = f"{folder}/words.xsd"
+    with open(path, "w", encoding="utf-8") as file:
+        file.write(XSD % WORDS)
+    made = set_of("words", [path])
+    for root, document, value in NAMED:
+        made.add(root, document, value)
+    return made
+
+
+def with_tags(made):
+    """Returns the set with the tags written out in its module."""
+    return replace(made, name=f"{made.name}-tagged", module=made.tagged)
 
 
 def example_sets():

@@ -4,9 +4,6 @@ from dataclasses import dataclass
 
 import cases
 
-# Compilers of modules.
-COMPILERS = ("erlang", "asn1c", "wireshark", "libtasn1")
-
 
 @dataclass
 class Fault:
@@ -23,7 +20,7 @@ class Fault:
     root: str
     document: str
     value: object
-    # The change of adapt.py without which the module is tried.
+    # The change of adapt.py without which the module is tried, or `tags` for a module without written tags.
     without: str = ""
     # Octets to read that aren't canonical.
     given: bytes = b""
@@ -51,10 +48,6 @@ def has_node(holds):
 
 def always(module, case):
     return True
-
-
-def has_name(module, case):
-    return any(name in ("ANY", "DEFINED") for name in module.types)
 
 
 def has_max(type_, _):
@@ -156,8 +149,6 @@ FIVES = (
 )
 
 FAULTS = [
-    Fault(COMPILERS, "ours: ANY and DEFINED are words of older editions and of X.680's extensions", ("compiles",), ALL, has_name,
-          '<xs:element name="ANY" type="xs:boolean"/>', "ANY", "<ANY>1</ANY>", True),
     Fault(("erlang",), "ours: a line feed in a text after DEFAULT, which X.680 (12.14) reads otherwise", ("compiles",), ALL,
           has_default(lambda it: "\n" in it), defaulted("string", "x&#10;y"), "a", "<a/>", {"b": "x\ny"}),
     Fault(("erlang",), "doesn't know the doubled quotation mark of X.680 (12.14.1) after DEFAULT", ("compiles",), ALL,

@@ -15,7 +15,7 @@ NODE = re.compile(r"( *)name:(\S+)  type:(\S+)(?:  value:(.*))?", re.S)
 def open_set(made, syntax, folder):
     path = f"{folder}/m.asn"
     with open(path, "w", encoding="utf-8", newline="\n") as file:
-        file.write(adapted(made.module, "libtasn1", made.without))
+        file.write(adapted(made.module if made.without == "tags" else made.tagged, "libtasn1", made.without))
     checked = subprocess.run(["asn1Parser", "-c", path], capture_output=True, timeout=120)
     if checked.returncode:
         raise NotCompiled(checked.stderr.decode(errors="replace").replace(folder, ""))

@@ -26,10 +26,12 @@ class Type:
 
 @dataclass
 class Part:
-    """A component or an alternative. `default` has the tokens of the value after DEFAULT."""
+    """A component or an alternative. `default` has the tokens of the value after DEFAULT. `tag` is the text of its tag, if that is
+    written out."""
 
     name: str
     type: Type
+    tag: str = ""
     is_optional: bool = False
     default: list = field(default_factory=list)
 
@@ -46,7 +48,7 @@ class Module:
     """A module: its text, and its types by the names of their assignments."""
 
     def __init__(self, text):
-        self.text = text
+        self.text, self.head = text, text.split("\n", 1)[0]
         self.tokens, self.at, self.types = TOKEN.findall(text.split("::= BEGIN\n", 1)[1].rsplit("END", 1)[0]), 0, {}
         while self.at < len(self.tokens):
             name = self.take()
@@ -110,7 +112,12 @@ class Module:
         return Type("REF", name=word)
 
     def part(self):
-        part = Part(self.take(), self.type())
+        name, tag = self.take(), ""
+        if self.peek() == "[":
+            tag = "".join(self.take() for _ in "[0]")
+            if self.peek() == "EXPLICIT":
+                tag += f" {self.take()}"
+        part = Part(name, self.type(), tag)
         if self.peek() == "OPTIONAL":
             self.take()
             part.is_optional = True

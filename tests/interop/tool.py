@@ -99,7 +99,8 @@ def main():
     with tempfile.TemporaryDirectory() as work:
         # For tshark, which doesn't run as root.
         os.chmod(work, 0o755)
-        sets = [*cases.example_sets(), *cases.random_sets(count, work)]
+        words = cases.named_set(work)
+        sets = [*cases.example_sets(), words, cases.with_tags(words), *cases.random_sets(count, work)]
         print(f"{len(sets)} sets, {sum(len(it.cases) for it in sets)} documents", flush=True)
         for name in names:
             tool, report = importlib.import_module(f"{name}_tool"), Report(name, faults.known_of(name))

@@ -8,6 +8,4 @@ mod Printing
 mod Plans
 mod Heights
 mod References
-mod Notation
 mod Whole
-mod FixedOctets

@@ -1,4 +1,4 @@
--- The map of a linked set is printable, with encoding instructions and without.
+-- The map of a linked set is printable.
 use Rattle.std.proofs.Common.{◌≡◌, ℕ, ◌+◌, true, List, [], ◌∷◌, ◌++◌, length, All, Contains, Some, refl, sym, ap, subst, ◌∙◌, length-append, append_assoc, arith}
 use Rattle.std.proofs.lemmas.List.Elements.{All-nil, All-cons, All-append, Contains-append_right, Contains-get_or}
 use Rattle.asn_types.specs.declared.modules.Assignment.{Assignment}
@@ -14,13 +14,12 @@ use Rattle.map_laws.specs.Widths.{HasWidths}
 use Rattle.module_text.specs.Names.{is_reference}
 use Rattle.module_text.specs.declared.spots.Spot.TheVariants.{Elsewhere}
 use Rattle.module_text.specs.Printable.{HasPartMarks, IsPrintableAssignment}
-use Rattle.map_printable.specs.Maps.{MapsArePrintable, MapsAreNotation}
+use Rattle.map_printable.specs.Maps.{MapsArePrintable}
 use Rattle.map_printable.proofs.Names.{taken-reference}
 use Rattle.map_printable.proofs.PartMarks.{assignment-marked}
 use Rattle.map_printable.proofs.Printing.{named-prints}
 use Rattle.map_printable.proofs.Plans.{body-prints}
 use Rattle.map_printable.proofs.Heights.{body-height}
-use Rattle.map_printable.proofs.Notation.{printable-notation}
 use Rattle.map_printable.proofs.References.{never-reserved, reference-some, subject-name, AreReferences, wanted-reference}
 
 module _ (s : Set) (linked : IsLinked s) (es : List NamedSubject) (entries : AreEntries s es) where
@@ -65,6 +64,3 @@ maps-printable modules bounded s M linked wide is = record {
   bounded = bounded s M wide is;
   assignments = assignments-printable s M linked is;
 }
-
-pub maps-notation : ((s : Set) (M : List Assignment) → IsLinked s → IsMapOf s M → IsModule M) → MapsAreNotation
-maps-notation modules s M linked is octets = printable-notation M (assignments-printable s M linked is) (modules s M linked is) octets

@@ -3,8 +3,6 @@
 //! Read first: `specs/Maps`.
 #![tactic(auto)]
 
-mod fixed_octets;
 mod laws;
 
-pub use fixed_octets::see_fixed_octets;
-pub use laws::{maps_are_notation, maps_are_printable};
+pub use laws::maps_are_printable;

@@ -4,7 +4,3 @@ pub mod Standards
 pub mod Typing
 pub mod Valuing
 mod Rows
-mod Free
-mod Copied
-mod Valued
-mod Plainly

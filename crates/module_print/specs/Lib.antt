@@ -2,6 +2,3 @@ pub mod Notation
 pub mod Instructions
 pub mod Values
 pub mod Printed
-pub mod Names
-pub mod Plain
-pub mod Stripped

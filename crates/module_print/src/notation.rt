@@ -164,8 +164,8 @@ fn write_hexadecimal(out: &mut Vec<u8>, octets: &[u8]) -> Result<(), AllocError>
     Ok(())
 }
 
-// Appends a fixed value, as a comment.
-pub(crate) fn write_fixed(out: &mut Vec<u8>, standard: &Standard) -> Result<(), AllocError>
+/// Appends a fixed value, as a comment.
+pub fn write_fixed(out: &mut Vec<u8>, standard: &Standard) -> Result<(), AllocError>
     ensures { OnOk result (out.new.items ≡ out.old.items ++ fixed_range standard.now) }
 {
     match standard {
@@ -179,8 +179,8 @@ pub(crate) fn write_fixed(out: &mut Vec<u8>, standard: &Standard) -> Result<(), 
     }
 }
 
-// Appends the comma before the item with this number.
-pub(crate) fn write_comma(out: &mut Vec<u8>, i: usize) -> Result<(), AllocError>
+/// Appends the comma before the item with this number.
+pub fn write_comma(out: &mut Vec<u8>, i: usize) -> Result<(), AllocError>
     ensures { OnOk result (out.new.items ≡ out.old.items ++ comma i) }
 {
     if i > 0 {
@@ -189,8 +189,8 @@ pub(crate) fn write_comma(out: &mut Vec<u8>, i: usize) -> Result<(), AllocError>
     Ok(())
 }
 
-// Appends a line feed, and the indentation of a line: four spaces for each level.
-pub(crate) fn write_new_line(out: &mut Vec<u8>, levels: usize) -> Result<(), AllocError>
+/// Appends a line feed, and the indentation of a line: four spaces for each level.
+pub fn write_new_line(out: &mut Vec<u8>, levels: usize) -> Result<(), AllocError>
     ensures { OnOk result (out.new.items ≡ out.old.items ++ new_line levels) }
 {
     out.push(b'\n')?;

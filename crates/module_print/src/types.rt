@@ -1,8 +1,9 @@
 //! Types with their parts.
-ghost use Rattle.std.specs.Prelude.{◌≡◌, ◌++◌, ◌∷◌, [], ◌≤◌, OnOk, suc, map, length};
+ghost use Rattle.std.specs.Prelude.{◌≡◌, ◌++◌, ◌∷◌, [], ◌≤◌, ℕ, true, List, OnOk, suc, map, length};
+ghost use Rattle.asn_types.specs.declared.modules.Assignment.{Assignment};
 ghost use Rattle.base_trees.specs.Rose.{roses_of, Allowed, AllowedAll};
 ghost use Rattle.asn_types.specs.Modules.{IsStandard, AreStandards, AreWellFormed, AllWellFormed};
-ghost use Rattle.asn_types.specs.Parts.{parts_of, MayHave};
+ghost use Rattle.asn_types.specs.Parts.{is_leaf, parts_of, MayHave};
 ghost use Rattle.module_print.specs.Notation.{enumerated, block, listed, new_line};
 ghost use Rattle.module_print.specs.Printed.{reference_at, numbered_item, integer, text_type, sequence_of, labelled, ending, with_type, prefixes, type_of, level_of_parts, printed_type, printed_parts};
 
@@ -80,8 +81,24 @@ fn write_text_type(
     write_class(out, class)
 }
 
-// Appends SEQUENCE OF without its item.
-fn write_sequence_of(out: &mut Vec<u8>, least: u32, most: Option<u32>) -> Result<(), AllocError>
+/// Appends a type that is neither a reference nor has components (X.680, clauses 18 to 20 and 41).
+pub fn write_leaf(out: &mut Vec<u8>, form: &Form) -> Result<(), AllocError>
+    requires { is_leaf form.now ≡ true }
+    ensures { (M : List Assignment) (levels : ℕ) (parts : List (List ℕ)) → OnOk result (out.new.items ≡ out.old.items ++ type_of M levels form.now parts) }
+{
+    match form {
+        Form::Bool => out.extend_from_slice(b"BOOLEAN"),
+        Form::Int { lo, hi } => write_integer(out, *lo, *hi),
+        Form::Numbers { numbers } => write_numbers(out, numbers.items()),
+        Form::Words { identifiers, .. } => write_words(out, identifiers.items()),
+        Form::Order { identifiers } => write_words(out, identifiers.items()),
+        Form::Utf8 { min, max, class } => write_text_type(out, *min, *max, *class),
+        _ => Ok(()),
+    }
+}
+
+/// Appends SEQUENCE OF (X.680, clause 26) without its item.
+pub fn write_sequence_of(out: &mut Vec<u8>, least: u32, most: Option<u32>) -> Result<(), AllocError>
     ensures { OnOk result (out.new.items ≡ out.old.items ++ sequence_of least most) }
 {
     out.extend_from_slice(b"SEQUENCE")?;
@@ -89,8 +106,8 @@ fn write_sequence_of(out: &mut Vec<u8>, least: u32, most: Option<u32>) -> Result
     out.extend_from_slice(b" OF ")
 }
 
-// Appends an identifier with a space after it, if there is one.
-fn write_identifier(out: &mut Vec<u8>, identifier: &Text) -> Result<(), AllocError>
+/// Appends an identifier with a space after it, if there is one.
+pub fn write_identifier(out: &mut Vec<u8>, identifier: &Text) -> Result<(), AllocError>
     ensures { OnOk result (out.new.items ≡ out.old.items ++ labelled identifier.now) }
 {
     let identifier = identifier.bytes();
@@ -102,8 +119,8 @@ fn write_identifier(out: &mut Vec<u8>, identifier: &Text) -> Result<(), AllocErr
     Ok(())
 }
 
-// Appends the text after the type of a part that may be absent.
-fn write_ending(
+/// Appends the text after the type of a part that may be absent (X.680, clause 25.1).
+pub fn write_ending(
     out: &mut Vec<u8>,
     module: &Module,
     part: &Component,
@@ -146,8 +163,8 @@ fn write_prefixes(
     write_instructions(out, generated, &label.form, &label.marks)
 }
 
-// Appends the brace after the parts, on a line of its own.
-fn write_closing_brace(out: &mut Vec<u8>, levels: usize) -> Result<(), AllocError>
+/// Appends the brace after the parts, on a line of its own at this level of indentation.
+pub fn write_closing_brace(out: &mut Vec<u8>, levels: usize) -> Result<(), AllocError>
     ensures { OnOk result (out.new.items ≡ out.old.items ++ (new_line levels ++ 125 ∷ [])) }
 {
     write_new_line(out, levels)?;
@@ -192,12 +209,6 @@ fn write_form(
     ensures { OnOk result (out.new.items ≡ out.old.items ++ type_of module.now levels form.now (printed_parts module.now (level_of_parts levels form.now) (parts_of form.now) (roses_of kids.now))) }
 {
     match form {
-        Form::Bool => out.extend_from_slice(b"BOOLEAN")?,
-        Form::Int { lo, hi } => write_integer(out, *lo, *hi)?,
-        Form::Numbers { numbers } => write_numbers(out, numbers.items())?,
-        Form::Words { identifiers, .. } => write_words(out, identifiers.items())?,
-        Form::Order { identifiers } => write_words(out, identifiers.items())?,
-        Form::Utf8 { min, max, class } => write_text_type(out, *min, *max, *class)?,
         Form::Sequence { parts } => {
             out.extend_from_slice(b"SEQUENCE ")?;
             write_block(out, module, levels, parts.items(), kids)?;
@@ -211,6 +222,7 @@ fn write_form(
             write_part(out, module, levels, part, &kids[0])?;
         }
         Form::Ref { to } => write_reference(out, module, *to)?,
+        leaf => write_leaf(out, leaf)?,
     }
     Ok(())
 }

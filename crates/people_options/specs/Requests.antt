@@ -3,6 +3,8 @@ use Rattle.std.specs.Prelude.{ℕ, Bool, true, false, ◌||◌, ◌==◌, eqb, L
 use Rattle.std.specs.List.{ends_with}
 use Rattle.transcode_words.specs.declared.asked.Form.{Form}
 use Rattle.transcode_words.specs.declared.asked.Form.TheVariants.{Notation, Plain, Stamp}
+use Rattle.module_plain.specs.declared.tags.Tags.{Tags}
+use Rattle.module_plain.specs.declared.tags.Tags.TheVariants.{Automatic}
 use Rattle.transcode_words.specs.declared.asked.Task.{Task}
 use Rattle.transcode_words.specs.declared.asked.Task.TheVariants as task
 use Rattle.transcode_words.specs.Words.{are_files, root_of}
@@ -36,19 +38,21 @@ chosen (Some name) = option_map (λ root. Named root) (root_of name)
 abbrev pub served_by : Task → Option (List ℕ) × List (List ℕ) → Option Asked
 served_by task parts = if are_files parts.1 then option_map (λ root. Serve task root parts.1) (chosen parts.0) else None
 
--- the form of `show`, where its options are `--plain` and `--stamp`: at most one of them
-abbrev pub form_of : Bool → Bool → Option Form
-form_of false false = Some Notation
-form_of true false = Some Plain
-form_of false true = Some Stamp
-form_of true true = None
+-- the form of `show`, where its options are `--plain`, `--tags` and `--stamp`: at most one of `--plain` and `--stamp`, and `--tags` only
+-- with `--plain`
+abbrev pub form_of : Bool → Option Tags → Bool → Option Form
+form_of false None false = Some Notation
+form_of true None false = Some (Plain Automatic)
+form_of true (Some tags) false = Some (Plain tags)
+form_of false None true = Some Stamp
+form_of _ _ _ = None
 
 -- `show` of from 1 to 64 files
 abbrev pub shown_by : Option Form → List (List ℕ) → Option Asked
 shown_by form files = if are_files files then option_map (λ f. Show f files) form else None
 
 abbrev pub acted_by : Action → Options → Option Asked
-acted_by action.Show options = shown_by (form_of options.plain options.stamp) options.words.items
+acted_by action.Show options = shown_by (form_of options.plain options.tags options.stamp) options.words.items
 acted_by action.ShowBack options = shown_back_by options.words.items
 acted_by action.Check options = served_by task.Check (rooted options.root options.words.items)
 acted_by action.ToPer options = served_by (task.Send options.syntax options.stamp) (rooted options.root options.words.items)

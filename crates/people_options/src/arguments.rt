@@ -2,9 +2,11 @@
 use crate::mistakes::mistake;
 use crate::options::{Action, Options};
 use crate::syntaxes::{syntax_named, wrong_syntax};
+use crate::tagging::{tags_named, wrong_tags};
 use base_texts::{Memory, Text};
 use clap::error::ErrorKind;
 use clap::{Arg, ArgAction, ArgMatches, Command, Error};
+use module_plain::Tags;
 use std::alloc::{AllocError, Global};
 use std::convert::AsStr;
 use transcode_words::Syntax;
@@ -136,6 +138,11 @@ const SUBCOMMANDS: &[Subcommand] = &[
                 id: "plain",
                 form: Form::Flag,
                 help: "Omit what X.693 adds, for other ASN.1 compilers",
+            },
+            Argument {
+                id: "tags",
+                form: Form::Long("TAGS"),
+                help: "With --plain: automatic (the default), or explicit for compilers without AUTOMATIC TAGS",
             },
             Argument {
                 id: "stamp",
@@ -286,6 +293,7 @@ fn options_of(
     alloc: Global,
     action: Action,
     syntax: Syntax,
+    tags: Option<Tags>,
     matches: &ArgMatches<'_>,
 ) -> Result<Options, Memory> {
     Ok(Options {
@@ -294,6 +302,7 @@ fn options_of(
         words: texts(alloc, matches.get_strs("words").unwrap_or(&[]))?,
         syntax,
         plain: matches.get_flag("plain"),
+        tags,
         stamp: matches.get_flag("stamp"),
     })
 }
@@ -308,13 +317,25 @@ fn syntax_error(alloc: Global, name: &str) -> Result<Error, AllocError> {
     value_error(alloc, message.as_str())
 }
 
+// Returns the value of `--tags`, if there is one.
+fn tags_of(alloc: Global, matches: &ArgMatches<'_>) -> Result<Option<Tags>, Error> {
+    let Some(name) = matches.get_str("tags") else {
+        return Ok(None);
+    };
+    match tags_named(name) {
+        Some(tags) => Ok(Some(tags)),
+        None => Err(value_error(alloc, wrong_tags(alloc, name)?.as_str())?),
+    }
+}
+
 // Returns the command with its options.
 fn call_of<'a>(alloc: Global, action: Action, matches: &ArgMatches<'a>) -> Result<Call<'a>, Error> {
     let name = matches.get_str("syntax");
     let Some(syntax) = syntax_named(name) else {
         return Err(syntax_error(alloc, name.unwrap_or(""))?);
     };
-    match options_of(alloc, action, syntax, matches) {
+    let tags = tags_of(alloc, matches)?;
+    match options_of(alloc, action, syntax, tags, matches) {
         Ok(options) => Ok(Call {
             options,
             input: matches.get_str("input"),
@@ -350,7 +371,7 @@ pub fn parse_words<'a>(alloc: Global, words: &'a [String]) -> Result<Parsed<'a>,
 fn requirement(action: Action) -> &'static str {
     match action {
         Action::Show => {
-            "show requires 1 to 64 FILEs, and accepts at most one of --plain and --stamp"
+            "show requires 1 to 64 FILEs, accepts at most one of --plain and --stamp, and --tags only with --plain"
         }
         Action::ShowBack => "show-back requires one FILE",
         Action::Trial => "N is a number from 1 to 100000",

@@ -13,6 +13,7 @@ mod options;
 mod outputs;
 mod progress;
 mod syntaxes;
+mod tagging;
 
 pub use arguments::{Call, Parsed, no_request, parse_words};
 pub use files::LoadedFiles;

@@ -7,6 +7,7 @@ ghost use Rattle.transcode_words.specs.Order.{Found};
 ghost use Rattle.people_options.specs.Requests as rule;
 
 use base_texts::Text;
+use module_plain::Tags;
 use transcode_words::asked::{Asked, Form, Root, Task};
 use transcode_words::{Outcome, Syntax, are_files, count_of, root_of};
 
@@ -34,6 +35,8 @@ pub struct Options {
     pub syntax: Syntax,
     /// Whether `--plain` is given.
     pub plain: bool,
+    /// The value of `--tags`.
+    pub tags: Option<Tags>,
     /// Whether `--stamp` is given.
     pub stamp: bool,
 }
@@ -67,14 +70,18 @@ fn chosen(name: Option<&Text>) -> Option<Root<'_>>
     }
 }
 
-fn form_of(plain: bool, stamp: bool) -> Option<Form>
-    ensures { result ≡ rule.form_of plain stamp }
+// Returns the form of `show` with these options.
+fn form_of(plain: bool, tags: Option<Tags>, stamp: bool) -> Option<Form>
+    ensures { result ≡ rule.form_of plain tags stamp }
 {
-    match (plain, stamp) {
-        (false, false) => Some(Form::Notation),
-        (true, false) => Some(Form::Plain),
-        (false, true) => Some(Form::Stamp),
-        (true, true) => None,
+    match (plain, tags, stamp) {
+        (false, None, false) => Some(Form::Notation),
+        (true, None, false) => Some(Form::Plain {
+            tags: Tags::Automatic,
+        }),
+        (true, Some(tags), false) => Some(Form::Plain { tags }),
+        (false, None, true) => Some(Form::Stamp),
+        _ => None,
     }
 }
 
@@ -99,13 +106,13 @@ impl Options {
     }
 
     fn shown(&self) -> Option<Asked<'_>>
-        ensures { option_map asked_seen result ≡ rule.shown_by (rule.form_of self.now.plain self.now.stamp) self.now.words.items }
+        ensures { option_map asked_seen result ≡ rule.shown_by (rule.form_of self.now.plain self.now.tags self.now.stamp) self.now.words.items }
     {
         let files = self.words.as_slice();
         if !are_files(files) {
             return None;
         }
-        let form = form_of(self.plain, self.stamp)?;
+        let form = form_of(self.plain, self.tags, self.stamp)?;
         Some(Asked::Show { form, files })
     }
 

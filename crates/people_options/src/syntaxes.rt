@@ -17,15 +17,27 @@ pub fn syntax_named(name: Option<&str>) -> Option<Syntax> {
     }
 }
 
-/// Returns the message about a name that no syntax has.
-pub fn wrong_syntax(alloc: Global, name: &str) -> Result<String, AllocError> {
-    let mut message = String::from_str(alloc, "no syntax has the name '")?;
+/// Returns the message about a name that none of this kind has, with the names of the rows.
+pub fn wrong_name<T>(
+    alloc: Global,
+    kind: &str,
+    name: &str,
+    rows: &[(&str, T)],
+) -> Result<String, AllocError> {
+    let mut message = String::from_str(alloc, "no ")?;
+    message.push_str(kind)?;
+    message.push_str(" has the name '")?;
     message.push_str(name)?;
     message.push_str("' [possible values:")?;
-    for (known, _) in SYNTAXES {
+    for (known, _) in rows {
         message.push_str(" ")?;
         message.push_str(known)?;
     }
     message.push_str("]")?;
     Ok(message)
+}
+
+/// Returns the message about a name that no syntax has.
+pub fn wrong_syntax(alloc: Global, name: &str) -> Result<String, AllocError> {
+    wrong_name(alloc, "syntax", name, SYNTAXES)
 }

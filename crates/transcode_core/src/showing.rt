@@ -1,11 +1,7 @@
 //! The module of a set, in each form.
-ghost use Rattle.std.specs.Prelude.{◌≡◌, ◌≤◌, ◌++◌, List, codes, length, take};
+ghost use Rattle.std.specs.Prelude.{◌≡◌, ◌≤◌, ◌++◌, ℕ, List, IfOk, codes, length, take};
 ghost use Rattle.std.specs.List.{flat_map};
 ghost use Rattle.sha2.specs.Sha256.{sha256};
-ghost use Rattle.asn_types.specs.declared.modules.Assignment.{Assignment};
-ghost use Rattle.module_print.specs.Names.{IsNotation};
-ghost use Rattle.module_print.specs.Plain.{plain};
-ghost use Rattle.module_print.specs.Printed.{printed as printed_module};
 ghost use Rattle.schema_components.specs.SetParts.{parts_of};
 ghost use Rattle.transcode_words.specs.Answers.{Answers, NoMemory};
 ghost use Rattle.transcode_words.specs.Order.{Give, Then};
@@ -17,10 +13,10 @@ ghost use Rattle.transcode_core.specs.Requests.Due.{Mapped, shown};
 use crate::opening::read_set;
 use crate::stamps::{stamp_line, stamp_of};
 use asn_types::Module;
-use base_texts::{Library, Text};
+use base_texts::{Library, Memory, Text};
 use map_assignments::map_set;
-use map_printable::{maps_are_notation, see_fixed_octets};
-use module_print::{plain_module, print_module};
+use module_plain::print_plain;
+use module_print::print_module;
 use schema_components::SchemaSet;
 use std::alloc::Global;
 use transcode_words::Outcome;
@@ -36,11 +32,21 @@ fn stamp_text(alloc: Global, printed: &[u8]) -> Result<Vec<u8>, Outcome>
     }
 }
 
-// Returns the printed module without its encoding instructions.
-fn plain_text(alloc: Global, printed: &[u8]) -> Result<Vec<u8>, Outcome>
-    ensures { (made : List Assignment) → printed.now ≡ printed_module made → IsNotation made → Answers (λ bytes. bytes.items) (Give (plain made)) NoMemory result }
+// Returns the stamp of the module as a line.
+fn show_stamp(alloc: Global, module: &Module) -> Result<Vec<u8>, Outcome>
+    ensures { Answers (λ bytes. bytes.items) (Give (shown Form.Stamp module.now)) NoMemory result }
 {
-    match plain_module(alloc, printed) {
+    match print_module(alloc, module) {
+        Ok(text) => stamp_text(alloc, &text),
+        Err(_) => Err(Outcome::OutOfMemory),
+    }
+}
+
+// Returns the printed text, or that there is no memory for it.
+fn text_of(text: Result<Vec<u8>, Memory>) -> Result<Vec<u8>, Outcome>
+    ensures { (due : List ℕ) → IfOk text.entry (λ bytes. bytes.items ≡ due) → Answers (λ bytes. bytes.items) (Give due) NoMemory result }
+{
+    match text {
         Ok(text) => Ok(text),
         Err(_) => Err(Outcome::OutOfMemory),
     }
@@ -48,16 +54,12 @@ fn plain_text(alloc: Global, printed: &[u8]) -> Result<Vec<u8>, Outcome>
 
 // Returns the module in this form.
 fn show_module(alloc: Global, form: Form, module: &Module) -> Result<Vec<u8>, Outcome>
-    requires { IsNotation module.now }
     ensures { Answers (λ bytes. bytes.items) (Give (shown form module.now)) NoMemory result }
 {
-    let Ok(text) = print_module(alloc, module) else {
-        return Err(Outcome::OutOfMemory);
-    };
     match form {
-        Form::Notation => Ok(text),
-        Form::Stamp => stamp_text(alloc, &text),
-        Form::Plain => plain_text(alloc, &text),
+        Form::Notation => text_of(print_module(alloc, module)),
+        Form::Plain { tags } => text_of(print_plain(alloc, module, tags)),
+        Form::Stamp => show_stamp(alloc, module),
     }
 }
 
@@ -67,12 +69,8 @@ fn show_set(alloc: Global, form: Form, set: &SchemaSet) -> Result<Vec<u8>, Outco
 {
     // Calling one of the set's readers makes its invariant known.
     let _ = set.element_count();
-    maps_are_notation();
     match map_set(alloc, set) {
-        Ok(module) => {
-            see_fixed_octets(&module);
-            show_module(alloc, form, &module)
-        }
+        Ok(module) => show_module(alloc, form, &module),
         Err(_) => Err(Outcome::OutOfMemory),
     }
 }

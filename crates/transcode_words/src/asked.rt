@@ -2,6 +2,7 @@
 
 use crate::tasks::Syntax;
 use base_texts::Text;
+use module_plain::Tags;
 
 /// The name of a root element: its namespace, empty where there is none, and its local name.
 #[derive(Clone, Copy)]
@@ -15,8 +16,8 @@ pub struct RootName<'a> {
 pub enum Form {
     /// ASN.1 notation (X.680) with encoding instructions (X.693).
     Notation,
-    /// The same notation without what other compilers don't read.
-    Plain,
+    /// ASN.1 notation without encoding instructions, for other compilers, with tags given so.
+    Plain { tags: Tags },
     /// The stamp of the module, in hexadecimal digits.
     Stamp,
 }

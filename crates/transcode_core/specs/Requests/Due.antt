@@ -8,7 +8,7 @@ use Rattle.schema_components.specs.Components.{Set}
 use Rattle.schema_components.specs.SetParts.{SetParts, parts_of}
 use Rattle.map_assignments.specs.Mapped.{IsMapOf}
 use Rattle.module_print.specs.Printed.{printed}
-use Rattle.module_print.specs.Plain.{plain}
+use Rattle.module_plain.specs.Plain.{plain}
 use Rattle.transcode_words.specs.Asked.{Root, Named, Only, Asked, Show, ShowBack, Serve, Trial}
 use Rattle.transcode_words.specs.declared.asked.Form.{Form}
 use Rattle.transcode_words.specs.declared.asked.Form.TheVariants as form
@@ -70,10 +70,10 @@ Mapped parts (Err o) = ⊥
 abbrev pub stamp_of : List Assignment → List ℕ
 stamp_of made = take 8 (sha256 (printed made))
 
--- a module in each form: its print; its print without what other compilers don't read; its stamp as a line of hexadecimal digits
+-- a module in each form: its print; its print for other compilers; its stamp as a line of hexadecimal digits
 abbrev pub shown : Form → List Assignment → List ℕ
 shown form.Notation made = printed made
-shown form.Plain made = plain made
+shown (form.Plain tags) made = plain tags made
 shown form.Stamp made = flat_map both_digits (stamp_of made) ++ codes "\n"
 
 -- what precedes the encoding in the output: the stamp, where the request has one

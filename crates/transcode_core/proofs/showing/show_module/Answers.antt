@@ -1,15 +1,9 @@
-use Rattle.std.proofs.Common.{ℕ, ◌++◌, List, codes, take, subst, ◌∙◌}
-use Rattle.std.specs.Prelude.{Vec}
-use Rattle.std.specs.List.{flat_map}
-use Rattle.std.specs.declared.alloc.Global.{Global}
-use Rattle.sha2.specs.Sha256.{sha256}
-use Rattle.transcode_words.specs.Answers.{Answers, NoMemory}
-use Rattle.transcode_words.specs.Order.{Give}
-use Rattle.transcode_core.specs.Digits.{both_digits}
+use Rattle.module_print.specs.Printed.{printed}
+use Rattle.module_plain.specs.Plain.{plain}
 use Rattle.transcode_core.proofs.showing.show_module.Goals as goal
 
-pub returns-in-Stamp : goal.returns-in-Stamp
-returns-in-Stamp c =
-    rw c.in-Stamp.is
-    (subst (λ (text : List ℕ). Answers (λ (bytes : Vec ℕ Global). bytes.items) (Give (flat_map both_digits (take 8 (sha256 text)) ++ codes "\n")) NoMemory c.stamp_text.result) (c.deref.ensures.value ∙ c.in-Ok.ensures)
-    c.stamp_text.ensures)
+pub returns-in-Notation : goal.returns-in-Notation
+returns-in-Notation c = rw c.in-Notation.is (c.text_of.ensures (printed c.args.module.now) c.print_module.ensures)
+
+pub returns-in-Plain : goal.returns-in-Plain
+returns-in-Plain c = rw c.in-Plain.is (c.text_of-in-Plain.ensures (plain c.in-Plain.tags c.args.module.now) c.print_plain.ensures)

@@ -13,6 +13,3 @@ pub returns-in-Ok : goal.returns-in-Ok
 returns-in-Ok c =
     passed (Mapped (parts_of c.args.set.now)) (λ (made : List Assignment). Give (shown c.args.form made)) NoMemory NoMemory
     (λ (bytes : Vec ℕ Global). bytes.items) c.in-Ok.module c.show_module.result (c.args.set.now, refl, c.in-Ok.ensures.map) c.show_module.ensures (λ o h. h)
-
-pub show_module-requires : goal.show_module-requires
-show_module-requires c = c.maps_are_notation.ensures c.args.set.now c.in-Ok.module c.element_count.ensures.linked c.in-Ok.ensures.map c.see_fixed_octets.ensures
