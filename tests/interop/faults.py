@@ -1,5 +1,6 @@
 """The known faults of the tools, each with its cause and the shortest case that shows it, which is tried first: a fault that its own
 case doesn't show any more is reported."""
+import re
 from dataclasses import dataclass
 
 import cases
@@ -125,6 +126,11 @@ def has_default(holds):
     return has_type(lambda _, part: part is not None and any(map(holds, part.default)))
 
 
+def has_characters(_, part):
+    """Whether a value after DEFAULT is or contains a list of characters."""
+    return part is not None and re.search(r"[{,] \{ 0, 0, 0, ", part.default_text) is not None
+
+
 def simple(name, facets=""):
     inner = f'<xs:simpleType><xs:restriction base="xs:{name}">{facets}</xs:restriction></xs:simpleType>'
     return f'<xs:element name="a">{inner}</xs:element>'
@@ -158,8 +164,8 @@ FIVES = (
 FAULTS = [
     Fault(COMPILERS, "ours: ANY and DEFINED are words of older editions and of X.680's extensions", ("compiles",), ALL, has_name,
           '<xs:element name="ANY" type="xs:boolean"/>', "ANY", "<ANY>1</ANY>", True),
-    Fault(("erlang",), "ours: a line feed in a text after DEFAULT, which X.680 (12.14) reads otherwise", ("compiles",), ALL,
-          has_default(lambda it: "\n" in it), defaulted("string", "x&#10;y"), "a", "<a/>", {"b": "x\ny"}),
+    Fault(("erlang",), "gives a list of characters after DEFAULT (X.680, 41.8) as its pieces", ("reads",), ALL,
+          has_type(has_characters), defaulted("string", "x&#10;y"), "a", "<a/>", {"b": "x\ny"}),
     Fault(("erlang",), "doesn't know the doubled quotation mark of X.680 (12.14.1) after DEFAULT", ("compiles",), ALL,
           has_default(lambda it: '""' in it[1:-1]), defaulted("string", "x&quot;y"), "a", "<a/>", {"b": 'x"y'}),
     Fault(("erlang",), "reads only the first fragment of a UTF8String", ("reads", "writes"), PER,

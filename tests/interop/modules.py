@@ -42,6 +42,20 @@ class Part:
         return self.is_optional or bool(self.default)
 
 
+def text_of(tokens):
+    """Returns the text that is written in quotation marks, or as a list of characters (X.680, clause 41.8)."""
+    pieces, numbers = [], []
+    for token in tokens:
+        if token.startswith('"'):
+            pieces.append(token[1:-1].replace('""', '"'))
+        elif token not in ("{", "}", ","):
+            numbers.append(int(token))
+            if len(numbers) == 4:
+                pieces.append(chr(int.from_bytes(bytes(numbers), "big")))
+                numbers.clear()
+    return "".join(pieces)
+
+
 class Module:
     """A module: its text, and its types by the names of their assignments."""
 
@@ -148,7 +162,7 @@ class Module:
         if type_.kind == "INTEGER":
             return int(tokens[0])
         if type_.kind == "UTF8String":
-            return tokens[0][1:-1].replace('""', '"')
+            return text_of(tokens)
         if type_.kind == "ENUMERATED":
             return tokens[0]
         if type_.kind == "CHOICE":

@@ -76,6 +76,7 @@ module _ (depth : ℕ) (each : (place : ℕ) (v : Rose PlainValueLabel) → IsVa
   inside_leads place (value.Number written) vs f = none_lead vs f.0.1
   inside_leads place (value.Item identifier) vs f = none_lead vs f.0.1
   inside_leads place (value.Quoted text) vs f = none_lead vs f.0
+  inside_leads place (value.Quadruple cell) vs f = none_lead vs f.0.1
   inside_leads place value.List vs f =
       leads_moved place 2 (listed_deep (codes ", ") value_text (value_deep depth) (list_of vs)) (deep_in_values depth vs)
       (list_leads (place + 2) vs (f.0, (node_is (label place value.List) (label place value.List) (placed_values (place + 2) vs) vs f.1).1))

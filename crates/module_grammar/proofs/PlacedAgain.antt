@@ -291,6 +291,7 @@ node_kept l value.False vs ws e g f p = e ∙ f
 node_kept l (value.Number written) vs ws e g f p = (f.0, e ∙ f.1)
 node_kept l (value.Item identifier) vs ws e g f p = (f.0, e ∙ f.1)
 node_kept l (value.Quoted text) vs ws e g f p = e ∙ f
+node_kept l (value.Quadruple cell) vs ws e g f p = (f.0, e ∙ f.1)
 node_kept l value.List vs ws e g f p = g f
 node_kept l (value.Chosen identifier) vs ws e g f p = (f.0, e ∙ f.1, g f.2)
 

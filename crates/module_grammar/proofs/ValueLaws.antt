@@ -4,6 +4,7 @@ use Rattle.std.specs.List.{join_with_byte, list_all}
 use Rattle.base_trees.specs.Rose.{Rose, node, Roses, none, more, roses_of, list_of, length_all}
 use Rattle.base_texts.specs.Digits.{is_digit, is_numeral}
 use Rattle.module_print.specs.Notation.{quoted}
+use Rattle.module_print.specs.CharacterLists.{quadruple}
 use Rattle.module_grammar.specs.Reading.{Found, Fails, Reader, word_at, byte_at, then_at, or_at, many_at, behind_at, before_at}
 use Rattle.module_grammar.specs.Shapes.{Sunk, moved, Anything, AnyRest, never, word_of, IsFailed, IsUnread, BothFine, both_written, both_deep, EitherFine, either_deep, either_written, EachFine, each_written, BehindFine, shifted, behind_word, before_word}
 use Rattle.module_grammar.specs.Laws.{Law, Early}
@@ -24,7 +25,7 @@ use Rattle.module_text.specs.declared.values.PlainValue.TheVariants as value
 use Rattle.module_text.specs.declared.values.PlainValueLabel.{PlainValueLabel}
 use Rattle.module_grammar.specs.NameReading.{identifier_at, signed_at, quoted_at, numeral_at}
 use Rattle.module_grammar.specs.NameReading.{quoted_byte_at, bytes_of, digits_of, signed}
-use Rattle.module_grammar.specs.ValueReading.{listed_at, Values, label, OneValue, value_of, braced_at, chosen_at, one_value_at, is_value_first, value_at}
+use Rattle.module_grammar.specs.ValueReading.{quadruple_at, text_piece_of, text_piece_at, listed_at, Values, label, OneValue, value_of, braced_at, chosen_at, one_value_at, is_value_first, value_at}
 use Rattle.module_grammar.specs.Depth.{listed_deep, value_deep}
 use Rattle.module_grammar.proofs.Booleans.{both, and_true, is_other, small_no_digit}
 use Rattle.module_grammar.proofs.Unread.{as_fails, then_fails, behind_fails, or_fails, word_fails, other_first, stuck_behind, first_of_front}
@@ -131,20 +132,63 @@ chosen_text = both_written (before_word itself (codes " : ")) (λ identifier. va
 abbrev chosen_deep : (Rose PlainValueLabel → Option Sunk) → List ℕ × Rose PlainValueLabel → Option Sunk
 chosen_deep deep = both_deep (before_word itself (codes " : ")) never (λ identifier. deep)
 
+-- a piece of a text
+abbrev IsQuadruple : ℕ → List ℕ → Type 0
+IsQuadruple = BehindFine (codes "{0, 0, 0, ") IsSigned
+
+abbrev quadruple_text : List ℕ → List ℕ
+quadruple_text = behind_word (codes "{0, 0, 0, ") (before_word itself (codes "}"))
+
+quadruple_law : Law IsQuadruple (shifted (codes "{0, 0, 0, ") never) quadruple_text AnyRest quadruple_at
+quadruple_law = behind_law (codes "{0, 0, 0, ") (before_law (codes "}") {Follow = AnyRest} signed_law (λ place a rest f h. record { item = tt; fails = λ here. tt })) (λ place. (codes "0", refl))
+
+abbrev IsTextPiece : ℕ → PlainValue → Type 0
+IsTextPiece place (value.Quoted text) = Unit {0}
+IsTextPiece place (value.Quadruple cell) = is_number cell ≡ true
+IsTextPiece place v = ⊥
+
+abbrev text_piece : PlainValue → List ℕ
+text_piece (value.Quoted text) = quoted text
+text_piece (value.Quadruple cell) = quadruple cell
+text_piece v = []
+
+piece_fine : (place : ℕ) (x : List ℕ ⊎ List ℕ) → EitherFine Anything IsQuadruple place x → IsTextPiece place (text_piece_of place x)
+piece_fine place (inl text) f = tt
+piece_fine place (inr cell) f = f
+
+piece_deep : (place : ℕ) (x : List ℕ ⊎ List ℕ) → EitherFine Anything IsQuadruple place x → never (text_piece_of place x) ≡ either_deep never (shifted (codes "{0, 0, 0, ") never) x
+piece_deep place (inl text) f = refl
+piece_deep place (inr cell) f = refl
+
+piece_write : (place : ℕ) (x : List ℕ ⊎ List ℕ) → EitherFine Anything IsQuadruple place x → text_piece (text_piece_of place x) ≡ either_written quoted quadruple_text x
+piece_write place (inl text) f = refl
+piece_write place (inr cell) f = refl
+
+piece_onto : (place : ℕ) (v : PlainValue) → IsTextPiece place v → (x : List ℕ ⊎ List ℕ) × EitherFine Anything IsQuadruple place x × (text_piece_of place x ≡ v)
+piece_onto place (value.Quoted text) f = (inl text, tt, refl)
+piece_onto place (value.Quadruple cell) f = (inr cell, f, refl)
+piece_onto place v f = absurd f
+
+text_piece_law : Law IsTextPiece never text_piece QuoteStops text_piece_at
+text_piece_law = as_law (or_law {Follow = QuoteStops} quoted_law quadruple_law (λ place a rest f h. h) (λ place a rest f h. tt) (λ place b rest f h. tt))
+    (record { fine = piece_fine; deep = piece_deep; write = piece_write; onto = piece_onto })
+
 abbrev OneFine : ℕ → OneValue → Type 0
-OneFine = EitherFine Anything (EitherFine Anything (EitherFine IsSigned (EitherFine Anything (EitherFine Anything (EitherFine IsBraced (EitherFine IsChosen IsIdentifier))))))
+OneFine = EitherFine Anything (EitherFine Anything (EitherFine IsSigned (EitherFine IsTextPiece (EitherFine Anything (EitherFine IsBraced (EitherFine IsChosen IsIdentifier))))))
 
 abbrev one_deep : (Rose PlainValueLabel → Option Sunk) → OneValue → Option Sunk
 one_deep deep = either_deep never (either_deep never (either_deep never (either_deep never (either_deep never (either_deep (braced_deep deep) (either_deep (chosen_deep deep) never))))))
 
 abbrev one_text : OneValue → List ℕ
-one_text = either_written (word_of (codes "TRUE")) (either_written (word_of (codes "FALSE")) (either_written itself (either_written quoted (either_written (word_of (codes "{}")) (either_written braced_text (either_written chosen_text itself))))))
+one_text = either_written (word_of (codes "TRUE")) (either_written (word_of (codes "FALSE")) (either_written itself (either_written text_piece (either_written (word_of (codes "{}")) (either_written braced_text (either_written chosen_text itself))))))
 
 one_fine : (place : ℕ) (x : OneValue) → OneFine place x → IsValueHere place (value_of place x)
 one_fine place (inl x) f = (refl, refl)
 one_fine place (inr (inl x)) f = (refl, refl)
 one_fine place (inr (inr (inl written))) f = ((f, refl), refl)
-one_fine place (inr (inr (inr (inl text)))) f = (refl, refl)
+one_fine place (inr (inr (inr (inl (value.Quoted text))))) f = (refl, refl)
+one_fine place (inr (inr (inr (inl (value.Quadruple cell))))) f = ((f, refl), refl)
+one_fine place (inr (inr (inr (inl v)))) f = absurd f
 one_fine place (inr (inr (inr (inr (inl x))))) f = (tt, refl)
 one_fine place (inr (inr (inr (inr (inr (inl [])))))) f = absurd f
 one_fine place (inr (inr (inr (inr (inr (inl (v ∷ vs))))))) f = let h = list_fine (place + 2) v vs f in (h.0, ap (λ ts. node (label place value.List) ts) h.1)
@@ -155,7 +199,9 @@ one_written : (place : ℕ) (x : OneValue) → OneFine place x → value_text (v
 one_written place (inl x) f = refl
 one_written place (inr (inl x)) f = refl
 one_written place (inr (inr (inl written))) f = refl
-one_written place (inr (inr (inr (inl text)))) f = refl
+one_written place (inr (inr (inr (inl (value.Quoted text))))) f = refl
+one_written place (inr (inr (inr (inl (value.Quadruple cell))))) f = refl
+one_written place (inr (inr (inr (inl v)))) f = absurd f
 one_written place (inr (inr (inr (inr (inl x))))) f = refl
 one_written place (inr (inr (inr (inr (inr (inl [])))))) f = absurd f
 one_written place (inr (inr (inr (inr (inr (inl (v ∷ vs))))))) f =
@@ -168,7 +214,9 @@ one_deep_is : (depth place : ℕ) (x : OneValue) → OneFine place x → value_d
 one_deep_is depth place (inl x) f = refl
 one_deep_is depth place (inr (inl x)) f = refl
 one_deep_is depth place (inr (inr (inl written))) f = refl
-one_deep_is depth place (inr (inr (inr (inl text)))) f = refl
+one_deep_is depth place (inr (inr (inr (inl (value.Quoted text))))) f = refl
+one_deep_is depth place (inr (inr (inr (inl (value.Quadruple cell))))) f = refl
+one_deep_is depth place (inr (inr (inr (inl v)))) f = absurd f
 one_deep_is depth place (inr (inr (inr (inr (inl x))))) f = refl
 one_deep_is depth place (inr (inr (inr (inr (inr (inl vs)))))) f = ap (λ l. option_map (moved 2) (listed_deep (codes ", ") value_text (value_deep depth) l)) (list_back vs)
 one_deep_is depth place (inr (inr (inr (inr (inr (inr (inl x))))))) f = refl
@@ -206,7 +254,8 @@ onto_value place at value.True vs f = (inl tt, tt, leaf_is place at value.True _
 onto_value place at value.False vs f = (inr (inl tt), tt, leaf_is place at value.False _ vs f.0 f.1)
 onto_value place at (value.Number written) vs f = (inr (inr (inl written)), f.0.0, leaf_is place at (value.Number written) _ vs f.0.1 f.1)
 onto_value place at (value.Item identifier) vs f = (inr (inr (inr (inr (inr (inr (inr identifier)))))), f.0.0, leaf_is place at (value.Item identifier) _ vs f.0.1 f.1)
-onto_value place at (value.Quoted text) vs f = (inr (inr (inr (inl text))), tt, leaf_is place at (value.Quoted text) _ vs f.0 f.1)
+onto_value place at (value.Quoted text) vs f = (inr (inr (inr (inl (value.Quoted text)))), tt, leaf_is place at (value.Quoted text) _ vs f.0 f.1)
+onto_value place at (value.Quadruple cell) vs f = (inr (inr (inr (inl (value.Quadruple cell)))), f.0.0, leaf_is place at (value.Quadruple cell) _ vs f.0.1 f.1)
 onto_value place at value.List vs f = onto_list place at vs f
 onto_value place at (value.Chosen identifier) vs f = onto_chosen place at identifier vs f
 
@@ -313,45 +362,51 @@ module _ (depth : ℕ) (inner : Reader (Rose PlainValueLabel)) (law : Law IsValu
   abbrev later_text : Unit {0} ⊎ (Values ⊎ ((List ℕ × Rose PlainValueLabel) ⊎ List ℕ)) → List ℕ
   later_text = either_written (word_of (codes "{}")) (either_written braced_text last_text)
 
-  quoted_apart : (place : ℕ) (x : Unit {0} ⊎ (Values ⊎ ((List ℕ × Rose PlainValueLabel) ⊎ List ℕ))) (rest : List ℕ) → Later place x → IsFailed (quoted_at place (later_text x ++ rest))
-  quoted_apart place (inl x) rest f = tt
-  quoted_apart place (inr (inl vs)) rest f = tt
-  quoted_apart place (inr (inr x)) rest f =
+  piece_apart : (place : ℕ) (x : Unit {0} ⊎ (Values ⊎ ((List ℕ × Rose PlainValueLabel) ⊎ List ℕ))) (rest : List ℕ) → Later place x → IsFailed (text_piece_at place (later_text x ++ rest))
+  piece_apart place (inl x) rest f = tt
+  piece_apart place (inr (inl vs)) rest f = tt
+  piece_apart place (inr (inr x)) rest f =
       let h = by_identifier x rest place f in
-      subst (λ l. IsFailed (quoted_at place l)) (sym h.3) (as_fails bytes_of (behind_at (codes "\"") (before_at (many_at quoted_byte_at) (codes "\""))) place (h.0 ++ h.1) (behind_no_identifier 34 [] (before_at (many_at quoted_byte_at) (codes "\"")) refl place h.0 h.1 h.2))
+      let first = as_fails bytes_of (behind_at (codes "\"") (before_at (many_at quoted_byte_at) (codes "\""))) place (h.0 ++ h.1) (behind_no_identifier 34 [] (before_at (many_at quoted_byte_at) (codes "\"")) refl place h.0 h.1 h.2) in
+      let second = behind_no_identifier 123 (codes "0, 0, 0, ") (before_at signed_at (codes "}")) refl place h.0 h.1 h.2 in
+      subst (λ l. IsFailed (text_piece_at place l)) (sym h.3) (as_fails text_piece_of (or_at quoted_at quadruple_at) place (h.0 ++ h.1) (or_fails quoted_at quadruple_at place (h.0 ++ h.1) first second))
 
-  abbrev Then4 : ℕ → List ℕ ⊎ (Unit {0} ⊎ (Values ⊎ ((List ℕ × Rose PlainValueLabel) ⊎ List ℕ))) → Type 0
-  Then4 = EitherFine Anything Later
+  abbrev Then4 : ℕ → PlainValue ⊎ (Unit {0} ⊎ (Values ⊎ ((List ℕ × Rose PlainValueLabel) ⊎ List ℕ))) → Type 0
+  Then4 = EitherFine IsTextPiece Later
 
-  abbrev text4 : List ℕ ⊎ (Unit {0} ⊎ (Values ⊎ ((List ℕ × Rose PlainValueLabel) ⊎ List ℕ))) → List ℕ
-  text4 = either_written quoted later_text
+  abbrev text4 : PlainValue ⊎ (Unit {0} ⊎ (Values ⊎ ((List ℕ × Rose PlainValueLabel) ⊎ List ℕ))) → List ℕ
+  text4 = either_written text_piece later_text
 
-  signed_apart : (place : ℕ) (x : List ℕ ⊎ (Unit {0} ⊎ (Values ⊎ ((List ℕ × Rose PlainValueLabel) ⊎ List ℕ)))) (rest : List ℕ) → Then4 place x → IsFailed (signed_at place (text4 x ++ rest))
-  signed_apart place (inl text) rest f = tt
+  signed_apart : (place : ℕ) (x : PlainValue ⊎ (Unit {0} ⊎ (Values ⊎ ((List ℕ × Rose PlainValueLabel) ⊎ List ℕ)))) (rest : List ℕ) → Then4 place x → IsFailed (signed_at place (text4 x ++ rest))
+  signed_apart place (inl (value.Quoted text)) rest f = tt
+  signed_apart place (inl (value.Quadruple cell)) rest f = tt
+  signed_apart place (inl v) rest f = absurd f
   signed_apart place (inr (inl x)) rest f = tt
   signed_apart place (inr (inr (inl vs))) rest f = tt
   signed_apart place (inr (inr (inr x))) rest f =
       let h = by_identifier x rest place f in
       subst (λ l. IsFailed (signed_at place l)) (sym h.3) (number_no_identifier place h.0 h.1 h.2)
 
-  abbrev Then3 : ℕ → List ℕ ⊎ (List ℕ ⊎ (Unit {0} ⊎ (Values ⊎ ((List ℕ × Rose PlainValueLabel) ⊎ List ℕ)))) → Type 0
+  abbrev Then3 : ℕ → List ℕ ⊎ (PlainValue ⊎ (Unit {0} ⊎ (Values ⊎ ((List ℕ × Rose PlainValueLabel) ⊎ List ℕ)))) → Type 0
   Then3 = EitherFine IsSigned Then4
 
-  abbrev text3 : List ℕ ⊎ (List ℕ ⊎ (Unit {0} ⊎ (Values ⊎ ((List ℕ × Rose PlainValueLabel) ⊎ List ℕ)))) → List ℕ
+  abbrev text3 : List ℕ ⊎ (PlainValue ⊎ (Unit {0} ⊎ (Values ⊎ ((List ℕ × Rose PlainValueLabel) ⊎ List ℕ)))) → List ℕ
   text3 = either_written itself text4
 
   -- a word of a capital letter is none of these
   capital_apart : (a : ℕ) (word : List ℕ) → (45 == a) ≡ false → is_digit a ≡ false → is_small a ≡ false → (34 == a) ≡ false → (123 == a) ≡ false
-      → (place : ℕ) (x : List ℕ ⊎ (List ℕ ⊎ (Unit {0} ⊎ (Values ⊎ ((List ℕ × Rose PlainValueLabel) ⊎ List ℕ))))) (rest : List ℕ) → Then3 place x → IsFailed (word_at (a ∷ word) place (text3 x ++ rest))
+      → (place : ℕ) (x : List ℕ ⊎ (PlainValue ⊎ (Unit {0} ⊎ (Values ⊎ ((List ℕ × Rose PlainValueLabel) ⊎ List ℕ))))) (rest : List ℕ) → Then3 place x → IsFailed (word_at (a ∷ word) place (text3 x ++ rest))
   capital_apart a word h d s q b place (inl written) rest f = word_no_number a word h d place written rest f
-  capital_apart a word h d s q b place (inr (inl text)) rest f = word_fails a word place 34 _ q
+  capital_apart a word h d s q b place (inr (inl (value.Quoted text))) rest f = word_fails a word place 34 _ q
+  capital_apart a word h d s q b place (inr (inl (value.Quadruple cell))) rest f = word_fails a word place 123 _ b
+  capital_apart a word h d s q b place (inr (inl v)) rest f = absurd f
   capital_apart a word h d s q b place (inr (inr (inl x))) rest f = word_fails a word place 123 _ b
   capital_apart a word h d s q b place (inr (inr (inr (inl vs)))) rest f = word_fails a word place 123 _ b
   capital_apart a word h d s q b place (inr (inr (inr (inr x)))) rest f =
       let k = by_identifier x rest place f in
       subst (λ l. IsFailed (word_at (a ∷ word) place l)) (sym k.3) (word_no_identifier a word s place k.0 k.1 k.2)
 
-  true_apart : (place : ℕ) (x : Unit {0} ⊎ (List ℕ ⊎ (List ℕ ⊎ (Unit {0} ⊎ (Values ⊎ ((List ℕ × Rose PlainValueLabel) ⊎ List ℕ)))))) (rest : List ℕ) → EitherFine Anything Then3 place x → IsFailed (word_at (codes "TRUE") place (either_written (word_of (codes "FALSE")) text3 x ++ rest))
+  true_apart : (place : ℕ) (x : Unit {0} ⊎ (List ℕ ⊎ (PlainValue ⊎ (Unit {0} ⊎ (Values ⊎ ((List ℕ × Rose PlainValueLabel) ⊎ List ℕ)))))) (rest : List ℕ) → EitherFine Anything Then3 place x → IsFailed (word_at (codes "TRUE") place (either_written (word_of (codes "FALSE")) text3 x ++ rest))
   true_apart place (inl x) rest f = tt
   true_apart place (inr x) rest f = capital_apart 84 (codes "RUE") refl refl refl refl refl place x rest f
 
@@ -360,13 +415,13 @@ module _ (depth : ℕ) (inner : Reader (Rose PlainValueLabel)) (law : Law IsValu
       or_law {Follow = ValueStops} (word_law (codes "TRUE"))
       (or_law {Follow = ValueStops} (word_law (codes "FALSE"))
       (or_law {Follow = ValueStops} signed_law
-      (or_law {Follow = ValueStops} quoted_law
+      (or_law {Follow = ValueStops} text_piece_law
       (or_law {Follow = ValueStops} (word_law (codes "{}"))
       (or_law {Follow = ValueStops} braced_law
       (or_law {Follow = ValueStops} chosen_law identifier_law (λ place a rest f h. h) (λ place a rest f h. h.name) (λ place b rest f h. chosen_apart place b rest f h))
       (λ place a rest f h. tt) (λ place a rest f h. h) (λ place b rest f h. braced_apart place b rest f))
       (λ place a rest f h. tt) (λ place a rest f h. h) (λ place b rest f h. empty_apart place b rest f))
-      (λ place a rest f h. h.quote) (λ place a rest f h. h) (λ place b rest f h. quoted_apart place b rest f))
+      (λ place a rest f h. h.quote) (λ place a rest f h. h) (λ place b rest f h. piece_apart place b rest f))
       (λ place a rest f h. h.digit) (λ place a rest f h. h) (λ place b rest f h. signed_apart place b rest f))
       (λ place a rest f h. tt) (λ place a rest f h. h) (λ place b rest f h. capital_apart 70 (codes "ALSE") refl refl refl refl refl place b rest f))
       (λ place a rest f h. tt) (λ place a rest f h. h) (λ place b rest f h. true_apart place b rest f)
@@ -419,9 +474,12 @@ module _ (depth : ℕ) (inner : Reader (Rose PlainValueLabel)) (law : Law IsValu
   empty_unread : (place : ℕ) (p x : List ℕ) → Opened p → IsFailed (word_at (codes "{}") place (p ++ x))
   empty_unread place p x = unread_front (word_at (codes "{}")) (λ place l. tt) (word_no_letter 123 (codes "}") refl) place p x
 
-  quoted_unread : (place : ℕ) (p x : List ℕ) → Opened p → IsFailed (quoted_at place (p ++ x))
-  quoted_unread place p x = unread_front quoted_at (λ place l. tt)
-      (λ place b l e. as_fails bytes_of (behind_at (codes "\"") (before_at (many_at quoted_byte_at) (codes "\""))) place (b ∷ l) (behind_fails (codes "\"") (before_at (many_at quoted_byte_at) (codes "\"")) place (b ∷ l) (word_no_letter 34 [] refl place b l e))) place p x
+  piece_unread : (place : ℕ) (p x : List ℕ) → Opened p → IsFailed (text_piece_at place (p ++ x))
+  piece_unread place p x = unread_front text_piece_at (λ place l. tt)
+      (λ place b l e. as_fails text_piece_of (or_at quoted_at quadruple_at) place (b ∷ l)
+      (or_fails quoted_at quadruple_at place (b ∷ l)
+      (as_fails bytes_of (behind_at (codes "\"") (before_at (many_at quoted_byte_at) (codes "\""))) place (b ∷ l) (behind_fails (codes "\"") (before_at (many_at quoted_byte_at) (codes "\"")) place (b ∷ l) (word_no_letter 34 [] refl place b l e)))
+      (behind_fails (codes "{0, 0, 0, ") (before_at signed_at (codes "}")) place (b ∷ l) (word_no_letter 123 (codes "0, 0, 0, ") refl place b l e)))) place p x
 
   signed_unread : (place : ℕ) (p x : List ℕ) → Opened p → IsFailed (signed_at place (p ++ x))
   signed_unread place p x = unread_front signed_at (λ place l. tt) number_no_letter place p x
@@ -464,21 +522,21 @@ module _ (depth : ℕ) (inner : Reader (Rose PlainValueLabel)) (law : Law IsValu
     later_front place (inl x) p beyond s f d e le = none_some s d
     later_front place (inr x) p beyond s f d e le = sunken_front place x p beyond s f d e le
 
-    three : Early Then4 (either_deep never (either_deep never sunken_deep)) text4 (or_at quoted_at (or_at (word_at (codes "{}")) (or_at (braced_at inner) (or_at (chosen_at inner) identifier_at))))
-    three = or_early (never_early (λ a. refl)) four (λ place b p beyond x s f d e le. quoted_unread place p x (later_front place b p beyond s f d e le))
+    three : Early Then4 (either_deep never (either_deep never sunken_deep)) text4 (or_at text_piece_at (or_at (word_at (codes "{}")) (or_at (braced_at inner) (or_at (chosen_at inner) identifier_at))))
+    three = or_early (never_early (λ a. refl)) four (λ place b p beyond x s f d e le. piece_unread place p x (later_front place b p beyond s f d e le))
 
-    front4 : (place : ℕ) (x : List ℕ ⊎ (Unit {0} ⊎ Sunken)) (p beyond : List ℕ) (s : Sunk) → Then4 place x → either_deep never (either_deep never sunken_deep) x ≡ Some s → text4 x ≡ p ++ beyond → s.told ≤ length p → Opened p
+    front4 : (place : ℕ) (x : PlainValue ⊎ (Unit {0} ⊎ Sunken)) (p beyond : List ℕ) (s : Sunk) → Then4 place x → either_deep never (either_deep never sunken_deep) x ≡ Some s → text4 x ≡ p ++ beyond → s.told ≤ length p → Opened p
     front4 place (inl x) p beyond s f d e le = none_some s d
     front4 place (inr x) p beyond s f d e le = later_front place x p beyond s f d e le
 
-    two : Early Then3 (either_deep never (either_deep never (either_deep never sunken_deep))) text3 (or_at signed_at (or_at quoted_at (or_at (word_at (codes "{}")) (or_at (braced_at inner) (or_at (chosen_at inner) identifier_at)))))
+    two : Early Then3 (either_deep never (either_deep never (either_deep never sunken_deep))) text3 (or_at signed_at (or_at text_piece_at (or_at (word_at (codes "{}")) (or_at (braced_at inner) (or_at (chosen_at inner) identifier_at)))))
     two = or_early (never_early (λ a. refl)) three (λ place b p beyond x s f d e le. signed_unread place p x (front4 place b p beyond s f d e le))
 
-    front3 : (place : ℕ) (x : List ℕ ⊎ (List ℕ ⊎ (Unit {0} ⊎ Sunken))) (p beyond : List ℕ) (s : Sunk) → Then3 place x → either_deep never (either_deep never (either_deep never sunken_deep)) x ≡ Some s → text3 x ≡ p ++ beyond → s.told ≤ length p → Opened p
+    front3 : (place : ℕ) (x : List ℕ ⊎ (PlainValue ⊎ (Unit {0} ⊎ Sunken))) (p beyond : List ℕ) (s : Sunk) → Then3 place x → either_deep never (either_deep never (either_deep never sunken_deep)) x ≡ Some s → text3 x ≡ p ++ beyond → s.told ≤ length p → Opened p
     front3 place (inl x) p beyond s f d e le = none_some s d
     front3 place (inr x) p beyond s f d e le = front4 place x p beyond s f d e le
 
-    front2 : (place : ℕ) (x : Unit {0} ⊎ (List ℕ ⊎ (List ℕ ⊎ (Unit {0} ⊎ Sunken)))) (p beyond : List ℕ) (s : Sunk) → EitherFine Anything Then3 place x → either_deep never (either_deep never (either_deep never (either_deep never sunken_deep))) x ≡ Some s → either_written (word_of (codes "FALSE")) text3 x ≡ p ++ beyond → s.told ≤ length p → Opened p
+    front2 : (place : ℕ) (x : Unit {0} ⊎ (List ℕ ⊎ (PlainValue ⊎ (Unit {0} ⊎ Sunken)))) (p beyond : List ℕ) (s : Sunk) → EitherFine Anything Then3 place x → either_deep never (either_deep never (either_deep never (either_deep never sunken_deep))) x ≡ Some s → either_written (word_of (codes "FALSE")) text3 x ≡ p ++ beyond → s.told ≤ length p → Opened p
     front2 place (inl x) p beyond s f d e le = none_some s d
     front2 place (inr x) p beyond s f d e le = front3 place x p beyond s f d e le
 
@@ -524,7 +582,9 @@ one_opens : (place : ℕ) (x : OneValue) → OneFine place x → Opening place (
 one_opens place (inl x) f = (84, codes "RUE", refl, refl)
 one_opens place (inr (inl x)) f = (70, codes "ALSE", refl, refl)
 one_opens place (inr (inr (inl written))) f = let h = signed_first written f in (h.0, h.1, signed_opens h.0 h.2, h.3)
-one_opens place (inr (inr (inr (inl text)))) f = (34, _, refl, refl)
+one_opens place (inr (inr (inr (inl (value.Quoted text))))) f = (34, _, refl, refl)
+one_opens place (inr (inr (inr (inl (value.Quadruple cell))))) f = (123, _, refl, refl)
+one_opens place (inr (inr (inr (inl v)))) f = absurd f
 one_opens place (inr (inr (inr (inr (inl x))))) f = (123, codes "}", refl, refl)
 one_opens place (inr (inr (inr (inr (inr (inl vs)))))) f = (123, _, refl, refl)
 one_opens place (inr (inr (inr (inr (inr (inr (inl x))))))) f = let h = identifier_first x.0 f.0 in (h.0, (h.1 ++ codes " : ") ++ value_text x.1, small_opens h.0 h.2, ap (λ l. (l ++ codes " : ") ++ value_text x.1) h.3)

@@ -21,6 +21,18 @@ listed_of place x = x.0 ∷ x.1
 abbrev pub listed_at : {A : Type 0} → List ℕ → Reader A → Reader (List A)
 listed_at between read = as_at listed_of (then_at read (λ a. many_at (behind_at between read)))
 
+-- ---- a piece of a text: characters in quotation marks, or one character by its cell number
+
+abbrev pub quadruple_at : Reader (List ℕ)
+quadruple_at = behind_at (codes "{0, 0, 0, ") (before_at signed_at (codes "}"))
+
+abbrev pub text_piece_of : ℕ → List ℕ ⊎ List ℕ → PlainValue
+text_piece_of place (inl text) = value.Quoted text
+text_piece_of place (inr cell) = value.Quadruple cell
+
+abbrev pub text_piece_at : Reader PlainValue
+text_piece_at = as_at text_piece_of (or_at quoted_at quadruple_at)
+
 -- ---- one value
 
 abbrev pub Values : Type 0
@@ -30,13 +42,13 @@ abbrev pub label : ℕ → PlainValue → PlainValueLabel
 label place v = record { at = place; value = v }
 
 abbrev pub OneValue : Type 0
-OneValue = Unit {0} ⊎ (Unit {0} ⊎ (List ℕ ⊎ (List ℕ ⊎ (Unit {0} ⊎ (Values ⊎ ((List ℕ × Rose PlainValueLabel) ⊎ List ℕ))))))
+OneValue = Unit {0} ⊎ (Unit {0} ⊎ (List ℕ ⊎ (PlainValue ⊎ (Unit {0} ⊎ (Values ⊎ ((List ℕ × Rose PlainValueLabel) ⊎ List ℕ))))))
 
 abbrev pub value_of : ℕ → OneValue → Rose PlainValueLabel
 value_of place (inl x) = node (label place value.True) none
 value_of place (inr (inl x)) = node (label place value.False) none
 value_of place (inr (inr (inl written))) = node (label place (value.Number written)) none
-value_of place (inr (inr (inr (inl text)))) = node (label place (value.Quoted text)) none
+value_of place (inr (inr (inr (inl piece)))) = node (label place piece) none
 value_of place (inr (inr (inr (inr (inl x))))) = node (label place value.List) none
 value_of place (inr (inr (inr (inr (inr (inl vs)))))) = node (label place value.List) (roses_of vs)
 value_of place (inr (inr (inr (inr (inr (inr (inl x))))))) = node (label place (value.Chosen x.0)) (more x.1 none)
@@ -54,7 +66,7 @@ one_value_at inside =
     or_at (word_at (codes "TRUE"))
     (or_at (word_at (codes "FALSE"))
     (or_at signed_at
-    (or_at quoted_at
+    (or_at text_piece_at
     (or_at (word_at (codes "{}"))
     (or_at (braced_at inside) (or_at (chosen_at inside) identifier_at))))))
 

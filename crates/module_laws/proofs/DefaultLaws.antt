@@ -17,6 +17,7 @@ use Rattle.asn_types.specs.declared.types.Form.{Form}
 use Rattle.asn_types.specs.declared.types.Form.TheVariants as meant
 use Rattle.asn_types.specs.declared.types.TypeLabel.{TypeLabel}
 use Rattle.module_print.specs.Notation.{quoted}
+use Rattle.module_print.specs.CharacterLists.{has_controls, pieces_of, piece}
 use Rattle.module_print.specs.Instructions.{number_identifier}
 use Rattle.module_print.specs.Values.{truth, whole, item, characters, items, alternative, chosen, value_notation, part_notation}
 use Rattle.module_text.specs.declared.marks.TypeMark.{TypeMark}
@@ -37,11 +38,12 @@ use Rattle.module_text.specs.declared.spots.Spot.TheVariants.{Elsewhere}
 use Rattle.module_text.specs.declared.spots.Alone.TheVariants as alone_
 use Rattle.module_text.specs.Told.{Bounds, Sizes, range_of, sizes_of, told_alone, is_union_alone, is_list_alone, white_space_alone, have_names_alone, words_of, has_list}
 use Rattle.module_text.specs.Simple.{if_so, word_space, list_space, union_space, with_member, are_plain, item_spot, is_order_item, simple_told, members_told, item_told}
-use Rattle.module_text.specs.Defaults.{both, alone, if_bool, if_int, if_utf8, item_named, alternative_named, is_list_form, spelling_told, spellings_told, is_item_of, is_alternative_of, is_true, is_false, is_number_told, is_item_told, is_text_told, is_list_told, chosen_told, is_told, are_told}
+use Rattle.module_text.specs.Defaults.{are_pieces, characters_told, are_characters, both, alone, if_bool, if_int, if_utf8, item_named, alternative_named, is_list_form, spelling_told, spellings_told, is_item_of, is_alternative_of, is_true, is_false, is_number_told, is_item_told, is_text_told, is_list_told, chosen_told, is_told, are_told}
 use Rattle.module_text.specs.Faults.{nameless_parts, part_spot}
 use Rattle.module_text.specs.Meaning.{names_of, words_meant, int_meant, utf8_meant, list_meant, type_marks_meant, components_meant, item_meant, type_meant, types_meant}
 use Rattle.module_text.proofs.PrintedBounds.{and-first, and-second}
 use Rattle.module_laws.proofs.Firsts.{same_bytes, got-mapped, only-at}
+use Rattle.module_laws.proofs.Pieces.{pieces_texts}
 use Rattle.module_laws.proofs.NumberLaws.{numbers-printed}
 use Rattle.module_laws.proofs.WordLaws.{not-true}
 use Rattle.module_laws.proofs.SimpleLaws.{so, elsewhere, no_order, union_by}
@@ -81,14 +83,32 @@ whole_is (label.Sequence present) written e = absurd (true≢false (sym e))
 whole_is (label.Choice i) written e = absurd (true≢false (sym e))
 whole_is label.SequenceOf written e = absurd (true≢false (sym e))
 
+no_controls : (c : Bool) → not c ≡ true → c ≡ false
+no_controls true e = absurd (true≢false (sym e))
+no_controls false e = refl
+
 characters_are : (w : ValueLabel) (written : List ℕ) → is_text_told w written ≡ true → characters w ≡ quoted written
 characters_are (label.Bool b) written e = absurd (true≢false (sym e))
 characters_are (label.Int z) written e = absurd (true≢false (sym e))
 characters_are (label.Enum i) written e = absurd (true≢false (sym e))
-characters_are (label.Utf8 text) written e = ap quoted (same_bytes text written e)
+characters_are (label.Utf8 text) written e =
+    ap (λ c. if c then items (map piece (pieces_of text)) else quoted text) (no_controls (has_controls text) (and-first (not (has_controls text)) (bytes_eq text written) e))
+    ∙ ap quoted (same_bytes text written (and-second (not (has_controls text)) (bytes_eq text written) e))
 characters_are (label.Sequence present) written e = absurd (true≢false (sym e))
 characters_are (label.Choice i) written e = absurd (true≢false (sym e))
 characters_are label.SequenceOf written e = absurd (true≢false (sym e))
+
+-- a text as the list of its pieces
+characters_listed : (w : ValueLabel) (vs : Roses PlainValueLabel) → are_characters w vs ≡ true → characters w ≡ items (value_texts vs)
+characters_listed (label.Utf8 text) vs e =
+    ap (λ c. if c then items (map piece (pieces_of text)) else quoted text) (and-first (has_controls text) (are_pieces vs (pieces_of text)) e)
+    ∙ ap items (pieces_texts vs (pieces_of text) (and-second (has_controls text) (are_pieces vs (pieces_of text)) e))
+characters_listed (label.Bool b) vs e = absurd (true≢false (sym e))
+characters_listed (label.Int z) vs e = absurd (true≢false (sym e))
+characters_listed (label.Enum i) vs e = absurd (true≢false (sym e))
+characters_listed (label.Sequence present) vs e = absurd (true≢false (sym e))
+characters_listed (label.Choice i) vs e = absurd (true≢false (sym e))
+characters_listed label.SequenceOf vs e = absurd (true≢false (sym e))
 
 item_is : (f : PlainForm) (w : ValueLabel) (identifier : List ℕ) → is_item_told f w identifier ≡ true → (i : ℕ) × (w ≡ label.Enum i) × (is_item_of f i identifier ≡ true)
 item_is f (label.Bool b) identifier e = absurd (true≢false (sym e))
@@ -263,17 +283,19 @@ module _ (P : List PlainAssignment) where
 
   one_list : (at : ℕ) (ms : List TypeMark) (f : PlainForm) (ts : Roses PlainLabel) (vs : Roses PlainValueLabel) (spot : Spot) (nameless : Bool) (s : Space) (w : ValueLabel) (ws : Roses ValueLabel) (text : List ℕ)
       → ManyNotate vs → let l : PlainLabel = At at ms f in IsType (node l ts) → TypeClean P spot nameless (node l ts) → simple_told spot (node l ts) ≡ Some s
-      → (if is_list_form f then (elim (spellings_told (slice_get (list_of ts) 0) vs) [ None ↦ None | Some texts ↦ Some (join_with_byte 0x20 texts) ]) else None) ≡ Some text
-      → are_told (slice_get (list_of ts) 0) vs ws ≡ true
+      → (if is_list_form f then (elim (spellings_told (slice_get (list_of ts) 0) vs) [ None ↦ None | Some texts ↦ Some (join_with_byte 0x20 texts) ]) else characters_told f vs) ≡ Some text
+      → (if is_list_form f then is_list_told w && are_told (slice_get (list_of ts) 0) vs ws else are_characters w vs) ≡ true
       → value_notation (type_meant P spot (node l ts)) (node w ws) ≡ items (value_texts vs)
   one_list at ms form.Bool ts vs spot nameless s w ws text rest is c i e g = absurd (cc)
   one_list at ms (form.Int r) ts vs spot nameless s w ws text rest is c i e g = absurd (cc)
   one_list at ms (form.Numbers items_) ts vs spot nameless s w ws text rest is c i e g = absurd (cc)
   one_list at ms (form.Words names) ts vs spot nameless s w ws text rest is c i e g = absurd (cc)
-  one_list at ms (form.Utf8 size class) ts vs spot nameless s w ws text rest is c i e g = absurd (cc)
+  one_list at ms (form.Utf8 size class) ts vs spot nameless s w ws text rest is c i e g =
+      utf8_notation (sizes_of size) class (type_marks_meant spot (form.Utf8 size class) ms) (types_meant P spot (At at ms (form.Utf8 size class)) 0 [] ts) (node w ws) ∙ characters_listed w vs g
   one_list at ms (form.Sequence ps) ts vs spot nameless s w ws text rest is c i e g = absurd (cc)
   one_list at ms (form.Choice ps) ts vs spot nameless s w ws text rest is c i e g = absurd (cc)
-  one_list at ms (form.SequenceOf size item_) ts vs spot nameless s w ws text rest is c i e g = list_of_kids at ms size item_ ts vs spot nameless s w ws text rest is c i e g
+  one_list at ms (form.SequenceOf size item_) ts vs spot nameless s w ws text rest is c i e g =
+      list_of_kids at ms size item_ ts vs spot nameless s w ws text rest is c i e (and-second (is_list_told w) (are_told (slice_get (list_of ts) 0) vs ws) g)
   one_list at ms (form.Ref reference) ts vs spot nameless s w ws text rest is c i e g = absurd (cc)
 
   -- ---- choices
@@ -414,8 +436,8 @@ module _ (P : List PlainAssignment) where
   value_by here (value.Number written) vs rest l ts spot nameless s (node w ws) text is c i e g = one_number l.at l.marks l.form ts spot w ws written text e g
   value_by here (value.Item identifier) vs rest l ts spot nameless s (node w ws) text is c i e g = one_item l.at l.marks l.form ts spot nameless s w ws identifier text c i e g
   value_by here (value.Quoted written) vs rest l ts spot nameless s (node w ws) text is c i e g = one_text l.at l.marks l.form ts spot w ws written text e g
-  value_by here value.List vs rest l ts spot nameless s (node w ws) text is c i e g =
-      one_list l.at l.marks l.form ts vs spot nameless s w ws text rest is c i e (and-second (is_list_told w) (are_told (slice_get (list_of ts) 0) vs ws) g)
+  value_by here (value.Quadruple cell) vs rest l ts spot nameless s (node w ws) text is c i e g = absurd (true≢false (sym g))
+  value_by here value.List vs rest l ts spot nameless s (node w ws) text is c i e g = one_list l.at l.marks l.form ts vs spot nameless s w ws text rest is c i e g
   value_by here (value.Chosen identifier) vs rest l ts spot nameless s (node w ws) text is c i e g = one_chosen l.at l.marks l.form ts vs spot nameless s w ws identifier text rest is c i e g
 
   mutual

@@ -6,6 +6,7 @@ mod SizeLaws
 mod NameLaws
 mod PartMarkLaws
 pub mod Firsts
+pub mod Pieces
 mod NumberLaws
 mod WordLaws
 mod SimpleLaws

@@ -9,9 +9,10 @@ use Rattle.module_grammar.specs.declared.reach.Stop.TheVariants as stop
 use Rattle.module_grammar.specs.Reading.{Reader, word_at, or_at, as_at}
 use Rattle.module_grammar.specs.Reached.{reach, reading}
 use Rattle.module_grammar.proofs.Stepping.{in_form, or_next, reading_as, reading_or}
+use Rattle.module_text.specs.declared.values.PlainValue.{PlainValue}
 use Rattle.module_text.specs.declared.values.PlainValueLabel.{PlainValueLabel}
-use Rattle.module_grammar.specs.NameReading.{identifier_at, signed_at, quoted_at}
-use Rattle.module_grammar.specs.ValueReading.{Values, OneValue, value_of, braced_at, chosen_at, one_value_at, value_at}
+use Rattle.module_grammar.specs.NameReading.{identifier_at, signed_at}
+use Rattle.module_grammar.specs.ValueReading.{text_piece_at, Values, OneValue, value_of, braced_at, chosen_at, one_value_at, value_at}
 use Rattle.module_parse.specs.Reads.{IsRead, IsStopped, Reads, IsAgain}
 use Rattle.module_parse.specs.Readers.{LateValue, late_value_of, late_value_at}
 use Rattle.module_parse.proofs.Chaining.{no_memory}
@@ -37,19 +38,19 @@ reads_so read other bytes s q (Err (stop.Fails far)) h g = record { is = h ∙ g
 reads_so read other bytes s q (Err (stop.Deep at far)) h g = record { is = h ∙ g.is }
 reads_so read other bytes s q (Err stop.Memory) h g = no_memory
 
--- ---- a value that is no word, no number and no text
+-- ---- a value that is no word, no number and no piece of a text
 
 module _ (inside : Reader (Rose PlainValueLabel)) where
   abbrev late : Reader LateValue
   late = or_at (word_at (codes "{}")) (or_at (braced_at inside) (or_at (chosen_at inside) identifier_at))
 
-  abbrev from_quoted : Reader (List ℕ ⊎ LateValue)
-  from_quoted = or_at quoted_at late
+  abbrev from_piece : Reader (PlainValue ⊎ LateValue)
+  from_piece = or_at text_piece_at late
 
-  abbrev from_signed : Reader (List ℕ ⊎ (List ℕ ⊎ LateValue))
-  from_signed = or_at signed_at from_quoted
+  abbrev from_signed : Reader (List ℕ ⊎ (PlainValue ⊎ LateValue))
+  from_signed = or_at signed_at from_piece
 
-  abbrev from_false : Reader (Unit {0} ⊎ (List ℕ ⊎ (List ℕ ⊎ LateValue)))
+  abbrev from_false : Reader (Unit {0} ⊎ (List ℕ ⊎ (PlainValue ⊎ LateValue)))
   from_false = or_at (word_at (codes "FALSE")) from_signed
 
   placed_late : (bytes : List ℕ) (at : ℕ) (t : Reach) → t.at ≡ at → reading (as_at (λ place x. value_of at (inr (inr (inr (inr x))))) late) bytes t ≡ reading (late_value_at inside) bytes t
@@ -62,13 +63,13 @@ module _ (inside : Reader (Rose PlainValueLabel)) where
       → IsStopped (word_at (codes "TRUE")) bytes s a → IsAgain s a p
       → IsStopped (word_at (codes "FALSE")) bytes p b → IsAgain p b q
       → IsStopped signed_at bytes q c → IsAgain q c r
-      → IsStopped quoted_at bytes r d → IsAgain r d t
+      → IsStopped text_piece_at bytes r d → IsAgain r d t
       → reading (as_at value_of (one_value_at inside)) bytes s ≡ reading (late_value_at inside) bytes t
   value_late bytes s p q r t a b c d h h' i i' j j' k k' =
       or_step value_of (word_at (codes "TRUE")) from_false bytes s p a h h'
       ∙ or_step (λ place x. value_of s.at (inr x)) (word_at (codes "FALSE")) from_signed bytes p q b i i'
-      ∙ or_step (λ place x. value_of s.at (inr (inr x))) signed_at from_quoted bytes q r c j j'
-      ∙ or_step (λ place x. value_of s.at (inr (inr (inr x)))) quoted_at late bytes r t d k k'
+      ∙ or_step (λ place x. value_of s.at (inr (inr x))) signed_at from_piece bytes q r c j j'
+      ∙ or_step (λ place x. value_of s.at (inr (inr (inr x)))) text_piece_at late bytes r t d k k'
       ∙ placed_late bytes s.at t (k'.place ∙ j'.place ∙ i'.place ∙ h'.place)
 
 -- where the depth is counted down

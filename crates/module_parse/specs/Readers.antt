@@ -109,7 +109,7 @@ LateValue = Unit {0} ⊎ (Values ⊎ ((List ℕ × Rose PlainValueLabel) ⊎ Lis
 abbrev pub late_value_of : ℕ → LateValue → Rose PlainValueLabel
 late_value_of place x = value_of place (inr (inr (inr (inr x))))
 
--- A value that is not TRUE, FALSE, a number or a text.
+-- A value that is not TRUE, FALSE, a number or a piece of a text.
 abbrev pub late_value_at : Reader (Rose PlainValueLabel) → Reader (Rose PlainValueLabel)
 late_value_at inside = as_at late_value_of (or_at (word_at (codes "{}")) (or_at (braced_at inside) (or_at (chosen_at inside) identifier_at)))
 

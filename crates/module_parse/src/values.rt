@@ -2,7 +2,7 @@
 ghost use Rattle.std.specs.Prelude.{◌≡◌, ◌≤◌, length, codes, List};
 ghost use Rattle.base_trees.specs.Rose.{Rose, node, none};
 ghost use Rattle.module_grammar.specs.Reading.{sunk_at, byte_at, behind_at};
-ghost use Rattle.module_grammar.specs.ValueReading.{label, is_value_first, listed_at, braced_at, chosen_at, value_at};
+ghost use Rattle.module_grammar.specs.ValueReading.{label, quadruple_at, text_piece_at, is_value_first, listed_at, braced_at, chosen_at, value_at};
 ghost use Rattle.module_parse.specs.Reads.{Reads, ReadsList, IsStopped, Stays, Moves};
 ghost use Rattle.module_parse.specs.Readers.{late_value_at};
 
@@ -11,7 +11,7 @@ use crate::steps::{ByteClass, again, byte, literal};
 use base_texts::Text;
 use base_trees::Tree;
 use module_grammar::{Reach, Stop};
-use module_text::{PlainValue, PlainValueLabel};
+use module_text::{PlainValue, PlainValueLabel, Written};
 use std::alloc::Global;
 
 type ValueTree = Tree<PlainValueLabel>;
@@ -40,6 +40,32 @@ fn leaf(alloc: Global, at: usize, value: PlainValue) -> ValueTree
             value,
         },
     )
+}
+
+// Reads a character by its cell number.
+fn quadruple(alloc: Global, bytes: &[u8], from: Reach) -> Result<(Written, Reach), Stop>
+    requires { from.at ≤ length bytes.now }
+    ensures value { Reads quadruple_at bytes.now from result }
+    ensures within { Moves (length bytes.now) from result }
+{
+    let inside = literal(b"{0, 0, 0, ", bytes, from)?;
+    let (cell, end) = signed(alloc, bytes, inside)?;
+    let next = literal(b"}", bytes, end)?;
+    Ok((cell, next))
+}
+
+// Reads a piece of a text: characters in quotation marks, or one character by its cell number.
+fn text_piece(alloc: Global, bytes: &[u8], from: Reach) -> Result<(PlainValue, Reach), Stop>
+    requires { from.at ≤ length bytes.now }
+    ensures value { Reads text_piece_at bytes.now from result }
+    ensures within { Moves (length bytes.now) from result }
+{
+    let second = match quoted(alloc, bytes, from) {
+        Ok((text, next)) => return Ok((PlainValue::Quoted { text }, next)),
+        Err(stop) => again(from, stop)?,
+    };
+    let (cell, next) = quadruple(alloc, bytes, second)?;
+    Ok((PlainValue::Quadruple { cell }, next))
 }
 
 // Reads a value after a comma.
@@ -119,7 +145,7 @@ fn chosen(
     Ok(((identifier, value), next))
 }
 
-// Reads a value that is not TRUE, FALSE, a number or a text.
+// Reads a value that is not TRUE, FALSE, a number or a piece of a text.
 #[cycle(values)]
 fn late_value(
     alloc: Global,
@@ -198,8 +224,8 @@ pub fn value(
         }
         Err(stop) => again(third, stop)?,
     };
-    let late = match quoted(alloc, bytes, fourth) {
-        Ok((text, next)) => return Ok((leaf(alloc, from.at, PlainValue::Quoted { text }), next)),
+    let late = match text_piece(alloc, bytes, fourth) {
+        Ok((piece, next)) => return Ok((leaf(alloc, from.at, piece), next)),
         Err(stop) => again(fourth, stop)?,
     };
     late_value(alloc, depth - 1, bytes, late)

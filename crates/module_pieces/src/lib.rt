@@ -23,7 +23,7 @@ pub use finding::unless;
 pub use indexes::{Index, index_of, indexes_of};
 pub use items::{numbered_fault, numbers_of, text_lt, word_fault};
 pub use names::{is_told_so, is_xml_text, told_name};
-pub use numbers::{is_printed_number, size_of, whole_of};
+pub use numbers::{is_printed_number, size_of, whole_number, whole_of};
 pub use part_marks::{has_attribute, has_untagged, have_names_alone, part_mark_fault};
 pub use resolving::{part_count, role_of};
 pub use seen::Seen;

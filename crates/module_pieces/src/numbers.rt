@@ -25,8 +25,8 @@ fn without_sign(bytes: &[u8]) -> &[u8]
     }
 }
 
-// Returns the number that the bytes write, if it has 128 bits.
-fn whole_number(bytes: &[u8]) -> Option<i128>
+/// Returns the number that the bytes write, if it has 128 bits.
+pub fn whole_number(bytes: &[u8]) -> Option<i128>
     ensures { result ≡ told.if_128_bits (whole_number bytes.now) }
 {
     if !is_numeral(without_sign(bytes)) {

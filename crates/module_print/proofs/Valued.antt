@@ -1,7 +1,8 @@
 -- The value behind DEFAULT is left as it is, texts in it with all their characters.
-use Rattle.std.proofs.Common.{ℕ, zero, suc, Bool, true, false, List, [], ◌∷◌, ◌++◌, Option, Some, None, codes, refl}
+use Rattle.std.proofs.Common.{ℕ, pos, zero, suc, Bool, true, false, List, [], ◌∷◌, ◌++◌, Option, Some, None, codes, refl}
 use Rattle.std.specs.Prelude.{All, Ok, Err, map, option_and_then, if◌then◌else◌}
 use Rattle.std.proofs.lemmas.List.Elements.{All-head, All-tail}
+use Rattle.std.specs.Fmt.{signed_decimal}
 use Rattle.base_trees.specs.Rose.{Rose, node, Roses, label_of, kids_of}
 use Rattle.base_trees.specs.Rose as rose
 use Rattle.simple_types.specs.declared.labels.ValueLabel.{ValueLabel}
@@ -16,8 +17,9 @@ use Rattle.asn_types.specs.declared.modules.Assignment.{Assignment}
 use Rattle.asn_types.specs.Parts.{parts_of}
 use Rattle.asn_types.specs.Refs.{target, body_at, next, follow, resolve}
 use Rattle.asn_types.specs.Spaces.{space_at}
-use Rattle.module_print.specs.Values.{truth, whole, item, characters, items, alternative, chosen, value_notation, part_notation, read_notation, default}
-use Rattle.module_print.specs.Notation.{listed}
+use Rattle.module_print.specs.CharacterLists.{Piece, Run, Control, has_controls, pieces_of, piece}
+use Rattle.module_print.specs.Values.{text_notation, truth, whole, item, characters, items, alternative, chosen, value_notation, part_notation, read_notation, default}
+use Rattle.module_print.specs.Notation.{quoted, listed}
 use Rattle.module_print.specs.Names.{IsFree, IsNamed, identifiers_of, HasNames, HaveNames, IsNamedAssignment, IsNotation}
 use Rattle.module_print.proofs.Free.{free_append, free_number, free_item}
 use Rattle.module_print.proofs.Copied.{Copied, AllCopied, copied_free, copied_quoted, copied_nil, copied_append, copied_listed}
@@ -55,8 +57,35 @@ copied_item f (label.Sequence present) all = copied_nil
 copied_item f (label.Choice i) all = copied_nil
 copied_item f label.SequenceOf all = copied_nil
 
+-- ---- lists and texts
+
+copied_items : (values : List (List ℕ)) → AllCopied values values → Copied (items values) (items values)
+copied_items [] all = copied_free (codes "{}") refl
+copied_items (value ∷ values) all =
+    let inner = listed (codes " ") (value ∷ values) in
+    copied_append (codes " }") (codes " }")
+    (copied_append inner inner (copied_free (codes "{") refl) (copied_listed (codes " ") (value ∷ values) (value ∷ values) refl all))
+    (copied_free (codes " }") refl)
+
+copied_piece : (p : Piece) → Copied (piece p) (piece p)
+copied_piece (Run text) = copied_quoted text
+copied_piece (Control byte) =
+    copied_append (signed_decimal (pos byte) ++ codes "}") (signed_decimal (pos byte) ++ codes "}") (copied_free (codes "{0, 0, 0, ") refl)
+    (copied_append (codes "}") (codes "}") (copied_free (signed_decimal (pos byte)) (free_number (pos byte))) (copied_free (codes "}") refl))
+
+pieces_copied : (ps : List Piece) → AllCopied (map piece ps) (map piece ps)
+pieces_copied [] = tt
+pieces_copied (p ∷ ps) = (copied_piece p, pieces_copied ps)
+
+text_by : (text : List ℕ) (controls : Bool) → let x = if controls then items (map piece (pieces_of text)) else quoted text in Copied x x
+text_by text true = copied_items (map piece (pieces_of text)) (pieces_copied (pieces_of text))
+text_by text false = copied_quoted text
+
+copied_text : (text : List ℕ) → Copied (text_notation text) (text_notation text)
+copied_text text = text_by text (has_controls text)
+
 copied_characters : (v : ValueLabel) → Copied (characters v) (characters v)
-copied_characters (label.Utf8 text) = copied_quoted text
+copied_characters (label.Utf8 text) = copied_text text
 copied_characters (label.Bool b) = copied_nil
 copied_characters (label.Int z) = copied_nil
 copied_characters (label.Enum i) = copied_nil
@@ -69,14 +98,6 @@ copied_characters label.SequenceOf = copied_nil
 each_copied : (f : Rose ValueLabel → List ℕ) (vs : List (Rose ValueLabel)) → ((v : Rose ValueLabel) → Copied (f v) (f v)) → AllCopied (map f vs) (map f vs)
 each_copied f [] each = tt
 each_copied f (v ∷ vs) each = (each v, each_copied f vs each)
-
-copied_items : (values : List (List ℕ)) → AllCopied values values → Copied (items values) (items values)
-copied_items [] all = copied_free (codes "{}") refl
-copied_items (value ∷ values) all =
-    let inner = listed (codes " ") (value ∷ values) in
-    copied_append (codes " }") (codes " }")
-    (copied_append inner inner (copied_free (codes "{") refl) (copied_listed (codes " ") (value ∷ values) (value ∷ values) refl all))
-    (copied_free (codes " }") refl)
 
 free_alternative : (parts : List Component) (i : ℕ) → All IsNamed parts → IsFree (alternative parts i)
 free_alternative [] i all = refl

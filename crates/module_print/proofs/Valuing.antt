@@ -39,16 +39,16 @@ choice-notation (node l ts) kids parts v below e =
 
 -- ---- items
 
-module _ (f : Rose ValueLabel → List ℕ) where
+module _ {A : Type 0} (f : A → List ℕ) where
   -- an item behind the first
-  abbrev pub further : Rose ValueLabel → List ℕ
+  abbrev pub further : A → List ℕ
   further v = codes ", " ++ f v
 
-  listed-rest : (v : Rose ValueLabel) (vs : List (Rose ValueLabel)) → listed (codes " ") (map f (v ∷ vs)) ≡ (codes " " ++ f v) ++ flat_map further vs
+  listed-rest : (v : A) (vs : List A) → listed (codes " ") (map f (v ∷ vs)) ≡ (codes " " ++ f v) ++ flat_map further vs
   listed-rest v [] = sym (append-nil (codes " " ++ f v))
   listed-rest v (w ∷ vs) = ap (λ t. (codes " " ++ f v) ++ 44 ∷ t) (listed-rest w vs)
 
-  pub items-begun : (old opened begun : List ℕ) (v : Rose ValueLabel) (vs : List (Rose ValueLabel)) → opened ≡ old ++ codes "{ " → begun ≡ opened ++ f v
+  pub items-begun : (old opened begun : List ℕ) (v : A) (vs : List A) → opened ≡ old ++ codes "{ " → begun ≡ opened ++ f v
       → begun ++ flat_map further vs ≡ old ++ (codes "{" ++ listed (codes " ") (map f (v ∷ vs)))
   items-begun old opened begun v vs brace first =
       ap (λ o. o ++ flat_map further vs) (first ∙ ap (λ o. o ++ f v) brace)
@@ -58,7 +58,7 @@ module _ (f : Rose ValueLabel → List ℕ) where
       regroup : (a b c d : List ℕ) → ((a ++ b) ++ c) ++ d ≡ a ++ (b ++ (c ++ d))
       regroup a b c d = simp append_assoc
 
-  pub items-more : (out apart after whole : List ℕ) (v : Rose ValueLabel) (vs : List (Rose ValueLabel)) → apart ≡ out ++ codes ", " → after ≡ apart ++ f v
+  pub items-more : (out apart after whole : List ℕ) (v : A) (vs : List A) → apart ≡ out ++ codes ", " → after ≡ apart ++ f v
       → out ++ flat_map further (v ∷ vs) ≡ whole → after ++ flat_map further vs ≡ whole
   items-more out apart after whole v vs comma next so_far =
       ap (λ o. o ++ flat_map further vs) (next ∙ ap (λ o. o ++ f v) comma) ∙ regroup out (codes ", ") (f v) (flat_map further vs) ∙ so_far
@@ -66,7 +66,7 @@ module _ (f : Rose ValueLabel → List ℕ) where
       regroup : (a b c d : List ℕ) → ((a ++ b) ++ c) ++ d ≡ a ++ ((b ++ c) ++ d)
       regroup a b c d = simp append_assoc
 
-  pub items-end : (old out closed : List ℕ) (v : Rose ValueLabel) (vs left : List (Rose ValueLabel)) → left ≡ [] → closed ≡ out ++ codes " }"
+  pub items-end : (old out closed : List ℕ) (v : A) (vs left : List A) → left ≡ [] → closed ≡ out ++ codes " }"
       → out ++ flat_map further left ≡ old ++ (codes "{" ++ listed (codes " ") (map f (v ∷ vs))) → closed ≡ old ++ items (map f (v ∷ vs))
   items-end old out closed v vs left none_left brace so_far =
       let all : out ≡ old ++ (codes "{" ++ listed (codes " ") (map f (v ∷ vs))) =

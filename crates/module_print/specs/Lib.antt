@@ -1,5 +1,6 @@
 pub mod Notation
 pub mod Instructions
+pub mod CharacterLists
 pub mod Values
 pub mod Printed
 pub mod Names

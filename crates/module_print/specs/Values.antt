@@ -16,6 +16,7 @@ use Rattle.asn_types.specs.declared.modules.Assignment.{Assignment}
 use Rattle.asn_types.specs.Refs.{resolve}
 use Rattle.asn_types.specs.Spaces.{space_at}
 use Rattle.module_print.specs.Notation.{quoted, listed}
+use Rattle.module_print.specs.CharacterLists.{has_controls, pieces_of, piece}
 use Rattle.module_print.specs.Instructions.{item_identifier}
 
 -- BOOLEAN (clause 18.3).
@@ -33,15 +34,18 @@ abbrev pub item : Form → ValueLabel → List ℕ
 item f (label.Enum i) = unwrap_or (item_identifier f i) []
 item f _ = []
 
--- UTF8String (clause 41).
-abbrev pub characters : ValueLabel → List ℕ
-characters (label.Utf8 text) = quoted text
-characters _ = []
-
 -- SEQUENCE OF (clause 26.3).
 abbrev pub items : List (List ℕ) → List ℕ
 items [] = codes "{}"
 items (value ∷ values) = codes "{" ++ listed (codes " ") (value ∷ values) ++ codes " }"
+
+-- UTF8String (clause 41): a text in quotation marks, or a list of characters if one of them is below U+0020.
+abbrev pub text_notation : List ℕ → List ℕ
+text_notation text = if has_controls text then items (map piece (pieces_of text)) else quoted text
+
+abbrev pub characters : ValueLabel → List ℕ
+characters (label.Utf8 text) = text_notation text
+characters _ = []
 
 abbrev pub alternative : List Component → ℕ → List ℕ
 alternative parts i = unwrap_or (option_map (λ (part : Component). part.identifier) (slice_get parts i)) []

@@ -4,6 +4,7 @@
 //! `plain_module` in `src/stripping.rt`.
 #![tactic(auto)]
 
+mod characters;
 mod instructions;
 mod notation;
 mod printing;
@@ -11,5 +12,6 @@ mod stripping;
 mod types;
 mod values;
 
+pub use characters::{has_controls, is_control, split_run};
 pub use printing::print_module;
 pub use stripping::plain_module;

@@ -7,6 +7,7 @@ ghost use Rattle.asn_types.specs.Modules.{IsSpellingOf};
 ghost use Rattle.module_print.specs.Instructions.{item_identifier};
 ghost use Rattle.module_print.specs.Values.{truth, whole, item, characters, items, alternative, chosen, value_notation, part_notation, read_notation, default};
 
+use crate::characters::write_text;
 use crate::notation::{write_number, write_quoted};
 use asn_types::{Component, Form, Module, TypeLabel, resolve, simple_at};
 use base_flat_trees::{Flat, Kids, Node};
@@ -68,7 +69,7 @@ fn write_characters(out: &mut Vec<u8>, label: &ValueLabel) -> Result<(), AllocEr
     ensures { OnOk result (out.new.items ≡ out.old.items ++ characters label.now) }
 {
     match label {
-        ValueLabel::Utf8(text) => write_quoted(out, text.bytes()),
+        ValueLabel::Utf8(text) => write_text(out, text.bytes()),
         _ => Ok(()),
     }
 }

@@ -11,7 +11,9 @@ use Rattle.module_text.specs.declared.values.PlainValue.TheVariants as value
 use Rattle.module_text.specs.declared.values.PlainValueLabel.{PlainValueLabel}
 use Rattle.module_text.specs.declared.types.PlainName.{PlainName}
 use Rattle.module_text.specs.declared.types.PlainLabel.{PlainLabel}
-use Rattle.module_text.specs.Defaults.{both, alone, alternative_named, is_list_form, spelling_told, spellings_told}
+use Rattle.module_print.specs.CharacterLists.{pieces_of}
+use Rattle.std.specs.Prelude.{if◌then◌else◌}
+use Rattle.module_text.specs.Defaults.{are_pieces, if_pieces, appended, piece_told, pieces_told, characters_told, both, alone, alternative_named, is_list_form, spelling_told, spellings_told}
 use Rattle.module_simple.specs.Made.{if_told, behind_it}
 use Rattle.module_simple.specs.Written.{leaf_told, list_told, chosen_told}
 
@@ -99,6 +101,40 @@ module _ (kid : Rose PlainLabel) where
     pub list-fails : (out : List ℕ) (due : Option (List ℕ)) → None ≡ behind_it (out ++ 0x20 ∷ []) (text_of v) → with_texts out (texts_of (drop i vs)) ≡ due → None ≡ due
     list-fails out due told so = ap (option_and_then (λ now. with_texts now (texts_of (drop (i + 1) vs)))) told ∙ sym (step out) ∙ so
 
+-- ---- pieces of a text
+
+drop_front : (old text : List ℕ) → drop (length old) (old ++ text) ≡ text
+drop_front [] text = refl
+drop_front (b ∷ old) text = drop_front old text
+
+one_piece : (out : List ℕ) (piece text : Option (List ℕ)) → behind_it out (appended piece text) ≡ option_and_then (λ after. behind_it after text) (behind_it out piece)
+one_piece out None text = refl
+one_piece out (Some piece) None = refl
+one_piece out (Some piece) (Some text) = ap Some (sym (append_assoc out piece text))
+
+module _ (vs : List (Rose PlainValueLabel)) (i : ℕ) (v : Rose PlainValueLabel) (at : i < length vs) (here : v ≡ get_or vs i v) where
+  piece-step : (out : List ℕ) → behind_it out (pieces_told (roses_of (drop i vs))) ≡ option_and_then (λ after. behind_it after (pieces_told (roses_of (drop (i + 1) vs)))) (behind_it out (piece_told (label_of v).value))
+  piece-step out = ap (λ us. behind_it out (pieces_told us)) (roses_of-drop vs i v at here) ∙ one_piece out (piece_told (label_of v).value) (pieces_told (roses_of (drop (i + 1) vs)))
+
+  pub pieces-more : (out after : List ℕ) (due : Option (List ℕ)) → Some after ≡ behind_it out (piece_told (label_of v).value) → behind_it out (pieces_told (roses_of (drop i vs))) ≡ due
+      → behind_it after (pieces_told (roses_of (drop (i + 1) vs))) ≡ due
+  pieces-more out after due told so = ap (option_and_then (λ now. behind_it now (pieces_told (roses_of (drop (i + 1) vs))))) told ∙ sym (piece-step out) ∙ so
+
+  pub pieces-fail : (out : List ℕ) (due : Option (List ℕ)) → None ≡ behind_it out (piece_told (label_of v).value) → behind_it out (pieces_told (roses_of (drop i vs))) ≡ due → None ≡ due
+  pieces-fail out due told so = ap (option_and_then (λ now. behind_it now (pieces_told (roses_of (drop (i + 1) vs))))) told ∙ sym (piece-step out) ∙ so
+
+pub pieces-fit : (old new : List ℕ) (due : Option (List ℕ)) (vs : Roses PlainValueLabel) (fit : Bool) → Some new ≡ behind_it old due → fit ≡ are_pieces vs (pieces_of (drop (length old) new))
+    → if_told fit new ≡ behind_it old (if_pieces vs due)
+pieces-fit old new None vs fit told e = absurd (cc)
+pieces-fit old new (Some text) vs fit told e =
+    let same : new ≡ old ++ text = cc in
+    let rest : drop (length old) new ≡ text = ap (drop (length old)) same ∙ drop_front old text in
+    by fit (e ∙ ap (λ l. are_pieces vs (pieces_of l)) rest) same
+  where
+    by : (b : Bool) → b ≡ are_pieces vs (pieces_of text) → new ≡ old ++ text → if_told b new ≡ behind_it old (if are_pieces vs (pieces_of text) then Some text else None)
+    by true is same = ap Some same ∙ ap (λ c. behind_it old (if c then Some text else None)) is
+    by false is same = ap (λ c. behind_it old (if c then Some text else None)) is
+
 -- ---- alternatives
 
 -- of several values there is none
@@ -157,7 +193,8 @@ module _ (l : PlainLabel) (ts : List (Rose PlainLabel)) (vs : List (Rose PlainVa
     | value.Number written ↦ leaf_told l (value.Number written)
     | value.Item identifier ↦ leaf_told l (value.Item identifier)
     | value.Quoted text ↦ leaf_told l (value.Quoted text)
-    | value.List ↦ cond (is_list_form l.form) (list_told (slice_get ts 0) vs) None
+    | value.Quadruple cell ↦ leaf_told l (value.Quadruple cell)
+    | value.List ↦ cond (is_list_form l.form) (list_told (slice_get ts 0) vs) (characters_told l.form (roses_of vs))
     | value.Chosen identifier ↦ chosen_told ts vs (alternative_named l.form identifier)
   ]
 

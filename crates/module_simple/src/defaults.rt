@@ -1,6 +1,9 @@
 //! Values after DEFAULT, and fixed values.
-ghost use Rattle.std.specs.Prelude.{◌≡◌, ◌<◌, true, false, length, Some, None, IfOk, IfSome, MatchOption, slice_get};
+ghost use Rattle.std.specs.Prelude.{◌≡◌, ◌<◌, ◌∷◌, [], true, false, length, Some, None, IfOk, IfSome, MatchOption, slice_get};
+ghost use Rattle.simple_types.specs.Lexical.{whole_number};
+ghost use Rattle.module_print.specs.CharacterLists.{Run, Control, pieces_of};
 ghost use Rattle.module_text.specs.Names.{is_hexadecimal_digit};
+ghost use Rattle.module_text.specs.Told.{if_128_bits};
 ghost use Rattle.base_trees.specs.Rose.{roses_of, label_of, kids_of};
 ghost use Rattle.simple_types.specs.Seen.{space_of};
 ghost use Rattle.simple_types.specs.Sound.{Sound};
@@ -9,13 +12,14 @@ ghost use Rattle.module_text.specs.Faults as faulty;
 ghost use Rattle.module_text.specs.Listed.{first};
 ghost use Rattle.module_pieces.specs.Indexed.{IsIndex, Indexes, IndexAll};
 ghost use Rattle.module_simple.specs.Made.{made_space, IsMade, if_told, behind_it};
-ghost use Rattle.module_simple.specs.Written.{leaf_told, list_told, chosen_told};
+ghost use Rattle.module_simple.specs.Written.{leaf_told, list_told, chosen_told, IsNoPiece, IsFirstPiece};
 
 use base_flat_trees::{Flat, Kids, Node};
 use base_texts::{Memory, Text, TextError};
 use base_trees::Tree;
 use itoa::Buffer;
-use module_pieces::{Index, index_of, is_xml_text, unless};
+use module_pieces::{Index, index_of, is_xml_text, unless, whole_number};
+use module_print::{has_controls, is_control, split_run};
 use module_text::{
     Absence, ModuleWhy, PlainForm, PlainLabel, PlainOctets, PlainValue, PlainValueLabel, TextFault,
 };
@@ -154,6 +158,65 @@ fn write_leaf(
     Ok(true)
 }
 
+// Returns the character below U+0020 with this cell number.
+fn control_of(cell: &[u8]) -> Option<u8>
+    ensures { MatchOption result
+        (rule.control_told (if_128_bits (whole_number cell.now)) ≡ None)
+        (λ byte. rule.control_told (if_128_bits (whole_number cell.now)) ≡ Some (byte ∷ [])) }
+{
+    match whole_number(cell) {
+        Some(n) if n >= 0 && n < 32 => Some(n as u8),
+        _ => None,
+    }
+}
+
+// Appends the piece of a text that the value is.
+fn write_piece(value: &PlainValue, out: &mut Vec<u8>) -> Result<bool, Memory>
+    ensures { IfOk result (λ is. if_told is out.new.items ≡ behind_it out.old.items (rule.piece_told value.now)) }
+{
+    match value {
+        PlainValue::Quoted { text } => out.extend_from_slice(text.bytes())?,
+        PlainValue::Quadruple { cell } => match control_of(cell.bytes()) {
+            Some(byte) => out.push(byte)?,
+            None => return Ok(false),
+        },
+        _ => return Ok(false),
+    }
+    Ok(true)
+}
+
+// Appends the text of which the values are pieces.
+fn write_pieces(values: &[Tree<PlainValueLabel>], out: &mut Vec<u8>) -> Result<bool, Memory>
+    ensures { IfOk result (λ is. if_told is out.new.items ≡ behind_it out.old.items (rule.pieces_told (roses_of values.now))) }
+{
+    'values: for value in values {
+        if !write_piece(&value.label().value, out)? {
+            return Ok(false);
+        }
+    }
+    Ok(true)
+}
+
+// Appends the text that the values are at a type of this form.
+fn write_characters(
+    form: &PlainForm,
+    values: &[Tree<PlainValueLabel>],
+    out: &mut Vec<u8>,
+) -> Result<bool, Memory>
+    ensures { IfOk result (λ is. if_told is out.new.items ≡ behind_it out.old.items (rule.characters_told form.now (roses_of values.now))) }
+{
+    match form {
+        PlainForm::Utf8 { .. } => {
+            let start = out.len();
+            if !write_pieces(values, out)? {
+                return Ok(false);
+            }
+            Ok(are_pieces(values, &out[start..]))
+        }
+        _ => Ok(false),
+    }
+}
+
 // Returns the type with this number, after its index.
 fn kid_at<'a>(
     indexes: &'a [Tree<Index>],
@@ -253,7 +316,7 @@ fn write_spelling(
     match &value.label().value {
         PlainValue::List => {
             if !is_list_form(&label.form) {
-                return Ok(false);
+                return write_characters(&label.form, values, out);
             }
             write_list(indexes, kids, values, out)
         }
@@ -378,7 +441,73 @@ fn is_text_told(label: &ValueLabel, written: &[u8]) -> bool
     ensures { result ≡ rule.is_text_told label.now written.now }
 {
     match label {
-        ValueLabel::Utf8(text) => text.bytes() == written,
+        ValueLabel::Utf8(text) => !has_controls(text.bytes()) && text.bytes() == written,
+        _ => false,
+    }
+}
+
+// Returns whether the value is printed as a run of these characters.
+fn is_run(value: &PlainValue, run: &[u8]) -> bool
+    ensures { result ≡ rule.is_piece value.now (Run run.now) }
+{
+    match value {
+        PlainValue::Quoted { text } => text.bytes() == run,
+        _ => false,
+    }
+}
+
+// Returns whether the value is printed as this character, which is below U+0020.
+fn is_quadruple(value: &PlainValue, byte: u8) -> bool
+    ensures { result ≡ rule.is_piece value.now (Control byte) }
+{
+    match value {
+        PlainValue::Quadruple { cell } => {
+            cell.bytes() == Buffer::new().format(i128::from(byte)).as_bytes()
+        }
+        _ => false,
+    }
+}
+
+// Returns the text after its first piece, if the value is printed as this piece.
+fn behind_piece<'a>(value: &PlainValue, text: &'a [u8]) -> Option<&'a [u8]>
+    ensures { MatchOption result (IsNoPiece value.now text.now) (λ rest. IsFirstPiece value.now text.now rest.now) }
+{
+    let Some((first, behind)) = text.split_first() else {
+        return None;
+    };
+    if is_control(*first) {
+        if !is_quadruple(value, *first) {
+            return None;
+        }
+        return Some(behind);
+    }
+    let (run, rest) = split_run(text);
+    if !is_run(value, run) {
+        return None;
+    }
+    Some(rest)
+}
+
+// Returns whether the values are printed as the pieces of the text.
+fn are_pieces(values: &[Tree<PlainValueLabel>], text: &[u8]) -> bool
+    ensures { result ≡ rule.are_pieces (roses_of values.now) (pieces_of text.now) }
+{
+    let mut rest = text;
+    'values: for value in values {
+        let Some(behind) = behind_piece(&value.label().value, rest) else {
+            return false;
+        };
+        rest = behind;
+    }
+    rest.is_empty()
+}
+
+// Returns whether the values are printed as a text with characters below U+0020.
+fn are_characters(label: &ValueLabel, values: &[Tree<PlainValueLabel>]) -> bool
+    ensures { result ≡ rule.are_characters label.now (roses_of values.now) }
+{
+    match label {
+        ValueLabel::Utf8(text) => has_controls(text.bytes()) && are_pieces(values, text.bytes()),
         _ => false,
     }
 }
@@ -459,7 +588,11 @@ fn is_told(
         PlainValue::Number { written } => is_number_told(label, written.bytes()),
         PlainValue::Item { identifier } => is_item_told(&own.form, label, identifier),
         PlainValue::Quoted { text } => is_text_told(label, text.bytes()),
+        PlainValue::Quadruple { .. } => false,
         PlainValue::List => {
+            if !is_list_form(&own.form) {
+                return are_characters(label, values);
+            }
             if !is_list_told(label) {
                 return false;
             }

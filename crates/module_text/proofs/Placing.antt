@@ -2,6 +2,7 @@
 use Rattle.std.proofs.Common.{◌≡◌, ℕ, suc, ◌+◌, Option, Some, None, List, [], ◌∷◌, ◌++◌, map, length, codes, refl, ap, ◌∙◌}
 use Rattle.std.specs.List.{flat_map}
 use Rattle.base_trees.specs.Rose.{Rose, node, Roses, none, more}
+use Rattle.module_print.specs.CharacterLists.{quadruple}
 use Rattle.module_print.specs.Notation.{quoted, class_range, enumerated, block}
 use Rattle.module_print.specs.Printed.{labelled, opening, closing}
 use Rattle.module_print.specs.Values.{items}
@@ -66,6 +67,7 @@ value_with v texts = elim v [
   | value.Number written ↦ written
   | value.Item identifier ↦ identifier
   | value.Quoted text ↦ quoted text
+  | value.Quadruple cell ↦ quadruple cell
   | value.List ↦ items texts
   | value.Chosen identifier ↦ identifier ++ codes " : " ++ all_of texts
 ]

@@ -1,12 +1,15 @@
 -- Values after DEFAULT, and fixed values: the text that each represents, and whether it is printed canonically.
-use Rattle.std.specs.Prelude.{ℕ, ◌+◌, ◌-◌, ◌*◌, Bool, true, false, ◌&&◌, nat_lt, Option, Some, None, Ok, Err, List, [], ◌∷◌, slice_get, position, codes, bytes_eq, option_and_then, if◌then◌else◌}
+use Rattle.std.specs.Prelude.{ℕ, ◌+◌, ◌-◌, ◌*◌, Bool, true, false, not, ◌&&◌, nat_lt, ℤ, pos, Option, Some, None, Ok, Err, List, [], ◌∷◌, ◌++◌, slice_get, position, codes, bytes_eq, option_and_then, if◌then◌else◌}
 use Rattle.std.specs.Fmt.{signed_decimal}
 use Rattle.std.specs.List.{join_with_byte}
-use Rattle.base_trees.specs.Rose.{Rose, node, Roses, none, more, list_of}
+use Rattle.base_trees.specs.Rose.{Rose, node, Roses, none, more, label_of, list_of}
 use Rattle.simple_types.specs.Space.{Space}
 use Rattle.simple_types.specs.declared.labels.ValueLabel.{ValueLabel}
 use Rattle.simple_types.specs.declared.labels.ValueLabel.TheVariants as label
+use Rattle.simple_types.specs.Lexical.{whole_number}
 use Rattle.simple_types.specs.Reading.{Reading, reads, spelled}
+use Rattle.module_print.specs.CharacterLists.{Piece, Run, Control, is_control, has_controls, pieces_of}
+use Rattle.module_text.specs.declared.values.PlainValue.{PlainValue}
 use Rattle.module_text.specs.declared.values.PlainValue.TheVariants as value
 use Rattle.module_text.specs.declared.values.PlainValueLabel.{PlainValueLabel}
 use Rattle.module_text.specs.declared.types.NumberedItem.{NumberedItem}
@@ -16,7 +19,7 @@ use Rattle.module_text.specs.declared.types.PlainForm.{PlainForm}
 use Rattle.module_text.specs.declared.types.PlainForm.TheVariants as form
 use Rattle.module_text.specs.declared.types.PlainLabel.{PlainLabel}
 use Rattle.module_text.specs.Names.{is_hexadecimal_digit}
-use Rattle.module_text.specs.Told.{is_xml_text, words_of}
+use Rattle.module_text.specs.Told.{if_128_bits, is_xml_text, words_of}
 
 -- ---- the text that is the spelling of the value
 
@@ -58,6 +61,56 @@ abbrev pub alternative_named : PlainForm → List ℕ → Option ℕ
 alternative_named (form.Choice parts) identifier = position (λ (part : PlainPart). bytes_eq part.identifier identifier) parts
 alternative_named _ identifier = None
 
+-- ---- a text as the list of its pieces
+
+-- The character with this cell number, if it is below U+0020.
+abbrev pub control_told : Option ℤ → Option (List ℕ)
+control_told (Some (pos n)) = if is_control n then Some (n ∷ []) else None
+control_told _ = None
+
+abbrev pub piece_told : PlainValue → Option (List ℕ)
+piece_told (value.Quoted text) = Some text
+piece_told (value.Quadruple cell) = control_told (if_128_bits (whole_number cell))
+piece_told _ = None
+
+abbrev pub appended : Option (List ℕ) → Option (List ℕ) → Option (List ℕ)
+appended (Some piece) (Some text) = Some (piece ++ text)
+appended _ _ = None
+
+-- The text of which the values are pieces.
+abbrev pub pieces_told : Roses PlainValueLabel → Option (List ℕ)
+pieces_told none = Some []
+pieces_told (more v vs) = appended (piece_told (label_of v).value) (pieces_told vs)
+
+-- The value is printed as this piece of a text.
+abbrev pub is_piece : PlainValue → Piece → Bool
+is_piece (value.Quoted text) (Run run) = bytes_eq text run
+is_piece (value.Quadruple cell) (Control byte) = bytes_eq cell (signed_decimal (pos byte))
+is_piece _ _ = false
+
+abbrev pub are_pieces : Roses PlainValueLabel → List Piece → Bool
+are_pieces none [] = true
+are_pieces none (p ∷ ps) = false
+are_pieces (more v vs) [] = false
+are_pieces (more v vs) (p ∷ ps) = is_piece (label_of v).value p && are_pieces vs ps
+
+-- The text, if the values are printed as its pieces.
+abbrev pub if_pieces : Roses PlainValueLabel → Option (List ℕ) → Option (List ℕ)
+if_pieces vs None = None
+if_pieces vs (Some text) = if are_pieces vs (pieces_of text) then Some text else None
+
+-- The text that the values are at a type of this form.
+abbrev pub characters_told : PlainForm → Roses PlainValueLabel → Option (List ℕ)
+characters_told (form.Utf8 size class) vs = if_pieces vs (pieces_told vs)
+characters_told _ vs = None
+
+-- The values are printed as a text with characters below U+0020.
+abbrev pub are_characters : ValueLabel → Roses PlainValueLabel → Bool
+are_characters (label.Utf8 text) vs = has_controls text && are_pieces vs (pieces_of text)
+are_characters _ vs = false
+
+-- ---- other values
+
 abbrev pub is_list_form : PlainForm → Bool
 is_list_form (form.SequenceOf size item) = true
 is_list_form _ = false
@@ -71,10 +124,11 @@ abbrev mutual
     | value.Number written ↦ if_int l.form written
     | value.Item identifier ↦ item_named l identifier
     | value.Quoted text ↦ if_utf8 l.form text
+    | value.Quadruple cell ↦ None
     | value.List ↦
         if is_list_form l.form
         then elim (spellings_told (slice_get ts 0) vs) [ None ↦ None | Some texts ↦ Some (join_with_byte 0x20 texts) ]
-        else None
+        else characters_told l.form vs
     | value.Chosen identifier ↦
         elim (alternative_named l.form identifier) [ None ↦ None | Some i ↦ alone (spellings_told (slice_get ts i) vs) ]
   ]
@@ -115,7 +169,7 @@ is_item_told f (label.Enum i) identifier = is_item_of f i identifier
 is_item_told f _ identifier = false
 
 abbrev pub is_text_told : ValueLabel → List ℕ → Bool
-is_text_told (label.Utf8 text) written = bytes_eq text written
+is_text_told (label.Utf8 text) written = not (has_controls text) && bytes_eq text written
 is_text_told _ written = false
 
 abbrev pub is_list_told : ValueLabel → Bool
@@ -134,7 +188,8 @@ abbrev mutual
     | value.Number written ↦ is_number_told w written
     | value.Item identifier ↦ is_item_told l.form w identifier
     | value.Quoted text ↦ is_text_told w text
-    | value.List ↦ is_list_told w && are_told (slice_get ts 0) vs ws
+    | value.Quadruple cell ↦ false
+    | value.List ↦ if is_list_form l.form then is_list_told w && are_told (slice_get ts 0) vs ws else are_characters w vs
     | value.Chosen identifier ↦
         elim (chosen_told w) [ None ↦ false | Some i ↦ is_alternative_of l.form i identifier && are_told (slice_get ts i) vs ws ]
   ]

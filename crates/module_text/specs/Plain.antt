@@ -73,6 +73,7 @@ abbrev mutual
     | value.Number written ↦ (is_number written ≡ true) × (length_all vs ≡ 0)
     | value.Item identifier ↦ (is_identifier identifier ≡ true) × (length_all vs ≡ 0)
     | value.Quoted text ↦ length_all vs ≡ 0
+    | value.Quadruple cell ↦ (is_number cell ≡ true) × (length_all vs ≡ 0)
     | value.List ↦ AreValues vs
     | value.Chosen identifier ↦ (is_identifier identifier ≡ true) × (length_all vs ≡ 1) × AreValues vs
   ]

@@ -4,6 +4,7 @@ use Rattle.std.specs.Prelude.{ℕ, suc, Option, Some, None, List, [], ◌∷◌,
 use Rattle.std.specs.List.{flat_map}
 use Rattle.base_trees.specs.Rose.{Rose, node, Roses, none, more}
 use Rattle.module_print.specs.Notation.{quoted, commented, class_range, enumerated, block}
+use Rattle.module_print.specs.CharacterLists.{quadruple}
 use Rattle.module_print.specs.Instructions.{bracketed}
 use Rattle.module_print.specs.Values.{items}
 use Rattle.module_print.specs.Printed.{labelled, opening, closing}
@@ -94,6 +95,7 @@ abbrev mutual
     | value.Number written ↦ written
     | value.Item identifier ↦ identifier
     | value.Quoted text ↦ quoted text
+    | value.Quadruple cell ↦ quadruple cell
     | value.List ↦ items (value_texts vs)
     | value.Chosen identifier ↦ identifier ++ codes " : " ++ all_of (value_texts vs)
   ]

@@ -16,7 +16,9 @@ pub enum PlainValue {
     Item { identifier: Text },
     /// A text in quotation marks. Quotation marks inside are not doubled here.
     Quoted { text: Written },
-    /// Values in braces.
+    /// A character of a text, by its cell number: decimal digits, with or without a `-` at the beginning.
+    Quadruple { cell: Written },
+    /// Values in braces, or the pieces of a text.
     List,
     /// The identifier of an alternative, and its value.
     Chosen { identifier: Text },

@@ -1,6 +1,6 @@
 -- A value behind DEFAULT is the one that is told.
 use Rattle.std.proofs.Common.{◌≡◌, ℕ, zero, suc, Bool, true, false, Option, Some, None, List, [], ◌∷◌, map, length, refl, sym, ap, subst, ◌∙◌, arith, option_map}
-use Rattle.std.specs.Prelude.{ℤ, bytes_eq, slice_get, unwrap_or}
+use Rattle.std.specs.Prelude.{ℤ, not, bytes_eq, slice_get, unwrap_or}
 use Rattle.std.specs.Fmt.{signed_decimal}
 use Rattle.base_trees.specs.Rose.{Rose, node, Roses, list_of, roses_of, label_of, kids_of, length_all}
 use Rattle.base_trees.specs.Rose as rose
@@ -19,14 +19,15 @@ use Rattle.asn_types.specs.Modules.{IsForm}
 use Rattle.asn_types.specs.Parts.{parts_of}
 use Rattle.asn_types.specs.Simples.{MapsTo, MapToEach}
 use Rattle.module_print.specs.Instructions.{number_identifier}
+use Rattle.module_print.specs.CharacterLists.{has_controls, pieces_of}
 use Rattle.module_print.specs.Values.{alternative}
 use Rattle.module_text.specs.declared.values.PlainValueLabel.{PlainValueLabel}
 use Rattle.module_text.specs.declared.types.PlainLabel.{PlainLabel}
 use Rattle.module_text.specs.Defaults as defaults
 use Rattle.module_laws.proofs.Firsts.{bytes-self, bytes_same, got-within, got-at, got-mapped}
-use Rattle.module_unique.proofs.Telling.{type_marks_told, name_at, numbered_told, form_told, form_value, part_told, value_told, type_told, types_told}
+use Rattle.module_unique.proofs.Telling.{pieces_value, text_value, type_marks_told, name_at, numbered_told, form_told, form_value, part_told, value_told, type_told, types_told}
 use Rattle.module_unique.proofs.Shapes.{EachShaped, Shaped, ShapedBy}
-use Rattle.module_unique.proofs.Values.{types_got, Fine, AllFine}
+use Rattle.module_unique.proofs.Values.{pieces_agree, types_got, Fine, AllFine}
 use Rattle.module_unique.proofs.CleanForms.{both-so}
 use Rattle.module_unique.proofs.CleanRoles.{component_got}
 
@@ -70,6 +71,14 @@ module _ (M : List Assignment) where
       ap (λ o. elim o as (λ _. Bool) [ None ↦ false | Some n ↦ bytes_eq n.name (unwrap_or (slice_get identifiers i) []) ]) (got-mapped name_at identifiers i)
       ∙ ap (λ o. elim (option_map name_at o) as (λ _. Bool) [ None ↦ false | Some n ↦ bytes_eq n.name (unwrap_or o []) ]) name.1
       ∙ bytes-self name.0
+
+  text_at : (marks : List Instruction) (ts : Roses TypeLabel) (least : ℕ) (most : _) (class : _) (text : List ℕ) → AgreesAt (form.Utf8 least most class) marks ts (leaf (label.Utf8 text))
+  text_at marks ts least most class text = by (has_controls text) refl
+    where
+      by : (controls : Bool) → has_controls text ≡ controls
+          → told_in (node (record { at = 0; marks = type_marks_told (form.Utf8 least most class) marks; form = form_told M (form.Utf8 least most class) ts }) (types_told M ts)) (text_value text controls) (leaf (label.Utf8 text)) ≡ true
+      by true e = both-so (has_controls text) (defaults.are_pieces (pieces_value (pieces_of text)) (pieces_of text)) e (pieces_agree (pieces_of text))
+      by false e = both-so (not (has_controls text)) (bytes_eq text text) (ap not e) (bytes-self text)
 
   list_at : (marks : List Instruction) (part : Component) (least : ℕ) (most : Option ℕ) (t : Rose TypeLabel) (others : Roses TypeLabel) (item : Space) (vs : List (Rose ValueLabel))
       → ((v : Rose ValueLabel) → Shaped item v → Agrees t v) → EachShaped (Shaped item) vs → AgreesAt (form.SequenceOf part least most) marks (rose.more t others) (node label.SequenceOf (roses_of vs))
@@ -124,7 +133,7 @@ module _ (M : List Assignment) where
 
   characters_ : (how : _) (least : ℕ) (most : _) (class : _) → AgreesAll (Characters how least most class)
   characters_ how least most class (node l ts) v maps fine is =
-      subst (Agrees (node l ts)) (sym is.2) (subst (λ f. AgreesAt f l.marks ts (leaf (label.Utf8 is.0))) (sym maps.0) (bytes-self is.0))
+      subst (Agrees (node l ts)) (sym is.2) (subst (λ f. AgreesAt f l.marks ts (leaf (label.Utf8 is.0))) (sym maps.0) (text_at l.marks ts least most class is.0))
 
   lists_ : (item : Space) (least : ℕ) (most : _) → AgreesAll item → AgreesAll (ListOf item least most)
   lists_ item least most one (node l rose.none) v maps fine is = absurd maps.3

@@ -2,10 +2,11 @@
 use Rattle.std.proofs.Common.{◌≡◌, ℕ, Bool, false, ◌&&◌, Option, Some, None, List, [], ◌∷◌, map, refl, ap, ap₂, ◌∙◌, option_map}
 use Rattle.std.specs.Prelude.{bytes_eq, slice_get, option_and_then, if◌then◌else◌}
 use Rattle.std.specs.List.{join_with_byte}
-use Rattle.base_trees.specs.Rose.{Rose, node, Roses, none, more, list_of}
+use Rattle.base_trees.specs.Rose.{Rose, node, Roses, none, more, label_of, list_of}
 use Rattle.simple_types.specs.Space.{Space}
 use Rattle.simple_types.specs.declared.labels.ValueLabel.{ValueLabel}
 use Rattle.simple_types.specs.declared.labels.ValueLabel.TheVariants as label
+use Rattle.module_print.specs.CharacterLists.{Piece, has_controls, pieces_of}
 use Rattle.module_text.specs.declared.values.PlainValue.{PlainValue}
 use Rattle.module_text.specs.declared.values.PlainValue.TheVariants as value
 use Rattle.module_text.specs.declared.values.PlainValueLabel.{PlainValueLabel}
@@ -66,6 +67,39 @@ list_same (form.Sequence parts) = refl
 list_same (form.Choice parts) = refl
 list_same (form.Ref reference) = refl
 
+-- ---- a text as the list of its pieces
+
+first_same : (v : Rose PlainValueLabel) → (label_of (clear_value v)).value ≡ (label_of v).value
+first_same (node l vs) = refl
+
+pieces_same : (vs : Roses PlainValueLabel) → defaults.pieces_told (clear_values vs) ≡ defaults.pieces_told vs
+pieces_same none = refl
+pieces_same (more v vs) = ap₂ (λ p t. defaults.appended (defaults.piece_told p) t) (first_same v) (pieces_same vs)
+
+are_pieces_same : (vs : Roses PlainValueLabel) (ps : List Piece) → defaults.are_pieces (clear_values vs) ps ≡ defaults.are_pieces vs ps
+are_pieces_same none ps = refl
+are_pieces_same (more v vs) [] = refl
+are_pieces_same (more v vs) (p ∷ ps) = ap₂ (λ w b. defaults.is_piece w p && b) (first_same v) (are_pieces_same vs ps)
+
+fit_same : (vs : Roses PlainValueLabel) (text : Option (List ℕ)) → defaults.if_pieces (clear_values vs) text ≡ defaults.if_pieces vs text
+fit_same vs None = refl
+fit_same vs (Some text) = ap (λ b. if b then Some text else None) (are_pieces_same vs (pieces_of text))
+
+characters_same : (f : PlainForm) (vs : Roses PlainValueLabel) → defaults.characters_told (clear_form f) (clear_values vs) ≡ defaults.characters_told f vs
+characters_same (form.Utf8 size class) vs = fit_same vs (defaults.pieces_told (clear_values vs)) ∙ ap (defaults.if_pieces vs) (pieces_same vs)
+characters_same form.Bool vs = refl
+characters_same (form.Int r) vs = refl
+characters_same (form.Numbers items) vs = refl
+characters_same (form.Words identifiers) vs = refl
+characters_same (form.Sequence parts) vs = refl
+characters_same (form.Choice parts) vs = refl
+characters_same (form.SequenceOf size part) vs = refl
+characters_same (form.Ref reference) vs = refl
+
+listed_same : (w : ValueLabel) (vs : Roses PlainValueLabel) → defaults.are_characters w (clear_values vs) ≡ defaults.are_characters w vs
+listed_same (label.Utf8 text) vs = ap (λ b. has_controls text && b) (are_pieces_same vs (pieces_of text))
+listed_same w vs = refl
+
 numbered_same : (items : List NumberedItem) (identifier : List ℕ) → defaults.number_named (map clear_item items) identifier ≡ defaults.number_named items identifier
 numbered_same [] identifier = refl
 numbered_same (item ∷ items) identifier = ap (λ o. if bytes_eq item.identifier.name identifier then Some item.number.written else o) (numbered_same items identifier)
@@ -110,10 +144,13 @@ spell_by value.False at vs l ts rest = bool_same l.form _
 spell_by (value.Number written) at vs l ts rest = int_same l.form written
 spell_by (value.Item identifier) at vs l ts rest = named_by l l.form identifier refl
 spell_by (value.Quoted text) at vs l ts rest = utf8_same l.form text
+spell_by (value.Quadruple cell) at vs l ts rest = refl
 spell_by value.List at vs l ts rest =
-    ap₂ (λ b o. if b then elim o as (λ _. Option (List ℕ)) [ None ↦ None | Some texts ↦ Some (join_with_byte 0x20 texts) ] else None)
+    ap₂ (λ b o. if b then elim o as (λ _. Option (List ℕ)) [ None ↦ None | Some texts ↦ Some (join_with_byte 0x20 texts) ] else defaults.characters_told (clear_form l.form) (clear_values vs))
     (list_same l.form)
     (ap (λ o. defaults.spellings_told o (clear_values vs)) (got-mapped clear_type ts 0) ∙ rest (slice_get ts 0))
+    ∙ ap (λ c. if defaults.is_list_form l.form then elim (defaults.spellings_told (slice_get ts 0) vs) as (λ _. Option (List ℕ)) [ None ↦ None | Some texts ↦ Some (join_with_byte 0x20 texts) ] else c)
+    (characters_same l.form vs)
 spell_by (value.Chosen identifier) at vs l ts rest =
     ap (λ o. elim o as (λ _. Option (List ℕ)) [ None ↦ None | Some i ↦ defaults.alone (defaults.spellings_told (slice_get (map clear_type ts) i) (clear_values vs)) ]) (alternative_same l.form identifier)
     ∙ by (defaults.alternative_named l.form identifier)
@@ -208,8 +245,11 @@ told_by value.False at vs l ts w ws rest = refl
 told_by (value.Number written) at vs l ts w ws rest = refl
 told_by (value.Item identifier) at vs l ts w ws rest = item_told_same l.form w identifier
 told_by (value.Quoted text) at vs l ts w ws rest = refl
+told_by (value.Quadruple cell) at vs l ts w ws rest = refl
 told_by value.List at vs l ts w ws rest =
-    ap (λ b. defaults.is_list_told w && b) (ap (λ o. defaults.are_told o (clear_values vs) ws) (got-mapped clear_type ts 0) ∙ rest (slice_get ts 0) ws)
+    ap₂ (λ a b. if a then defaults.is_list_told w && b else defaults.are_characters w (clear_values vs)) (list_same l.form)
+    (ap (λ o. defaults.are_told o (clear_values vs) ws) (got-mapped clear_type ts 0) ∙ rest (slice_get ts 0) ws)
+    ∙ ap (λ c. if defaults.is_list_form l.form then defaults.is_list_told w && defaults.are_told (slice_get ts 0) vs ws else c) (listed_same w vs)
 told_by (value.Chosen identifier) at vs l ts w ws rest = by (defaults.chosen_told w)
   where
     by : (o : Option ℕ)

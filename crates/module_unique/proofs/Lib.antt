@@ -20,10 +20,12 @@ mod Clearing
 mod Digits
 mod Exactly
 mod Goods
+mod LowSimple
 mod Marked
 mod NoFault
 mod Octets
 mod OctetsMeant
+mod PiecesUtf8
 mod Plainness
 mod PrintUtf8
 mod Printing

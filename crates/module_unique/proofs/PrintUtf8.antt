@@ -13,6 +13,7 @@ use Rattle.simple_types.specs.Reading.{reads}
 use Rattle.asn_names.specs.ReservedWords.{reserved_words}
 use Rattle.asn_names.specs.Restoring.{form_of}
 use Rattle.module_print.specs.Notation.{quoted}
+use Rattle.module_print.specs.CharacterLists.{pieces_of}
 use Rattle.module_print.specs.Printed.{labelled, opening, closing}
 use Rattle.module_text.specs.declared.marks.NameAs.{NameAs}
 use Rattle.module_text.specs.declared.marks.NameAs.TheVariants as as_
@@ -45,10 +46,11 @@ use Rattle.module_text.specs.declared.spots.Spot.TheVariants.{Elsewhere}
 use Rattle.module_text.specs.Listed.{unless}
 use Rattle.module_text.specs.Told.{is_form, is_told_so, is_xml_text, has_list}
 use Rattle.module_text.specs.Resolving.{resolve, chains_end}
-use Rattle.module_text.specs.Defaults.{both, alone, if_utf8, is_list_form, alternative_named, spelling_told, spellings_told, is_told, own_value, canonical_value}
+use Rattle.module_text.specs.Defaults.{are_pieces, pieces_told, if_pieces, characters_told, both, alone, if_utf8, is_list_form, alternative_named, spelling_told, spellings_told, is_told, own_value, canonical_value}
 use Rattle.module_text.specs.Marks.{part_mark_may, part_mark_stands, type_mark_may, stands_once, item_number, next_item}
 use Rattle.module_text.specs.Faults.{part_mark_faults, type_mark_faults, form_faults, type_faults, part_faults, fixed_faults, is_fixed, is_default, value_at, absence_faults, space_at, part_spot, is_listed, is_bare, reference_faults, is_named_so, nameless_parts, has_text, assignment_faults, faults_from, faults}
 use Rattle.module_text.proofs.PrintedBounds.{unless-none as so, front-none as front, behind-none as behind, and-first, and-second}
+use Rattle.module_unique.proofs.PiecesUtf8.{pieces_utf8}
 use Rattle.module_unique.proofs.TextsUtf8.{constant, joined, three, four, AreUtf8, all_utf8, parts_utf8, quoted_utf8, bracketed_utf8, number_utf8, fixed_utf8, items_utf8, form_utf8}
 
 -- ---- names beside an identifier
@@ -131,13 +133,25 @@ utf8_same : (f : PlainForm) (text other : List ℕ) → if_utf8 f text ≡ Some 
 utf8_same (form.Utf8 size class) text other e = some_same text other e
 utf8_same f text other e = absurd (cc)
 
-abbrev joined_in : Bool → Option (List (List ℕ)) → Option (List ℕ)
-joined_in list o = if list then elim o [ None ↦ None | Some texts ↦ Some (join_with_byte 0x20 texts) ] else None
+abbrev joined_in : Option (List (List ℕ)) → Option (List ℕ)
+joined_in o = elim o [ None ↦ None | Some texts ↦ Some (join_with_byte 0x20 texts) ]
 
-list_parts : (list : Bool) (o : Option (List (List ℕ))) (text : List ℕ) → joined_in list o ≡ Some text → (texts : List (List ℕ)) × (o ≡ Some texts) × (join_with_byte 0x20 texts ≡ text)
-list_parts false o text e = absurd (cc)
-list_parts true None text e = absurd (cc)
-list_parts true (Some texts) text e = (texts, refl, some_same (join_with_byte 0x20 texts) text e)
+list_parts : (o : Option (List (List ℕ))) (text : List ℕ) → joined_in o ≡ Some text → (texts : List (List ℕ)) × (o ≡ Some texts) × (join_with_byte 0x20 texts ≡ text)
+list_parts None text e = absurd (cc)
+list_parts (Some texts) text e = (texts, refl, some_same (join_with_byte 0x20 texts) text e)
+
+-- a text as the list of its pieces
+fitting_utf8 : (vs : Roses PlainValueLabel) (told text : List ℕ) (fit : Bool) → are_pieces vs (pieces_of told) ≡ fit → (if fit then Some told else None) ≡ Some text → IsUtf8 text → AreUtf8 (value_texts vs)
+fitting_utf8 vs told text false is e u = absurd (cc)
+fitting_utf8 vs told text true is e u = pieces_utf8 vs told is (subst IsUtf8 (sym (some_same told text e)) u)
+
+told_utf8 : (vs : Roses PlainValueLabel) (told : Option (List ℕ)) (text : List ℕ) → if_pieces vs told ≡ Some text → IsUtf8 text → AreUtf8 (value_texts vs)
+told_utf8 vs None text e u = absurd (cc)
+told_utf8 vs (Some told) text e u = fitting_utf8 vs told text (are_pieces vs (pieces_of told)) refl e u
+
+characters_utf8 : (f : PlainForm) (vs : Roses PlainValueLabel) (text : List ℕ) → characters_told f vs ≡ Some text → IsUtf8 text → AreUtf8 (value_texts vs)
+characters_utf8 (form.Utf8 size class) vs text e u = told_utf8 vs (pieces_told vs) text e u
+characters_utf8 f vs text e u = absurd (cc)
 
 abbrev chosen_in : List (Rose PlainLabel) → Roses PlainValueLabel → Option ℕ → Option (List ℕ)
 chosen_in ts vs o = elim o [ None ↦ None | Some i ↦ alone (spellings_told (slice_get ts i) vs) ]
@@ -156,9 +170,15 @@ value_by at value.False vs l ts text is e u rest = constant (codes "FALSE") refl
 value_by at (value.Number written) vs l ts text is e u rest = number_utf8 written is.0
 value_by at (value.Item identifier) vs l ts text is e u rest = identifier_utf8 identifier is.0
 value_by at (value.Quoted written) vs l ts text is e u rest = quoted_utf8 written (subst IsUtf8 (sym (utf8_same l.form written text e)) u)
+value_by at (value.Quadruple cell) vs l ts text is e u rest = absurd (cc)
 value_by at value.List vs l ts text is e u rest =
-    let parts = list_parts (is_list_form l.form) (spellings_told (slice_get ts 0) vs) text e in
-    items_utf8 (value_texts vs) (rest (slice_get ts 0) parts.0 is parts.1 (parts_utf8 32 parts.0 (omega arith) (subst IsUtf8 (sym parts.2) u)))
+    items_utf8 (value_texts vs) (by (is_list_form l.form) e)
+  where
+    by : (list : Bool) → (if list then joined_in (spellings_told (slice_get ts 0) vs) else characters_told l.form vs) ≡ Some text → AreUtf8 (value_texts vs)
+    by true e =
+        let parts = list_parts (spellings_told (slice_get ts 0) vs) text e in
+        rest (slice_get ts 0) parts.0 is parts.1 (parts_utf8 32 parts.0 (omega arith) (subst IsUtf8 (sym parts.2) u))
+    by false e = characters_utf8 l.form vs text e u
 value_by at (value.Chosen identifier) vs l ts text is e u rest =
     let part = chosen_part ts vs (alternative_named l.form identifier) text e in
     three identifier (codes " : ") (all_of (value_texts vs)) (identifier_utf8 identifier is.0) (constant (codes " : ") refl)

@@ -1,5 +1,5 @@
 -- The text of what a print tells is the print.
-use Rattle.std.proofs.Common.{◌≡◌, ℕ, zero, suc, ◌<◌, ◌≤◌, ◌+◌, Bool, true, false, not, Option, Some, None, List, [], ◌∷◌, ◌++◌, map, refl, sym, ap, ◌∙◌, arith, append_assoc, append-nil}
+use Rattle.std.proofs.Common.{◌≡◌, ℕ, zero, suc, ◌<◌, ◌≤◌, ◌+◌, Bool, true, false, not, Option, Some, None, List, [], ◌∷◌, ◌++◌, map, refl, sym, ap, ap₂, ◌∙◌, arith, append_assoc, append-nil}
 use Rattle.std.specs.Prelude.{ℤ, pos, All, Ok, Err, codes, unwrap_or, if◌then◌else◌}
 use Rattle.std.specs.List.{flat_map, list_all}
 use Rattle.std.specs.Ordering.{int_eq}
@@ -25,8 +25,9 @@ use Rattle.asn_types.specs.declared.modules.Assignment.{Assignment}
 use Rattle.asn_types.specs.Parts as asn
 use Rattle.asn_types.specs.Refs.{resolve}
 use Rattle.asn_types.specs.Spaces.{space_at}
-use Rattle.module_print.specs.Notation.{range, number_range, size_range, enumerated, fixed_range, class_range, block}
+use Rattle.module_print.specs.Notation.{quoted, range, number_range, size_range, enumerated, fixed_range, class_range, block}
 use Rattle.module_print.specs.Instructions.{in_form, bracketed, instruction, instructions, rank, item_identifier}
+use Rattle.module_print.specs.CharacterLists.{Piece, Run, Control, has_controls, pieces_of, piece}
 use Rattle.module_print.specs.Values.{truth, whole, item, characters, items, alternative, chosen, value_notation, part_notation, read_notation, default}
 use Rattle.module_print.specs.Printed.{numbered_item, type_of, level_of_parts, labelled, if_absent, with_type, prefixes, printed_type, printed_parts, printed_assignment, printed, opening, closing}
 use Rattle.module_text.specs.declared.values.PlainValueLabel.{PlainValueLabel}
@@ -39,7 +40,7 @@ use Rattle.module_text.specs.declared.spots.Spot.TheVariants.{Elsewhere}
 use Rattle.module_text.specs.Printable.{comes_before, are_in_order, is_of_part, HasPartMarks, HasTypeMarks, MayBe, part_spot, ArePrintable, AllPrintable, IsPrintableAssignment, IsPrintable}
 use Rattle.module_text.proofs.PrintedBounds.{and-first, and-second}
 use Rattle.module_text.proofs.Ranking.{AreFrom, AreBelow, listed as ranked_so}
-use Rattle.module_unique.proofs.Telling.{both_told, range_told, size_told, as_form, part_kind, part_marks_told, type_kind, type_marks_told, fixed_told, absence_told, standard_told, default_told, reading_told, value_told, part_told, truth_told, whole_told, item_told, text_told, chosen_told, name_at, numbered_told, component_told, components_told, only_told, form_told, form_value, number_told, type_told, types_told, assignment_told, module_told}
+use Rattle.module_unique.proofs.Telling.{leaf, piece_value, pieces_value, text_value, both_told, range_told, size_told, as_form, part_kind, part_marks_told, type_kind, type_marks_told, fixed_told, absence_told, standard_told, default_told, reading_told, value_told, part_told, truth_told, whole_told, item_told, text_told, chosen_told, name_at, numbered_told, component_told, components_told, only_told, form_told, form_value, number_told, type_told, types_told, assignment_told, module_told}
 
 -- ---- encoding instructions
 
@@ -164,8 +165,20 @@ item_same : (f : Form) (l : ValueLabel) → laid.value_text (item_told f l) ≡ 
 item_same f (label.Enum i) = refl
 item_same f l = refl
 
+piece_same : (p : Piece) → laid.value_text (leaf (piece_value p)) ≡ piece p
+piece_same (Run told) = refl
+piece_same (Control byte) = refl
+
+pieces_same : (ps : List Piece) → laid.value_texts (pieces_value ps) ≡ map piece ps
+pieces_same [] = refl
+pieces_same (p ∷ ps) = ap₂ (λ x xs. x ∷ xs) (piece_same p) (pieces_same ps)
+
+text_by : (told : List ℕ) (controls : Bool) → laid.value_text (text_value told controls) ≡ (if controls then items (map piece (pieces_of told)) else quoted told)
+text_by told true = ap items (pieces_same (pieces_of told))
+text_by told false = refl
+
 text_same : (l : ValueLabel) → laid.value_text (text_told l) ≡ characters l
-text_same (label.Utf8 text) = refl
+text_same (label.Utf8 text) = text_by text (has_controls text)
 text_same l = refl
 
 chosen_same : (parts : List Component) (told : ℕ → Rose ValueLabel → Rose PlainValueLabel) (written : ℕ → Rose ValueLabel → List ℕ)

@@ -30,6 +30,7 @@ use Rattle.module_text.specs.Printable.{part_spot}
 use Rattle.module_unique.proofs.Telling.{value_told, default_told, standard_told, absence_told, components_told, only_told, form_told, type_told, types_told, assignment_told, module_told}
 use Rattle.module_unique.proofs.Clearing.{clear_value, clear_values, clear_absence, clear_part, clear_form, clear_type, clear_types, clear_assignment}
 use Rattle.module_unique.proofs.Goods.{Good, AllGood, GoodBody, Sits, resolved, default_is}
+use Rattle.module_unique.proofs.LowSimple.{simple_low}
 use Rattle.module_unique.proofs.Plainness.{IsStandardAt, AllSit, all_sit}
 
 front_nothing : {A : Type 0} (xs ys : List A) → xs ++ ys ≡ [] → xs ≡ []
@@ -114,7 +115,7 @@ module _ (M : List Assignment) (all : All (GoodBody M) M) where
       let there = resolved M t all sits in
       let told = default_is M t text there.is is in
       let low = told.told.low in
-      let most = there.low in
+      let most = simple_low M is.0 is.2 (resolve M t) is.3 there.is in
       ap (deep_values limit) told.reading ∙ value_low (value_told (resolve M t) told.value) limit (omega (arith, low, most))
 
   absence_low : (s : Standard) (attribute optional : Bool) (t : Rose TypeLabel) → Sits M t → IsStandardAt M all attribute optional s t

@@ -1,5 +1,5 @@
 -- What the print of a printable module tells, with each thing at place 0.
-use Rattle.std.specs.Prelude.{ℕ, zero, suc, ℤ, pos, Option, Some, None, Ok, Err, List, [], ◌∷◌, map, unwrap_or, if◌then◌else◌}
+use Rattle.std.specs.Prelude.{ℕ, Bool, zero, suc, ℤ, pos, Option, Some, None, Ok, Err, List, [], ◌∷◌, map, unwrap_or, if◌then◌else◌}
 use Rattle.std.specs.Ordering.{int_eq}
 use Rattle.std.specs.Fmt.{signed_decimal}
 use Rattle.base_trees.specs.Rose.{Rose, node, Roses, none, more, label_of, kids_of}
@@ -24,6 +24,7 @@ use Rattle.asn_types.specs.Refs.{resolve}
 use Rattle.asn_types.specs.Spaces.{space_at}
 use Rattle.module_print.specs.Notation.{hexadecimal}
 use Rattle.module_print.specs.Instructions.{item_identifier, number_identifier}
+use Rattle.module_print.specs.CharacterLists.{Piece, Run, Control, has_controls, pieces_of}
 use Rattle.module_print.specs.Values.{alternative}
 use Rattle.module_print.specs.Printed.{reference_at}
 use Rattle.module_text.specs.declared.bounds.PlainNumber.{PlainNumber}
@@ -133,8 +134,20 @@ abbrev pub item_told : Form → ValueLabel → Rose PlainValueLabel
 item_told f (label.Enum i) = leaf (value.Item (unwrap_or (item_identifier f i) []))
 item_told f _ = leaf nothing
 
+abbrev pub piece_value : Piece → PlainValue
+piece_value (Run text) = value.Quoted text
+piece_value (Control byte) = value.Quadruple (signed_decimal (pos byte))
+
+abbrev pub pieces_value : List Piece → Roses PlainValueLabel
+pieces_value [] = none
+pieces_value (p ∷ ps) = more (leaf (piece_value p)) (pieces_value ps)
+
+-- a text in quotation marks, or the list of its pieces
+abbrev pub text_value : List ℕ → Bool → Rose PlainValueLabel
+text_value text controls = if controls then node (value_label value.List) (pieces_value (pieces_of text)) else leaf (value.Quoted text)
+
 abbrev pub text_told : ValueLabel → Rose PlainValueLabel
-text_told (label.Utf8 text) = leaf (value.Quoted text)
+text_told (label.Utf8 text) = text_value text (has_controls text)
 text_told _ = leaf nothing
 
 abbrev pub chosen_told : List Component → (ℕ → Rose ValueLabel → Rose PlainValueLabel) → Option (ℕ × Rose ValueLabel) → Rose PlainValueLabel

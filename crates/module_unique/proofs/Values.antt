@@ -1,6 +1,6 @@
 -- Values behind DEFAULT are values of the plain grammar, and tell the text for which they stand.
-use Rattle.std.proofs.Common.{◌≡◌, ℕ, zero, suc, ◌≤◌, Bool, true, false, Option, Some, None, List, [], ◌∷◌, map, length, refl, sym, ap, ap₂, subst, ◌∙◌, arith, option_map, position}
-use Rattle.std.specs.Prelude.{ℤ, bytes_eq, slice_get, unwrap_or, filter, option_and_then, if◌then◌else◌}
+use Rattle.std.proofs.Common.{◌≡◌, ℕ, zero, suc, ◌≤◌, Bool, true, false, ◌&&◌, Option, Some, None, List, [], ◌∷◌, map, length, refl, sym, ap, ap₂, subst, ◌∙◌, arith, option_map, position, ◌^◌, ◌<◌, lt-ltb, ltb-true}
+use Rattle.std.specs.Prelude.{ℤ, pos, bytes_eq, slice_get, unwrap_or, filter, option_and_then, if◌then◌else◌}
 use Rattle.std.specs.List.{IsDistinct, join_with_byte}
 use Rattle.std.specs.Fmt.{signed_decimal}
 use Rattle.base_trees.specs.Rose.{Rose, node, Roses, list_of, roses_of, label_of, kids_of, length_all, height, depth_all}
@@ -9,7 +9,8 @@ use Rattle.base_trees.proofs.Roses.{list_of-roses_of, length-list_of}
 use Rattle.simple_types.specs.declared.labels.ValueLabel.{ValueLabel}
 use Rattle.simple_types.specs.declared.labels.ValueLabel.TheVariants as label
 use Rattle.simple_types.specs.Space.{Space, Spaces, none, more, Booleans, Wholes, Numbers, Words, Characters, ListOf, UnionOf}
-use Rattle.simple_types.specs.Lexical.{is_128_bits, boolean_text}
+use Rattle.simple_types.specs.Lexical.{whole_number, is_128_bits, boolean_text}
+use Rattle.simple_types.proofs.Decimals.{decimal_number}
 use Rattle.simple_types.specs.Reading.{leaf, spelled, spelled_by, spelled_if}
 use Rattle.asn_types.specs.declared.marks.Instruction.{Instruction}
 use Rattle.asn_types.specs.declared.types.Component.{Component}
@@ -22,6 +23,7 @@ use Rattle.asn_types.specs.Modules.{IsForm}
 use Rattle.asn_types.specs.Parts.{parts_of}
 use Rattle.asn_types.specs.Simples.{MapsTo, MapToEach}
 use Rattle.module_print.specs.Instructions.{number_identifier}
+use Rattle.module_print.specs.CharacterLists.{Piece, Run, Control, is_control, has_controls, with_byte, pieces_of}
 use Rattle.module_print.specs.Values.{alternative}
 use Rattle.module_text.specs.declared.values.PlainValueLabel.{PlainValueLabel}
 use Rattle.module_text.specs.declared.types.PlainName.{PlainName}
@@ -29,11 +31,11 @@ use Rattle.module_text.specs.declared.types.PlainPart.{PlainPart}
 use Rattle.module_text.specs.declared.types.PlainLabel.{PlainLabel}
 use Rattle.module_text.specs.Names.{is_identifier}
 use Rattle.module_text.specs.Plain.{IsValue, AreValues}
-use Rattle.module_text.specs.Told.{words_of}
+use Rattle.module_text.specs.Told.{if_128_bits, words_of}
 use Rattle.module_text.specs.Defaults as defaults
 use Rattle.module_text.specs.Printable.{HasNames, IsIdentifier, is_text, texts_due}
 use Rattle.module_laws.proofs.Firsts.{bytes-self, got-within, got-at, got-mapped, index-is, all-at, only-at}
-use Rattle.module_unique.proofs.Telling.{type_marks_told, name_at, numbered_told, components_told, form_told, form_value, part_told, value_told, type_told, types_told}
+use Rattle.module_unique.proofs.Telling.{piece_value, pieces_value, text_value, type_marks_told, name_at, numbered_told, components_told, form_told, form_value, part_told, value_told, type_told, types_told}
 use Rattle.module_unique.proofs.Digits.{number_is, number_named, numbers_same}
 use Rattle.module_unique.proofs.Shapes.{EachShaped, Shaped, ShapedBy}
 use Rattle.module_unique.proofs.Words.{words_are}
@@ -60,6 +62,69 @@ number_found (y ∷ ys) i z e = by (bytes_eq (number_identifier y) (number_ident
     by true is rest = ap Some (numbers_same y z is)
     by false is rest = later i rest e is
 
+-- ---- a text as the list of its pieces
+
+abbrev AreSmall : List Piece → Type 0
+AreSmall [] = Unit {0}
+AreSmall (Run text ∷ ps) = AreSmall ps
+AreSmall (Control byte ∷ ps) = (is_control byte ≡ true) × AreSmall ps
+
+byte_small : (b : ℕ) (ps : List Piece) → AreSmall ps → AreSmall (with_byte b ps)
+byte_small b [] are = tt
+byte_small b (Run text ∷ ps) are = are
+byte_small b (Control c ∷ ps) are = are
+
+pieces_small : (text : List ℕ) → AreSmall (pieces_of text)
+pieces_small [] = tt
+pieces_small (b ∷ bs) = by (is_control b) refl
+  where
+    by : (control : Bool) → is_control b ≡ control → AreSmall (if control then Control b ∷ pieces_of bs else with_byte b (pieces_of bs))
+    by true e = (e, pieces_small bs)
+    by false e = byte_small b (pieces_of bs) (pieces_small bs)
+
+pub small_bits : (b : ℕ) → is_control b ≡ true → is_128_bits (pos b) ≡ true
+small_bits b e = lt-ltb b (2 ^ 127) (omega (arith, ltb-true b 32 e))
+
+pieces_plain : (ps : List Piece) → AreSmall ps → AreValues (pieces_value ps)
+pieces_plain [] are = tt
+pieces_plain (Run text ∷ ps) are = (refl, pieces_plain ps are)
+pieces_plain (Control b ∷ ps) are = ((number_is (pos b) (small_bits b are.0), refl), pieces_plain ps are.1)
+
+pieces_low : (ps : List Piece) → depth_all (pieces_value ps) ≤ 1
+pieces_low [] = omega arith
+pieces_low (p ∷ ps) = let rest = pieces_low ps in omega (arith, rest)
+
+one_before : (b : ℕ) (text : List ℕ) (others : Option (List ℕ)) → defaults.appended (Some (b ∷ text)) others ≡ option_map (λ l. b ∷ l) (defaults.appended (Some text) others)
+one_before b text None = refl
+one_before b text (Some more) = refl
+
+byte_told : (b : ℕ) (ps : List Piece) (text : List ℕ) → defaults.pieces_told (pieces_value ps) ≡ Some text → defaults.pieces_told (pieces_value (with_byte b ps)) ≡ Some (b ∷ text)
+byte_told b [] text e = ap (option_map (λ (l : List ℕ). b ∷ l)) e
+byte_told b (Run run ∷ ps) text e = one_before b run (defaults.pieces_told (pieces_value ps)) ∙ ap (option_map (λ l. b ∷ l)) e
+byte_told b (Control c ∷ ps) text e = ap (defaults.appended (Some (b ∷ []))) e
+
+control_back : (b : ℕ) → is_control b ≡ true → defaults.control_told (if_128_bits (whole_number (signed_decimal (pos b)))) ≡ Some (b ∷ [])
+control_back b e =
+    ap (λ o. defaults.control_told (if_128_bits o)) (decimal_number (pos b) (small_bits b e))
+    ∙ ap (λ c. defaults.control_told (if c then Some (pos b) else None)) (small_bits b e)
+    ∙ ap (λ c. if c then Some (b ∷ []) else None) e
+
+pieces_back : (text : List ℕ) → defaults.pieces_told (pieces_value (pieces_of text)) ≡ Some text
+pieces_back [] = refl
+pieces_back (b ∷ bs) = by (is_control b) refl
+  where
+    by : (control : Bool) → is_control b ≡ control → defaults.pieces_told (pieces_value (if control then Control b ∷ pieces_of bs else with_byte b (pieces_of bs))) ≡ Some (b ∷ bs)
+    by true e = ap₂ defaults.appended (control_back b e) (pieces_back bs)
+    by false e = byte_told b (pieces_of bs) bs (pieces_back bs)
+
+piece_agrees : (p : Piece) → defaults.is_piece (piece_value p) p ≡ true
+piece_agrees (Run text) = bytes-self text
+piece_agrees (Control byte) = bytes-self (signed_decimal (pos byte))
+
+pub pieces_agree : (ps : List Piece) → defaults.are_pieces (pieces_value ps) ps ≡ true
+pieces_agree [] = refl
+pieces_agree (p ∷ ps) = ap₂ (λ a b. a && b) (piece_agrees p) (pieces_agree ps)
+
 -- ---- a value that is written at a type of so many levels
 
 abbrev pub spelling_in : Rose PlainLabel → Rose PlainValueLabel → Option (List ℕ)
@@ -68,7 +133,7 @@ spelling_in (node l ts) v = defaults.spelling_told l (list_of ts) v
 pub record Says (u : Rose PlainLabel) (levels : ℕ) (v : Rose PlainValueLabel) (text : List ℕ) : Type 0 where
   pub value : IsValue v
   pub spelling : spelling_in u v ≡ Some text
-  pub low : height v ≤ levels
+  pub low : height v ≤ suc levels
 
 alone_of : (u : Rose PlainLabel) (v : Rose PlainValueLabel) (text : List ℕ) → spelling_in u v ≡ Some text
     → defaults.alone (defaults.spellings_told (Some u) (rose.more v rose.none)) ≡ Some text
@@ -78,7 +143,7 @@ alone_of (node l ts) v text e = ap (λ o. defaults.alone (defaults.both o (Some 
 record SayAll (u : Rose PlainLabel) (levels : ℕ) (vs : Roses PlainValueLabel) (texts : List (List ℕ)) : Type 0 where
   pub values : AreValues vs
   pub spellings : defaults.spellings_told (Some u) vs ≡ Some texts
-  pub low : depth_all vs ≤ levels
+  pub low : depth_all vs ≤ suc levels
 
 none_say : (u : Rose PlainLabel) (levels : ℕ) → SayAll u levels rose.none []
 none_say u levels = record { values = tt; spellings = refl; low = omega arith }
@@ -169,7 +234,11 @@ module _ (M : List Assignment) where
         }
 
     text_at : (least : ℕ) (most : Option ℕ) (class : _) (text : List ℕ) → TellsAt (form.Utf8 least most class) marks ts (leaf (label.Utf8 text)) text
-    text_at least most class text = record { value = refl; spelling = refl; low = omega arith }
+    text_at least most class text = by (has_controls text)
+      where
+        by : (controls : Bool) → Says (node (told_label (form.Utf8 least most class) marks ts) (types_told M ts)) (suc (depth_all ts)) (text_value text controls) text
+        by true = let low = pieces_low (pieces_of text) in record { value = pieces_plain (pieces_of text) (pieces_small text); spelling = ap (defaults.if_pieces (pieces_value (pieces_of text))) (pieces_back text) ∙ ap (λ b. if b then Some text else None) (pieces_agree (pieces_of text)); low = omega (arith, low) }
+        by false = record { value = refl; spelling = refl; low = omega arith }
 
   -- ---- lists
 

@@ -2,8 +2,8 @@ use Rattle.std.proofs.Common.{◌∙◌, ap, subst, arith, [], ◌∷◌, ◌++�
 use Rattle.std.proofs.lemmas.Result.{err_from_is_err_and}
 use Rattle.std.specs.Prelude.{codes}
 use Rattle.module_grammar.specs.Reading.{word_at, or_at, many_at, behind_at, before_at}
-use Rattle.module_grammar.specs.NameReading.{identifier_at, signed_at, quoted_at}
-use Rattle.module_grammar.specs.ValueReading.{listed_of, listed_at, value_of, braced_at, chosen_at, value_at}
+use Rattle.module_grammar.specs.NameReading.{identifier_at, signed_at}
+use Rattle.module_grammar.specs.ValueReading.{text_piece_at, listed_of, listed_at, value_of, braced_at, chosen_at, value_at}
 use Rattle.module_parse.specs.Readers.{late_value_of, late_value_at}
 use Rattle.module_parse.specs.Reads.{IsStopped, Reads}
 use Rattle.module_parse.proofs.Chaining.{as_read, as_stops, then_read, then_stops, then_next_stops, behind_read, behind_stops, behind_next_stops, behind_reads, before_read, before_stops, before_word_stops, or_first, or_second, or_second_stops, or_again, going_again}
@@ -113,48 +113,48 @@ value-returns-then-depth-eq0-clause-value t c = rw c.if-depth-eq0.true c.too_dee
 pub value-returns-in-Ok-clause-value : goal.value-returns-in-Ok-clause-value
 value-returns-in-Ok-clause-value t c =
     let e : suc (c.args.depth - 1) ≡ c.args.depth = omega (arith, c.if-depth-eq0.false) in
-    rw c.leaf.ensures (value_deeper (c.args.depth - 1) c.args.depth e (as_read value_of (or_first (or_at (word_at (codes "FALSE")) (or_at signed_at (or_at quoted_at (or_at (word_at (codes "{}")) (or_at (braced_at (value_at (c.args.depth - 1))) (or_at (chosen_at (value_at (c.args.depth - 1))) identifier_at)))))) c.in-Ok.ensures.value)))
+    rw c.leaf.ensures (value_deeper (c.args.depth - 1) c.args.depth e (as_read value_of (or_first (or_at (word_at (codes "FALSE")) (or_at signed_at (or_at text_piece_at (or_at (word_at (codes "{}")) (or_at (braced_at (value_at (c.args.depth - 1))) (or_at (chosen_at (value_at (c.args.depth - 1))) identifier_at)))))) c.in-Ok.ensures.value)))
 
 pub value-returns-in_err-second-in-Err-clause-value : goal.value-returns-in_err-second-in-Err-clause-value
 value-returns-in_err-second-in-Err-clause-value t c =
     let e : suc (c.args.depth - 1) ≡ c.args.depth = omega (arith, c.if-depth-eq0.false) in
     let p = err_from_is_err_and c.from_residual.result c.from_residual.ensures.1 in
-    rw (p.1, p.2) (subst (λ d. IsStopped (value_at d) c.args.bytes.now c.args.from c.in_err-second-in-Err.field-0.0) e (as_stops value_of (or_again (or_at (word_at (codes "FALSE")) (or_at signed_at (or_at quoted_at (or_at (word_at (codes "{}")) (or_at (braced_at (value_at (c.args.depth - 1))) (or_at (chosen_at (value_at (c.args.depth - 1))) identifier_at)))))) c.in-Err.ensures.value c.in_err-second-in-Err.ensures)))
+    rw (p.1, p.2) (subst (λ d. IsStopped (value_at d) c.args.bytes.now c.args.from c.in_err-second-in-Err.field-0.0) e (as_stops value_of (or_again (or_at (word_at (codes "FALSE")) (or_at signed_at (or_at text_piece_at (or_at (word_at (codes "{}")) (or_at (braced_at (value_at (c.args.depth - 1))) (or_at (chosen_at (value_at (c.args.depth - 1))) identifier_at)))))) c.in-Err.ensures.value c.in_err-second-in-Err.ensures)))
 
 pub value-returns-in-Ok-literal-clause-value : goal.value-returns-in-Ok-literal-clause-value
 value-returns-in-Ok-literal-clause-value t c =
     let e : suc (c.args.depth - 1) ≡ c.args.depth = omega (arith, c.if-depth-eq0.false) in
-    rw c.leaf-in-Ok-literal.ensures (value_deeper (c.args.depth - 1) c.args.depth e (as_read value_of (or_second c.in-Err.ensures.value c.in_ok-second-in-Err.ensures (or_first (or_at signed_at (or_at quoted_at (or_at (word_at (codes "{}")) (or_at (braced_at (value_at (c.args.depth - 1))) (or_at (chosen_at (value_at (c.args.depth - 1))) identifier_at))))) c.in-Ok-literal.ensures.value))))
+    rw c.leaf-in-Ok-literal.ensures (value_deeper (c.args.depth - 1) c.args.depth e (as_read value_of (or_second c.in-Err.ensures.value c.in_ok-second-in-Err.ensures (or_first (or_at signed_at (or_at text_piece_at (or_at (word_at (codes "{}")) (or_at (braced_at (value_at (c.args.depth - 1))) (or_at (chosen_at (value_at (c.args.depth - 1))) identifier_at))))) c.in-Ok-literal.ensures.value))))
 
 pub value-returns-in_err-third-in-Err-literal-clause-value : goal.value-returns-in_err-third-in-Err-literal-clause-value
 value-returns-in_err-third-in-Err-literal-clause-value t c =
     let e : suc (c.args.depth - 1) ≡ c.args.depth = omega (arith, c.if-depth-eq0.false) in
     let p = err_from_is_err_and c.from_residual-in_err-third-in-Err-literal.result c.from_residual-in_err-third-in-Err-literal.ensures.1 in
-    rw (p.1, p.2) (subst (λ d. IsStopped (value_at d) c.args.bytes.now c.args.from c.in_err-third-in-Err-literal.field-0.0) e (as_stops value_of (or_second_stops c.in-Err.ensures.value c.in_ok-second-in-Err.ensures (or_again (or_at signed_at (or_at quoted_at (or_at (word_at (codes "{}")) (or_at (braced_at (value_at (c.args.depth - 1))) (or_at (chosen_at (value_at (c.args.depth - 1))) identifier_at))))) c.in-Err-literal.ensures.value c.in_err-third-in-Err-literal.ensures))))
+    rw (p.1, p.2) (subst (λ d. IsStopped (value_at d) c.args.bytes.now c.args.from c.in_err-third-in-Err-literal.field-0.0) e (as_stops value_of (or_second_stops c.in-Err.ensures.value c.in_ok-second-in-Err.ensures (or_again (or_at signed_at (or_at text_piece_at (or_at (word_at (codes "{}")) (or_at (braced_at (value_at (c.args.depth - 1))) (or_at (chosen_at (value_at (c.args.depth - 1))) identifier_at))))) c.in-Err-literal.ensures.value c.in_err-third-in-Err-literal.ensures))))
 
 pub value-returns-in-Ok-signed-clause-value : goal.value-returns-in-Ok-signed-clause-value
 value-returns-in-Ok-signed-clause-value t c =
     let e : suc (c.args.depth - 1) ≡ c.args.depth = omega (arith, c.if-depth-eq0.false) in
-    rw c.leaf-in-Ok-signed.ensures (value_deeper (c.args.depth - 1) c.args.depth e (as_read value_of (or_second c.in-Err.ensures.value c.in_ok-second-in-Err.ensures (or_second c.in-Err-literal.ensures.value c.in_ok-third-in-Err-literal.ensures (or_first (or_at quoted_at (or_at (word_at (codes "{}")) (or_at (braced_at (value_at (c.args.depth - 1))) (or_at (chosen_at (value_at (c.args.depth - 1))) identifier_at)))) c.in-Ok-signed.ensures.value)))))
+    rw c.leaf-in-Ok-signed.ensures (value_deeper (c.args.depth - 1) c.args.depth e (as_read value_of (or_second c.in-Err.ensures.value c.in_ok-second-in-Err.ensures (or_second c.in-Err-literal.ensures.value c.in_ok-third-in-Err-literal.ensures (or_first (or_at text_piece_at (or_at (word_at (codes "{}")) (or_at (braced_at (value_at (c.args.depth - 1))) (or_at (chosen_at (value_at (c.args.depth - 1))) identifier_at)))) c.in-Ok-signed.ensures.value)))))
 
 pub value-returns-in_err-fourth-in-Err-signed-clause-value : goal.value-returns-in_err-fourth-in-Err-signed-clause-value
 value-returns-in_err-fourth-in-Err-signed-clause-value t c =
     let e : suc (c.args.depth - 1) ≡ c.args.depth = omega (arith, c.if-depth-eq0.false) in
     let p = err_from_is_err_and c.from_residual-in_err-fourth-in-Err-signed.result c.from_residual-in_err-fourth-in-Err-signed.ensures.1 in
-    rw (p.1, p.2) (subst (λ d. IsStopped (value_at d) c.args.bytes.now c.args.from c.in_err-fourth-in-Err-signed.field-0.0) e (as_stops value_of (or_second_stops c.in-Err.ensures.value c.in_ok-second-in-Err.ensures (or_second_stops c.in-Err-literal.ensures.value c.in_ok-third-in-Err-literal.ensures (or_again (or_at quoted_at (or_at (word_at (codes "{}")) (or_at (braced_at (value_at (c.args.depth - 1))) (or_at (chosen_at (value_at (c.args.depth - 1))) identifier_at)))) c.in-Err-signed.ensures.value c.in_err-fourth-in-Err-signed.ensures)))))
+    rw (p.1, p.2) (subst (λ d. IsStopped (value_at d) c.args.bytes.now c.args.from c.in_err-fourth-in-Err-signed.field-0.0) e (as_stops value_of (or_second_stops c.in-Err.ensures.value c.in_ok-second-in-Err.ensures (or_second_stops c.in-Err-literal.ensures.value c.in_ok-third-in-Err-literal.ensures (or_again (or_at text_piece_at (or_at (word_at (codes "{}")) (or_at (braced_at (value_at (c.args.depth - 1))) (or_at (chosen_at (value_at (c.args.depth - 1))) identifier_at)))) c.in-Err-signed.ensures.value c.in_err-fourth-in-Err-signed.ensures)))))
 
-pub value-returns-in-Ok-quoted-clause-value : goal.value-returns-in-Ok-quoted-clause-value
-value-returns-in-Ok-quoted-clause-value t c =
+pub value-returns-in-Ok-text_piece-clause-value : goal.value-returns-in-Ok-text_piece-clause-value
+value-returns-in-Ok-text_piece-clause-value t c =
     let e : suc (c.args.depth - 1) ≡ c.args.depth = omega (arith, c.if-depth-eq0.false) in
-    rw c.leaf-in-Ok-quoted.ensures (value_deeper (c.args.depth - 1) c.args.depth e (as_read value_of (or_second c.in-Err.ensures.value c.in_ok-second-in-Err.ensures (or_second c.in-Err-literal.ensures.value c.in_ok-third-in-Err-literal.ensures (or_second c.in-Err-signed.ensures.value c.in_ok-fourth-in-Err-signed.ensures (or_first (or_at (word_at (codes "{}")) (or_at (braced_at (value_at (c.args.depth - 1))) (or_at (chosen_at (value_at (c.args.depth - 1))) identifier_at))) c.in-Ok-quoted.ensures.value))))))
+    rw c.leaf-in-Ok-text_piece.ensures (value_deeper (c.args.depth - 1) c.args.depth e (as_read value_of (or_second c.in-Err.ensures.value c.in_ok-second-in-Err.ensures (or_second c.in-Err-literal.ensures.value c.in_ok-third-in-Err-literal.ensures (or_second c.in-Err-signed.ensures.value c.in_ok-fourth-in-Err-signed.ensures (or_first (or_at (word_at (codes "{}")) (or_at (braced_at (value_at (c.args.depth - 1))) (or_at (chosen_at (value_at (c.args.depth - 1))) identifier_at))) c.in-Ok-text_piece.ensures.value))))))
 
-pub value-returns-in_err-late-in-Err-quoted-clause-value : goal.value-returns-in_err-late-in-Err-quoted-clause-value
-value-returns-in_err-late-in-Err-quoted-clause-value t c =
+pub value-returns-in_err-late-in-Err-text_piece-clause-value : goal.value-returns-in_err-late-in-Err-text_piece-clause-value
+value-returns-in_err-late-in-Err-text_piece-clause-value t c =
     let e : suc (c.args.depth - 1) ≡ c.args.depth = omega (arith, c.if-depth-eq0.false) in
-    let p = err_from_is_err_and c.from_residual-in_err-late-in-Err-quoted.result c.from_residual-in_err-late-in-Err-quoted.ensures.1 in
-    rw (p.1, p.2) (subst (λ d. IsStopped (value_at d) c.args.bytes.now c.args.from c.in_err-late-in-Err-quoted.field-0.0) e (as_stops value_of (or_second_stops c.in-Err.ensures.value c.in_ok-second-in-Err.ensures (or_second_stops c.in-Err-literal.ensures.value c.in_ok-third-in-Err-literal.ensures (or_second_stops c.in-Err-signed.ensures.value c.in_ok-fourth-in-Err-signed.ensures (or_again (or_at (word_at (codes "{}")) (or_at (braced_at (value_at (c.args.depth - 1))) (or_at (chosen_at (value_at (c.args.depth - 1))) identifier_at))) c.in-Err-quoted.ensures.value c.in_err-late-in-Err-quoted.ensures))))))
+    let p = err_from_is_err_and c.from_residual-in_err-late-in-Err-text_piece.result c.from_residual-in_err-late-in-Err-text_piece.ensures.1 in
+    rw (p.1, p.2) (subst (λ d. IsStopped (value_at d) c.args.bytes.now c.args.from c.in_err-late-in-Err-text_piece.field-0.0) e (as_stops value_of (or_second_stops c.in-Err.ensures.value c.in_ok-second-in-Err.ensures (or_second_stops c.in-Err-literal.ensures.value c.in_ok-third-in-Err-literal.ensures (or_second_stops c.in-Err-signed.ensures.value c.in_ok-fourth-in-Err-signed.ensures (or_again (or_at (word_at (codes "{}")) (or_at (braced_at (value_at (c.args.depth - 1))) (or_at (chosen_at (value_at (c.args.depth - 1))) identifier_at))) c.in-Err-text_piece.ensures.value c.in_err-late-in-Err-text_piece.ensures))))))
 
 pub value-returns-clause-value : goal.value-returns-clause-value
 value-returns-clause-value t c =
     let e : suc (c.args.depth - 1) ≡ c.args.depth = omega (arith, c.if-depth-eq0.false) in
-    subst (λ d. Reads (value_at d) c.args.bytes.now c.args.from c.late_value.result) e (reads_so (value_at (suc (c.args.depth - 1))) (late_value_at (value_at (c.args.depth - 1))) c.args.bytes.now c.args.from c.in_ok-late-in-Err-quoted.late c.late_value.result (value_late (value_at (c.args.depth - 1)) c.args.bytes.now c.args.from c.in_ok-second-in-Err.second c.in_ok-third-in-Err-literal.third c.in_ok-fourth-in-Err-signed.fourth c.in_ok-late-in-Err-quoted.late c.in-Err.stop c.in-Err-literal.stop c.in-Err-signed.stop c.in-Err-quoted.stop c.in-Err.ensures.value c.in_ok-second-in-Err.ensures c.in-Err-literal.ensures.value c.in_ok-third-in-Err-literal.ensures c.in-Err-signed.ensures.value c.in_ok-fourth-in-Err-signed.ensures c.in-Err-quoted.ensures.value c.in_ok-late-in-Err-quoted.ensures) c.late_value.ensures.value)
+    subst (λ d. Reads (value_at d) c.args.bytes.now c.args.from c.late_value.result) e (reads_so (value_at (suc (c.args.depth - 1))) (late_value_at (value_at (c.args.depth - 1))) c.args.bytes.now c.args.from c.in_ok-late-in-Err-text_piece.late c.late_value.result (value_late (value_at (c.args.depth - 1)) c.args.bytes.now c.args.from c.in_ok-second-in-Err.second c.in_ok-third-in-Err-literal.third c.in_ok-fourth-in-Err-signed.fourth c.in_ok-late-in-Err-text_piece.late c.in-Err.stop c.in-Err-literal.stop c.in-Err-signed.stop c.in-Err-text_piece.stop c.in-Err.ensures.value c.in_ok-second-in-Err.ensures c.in-Err-literal.ensures.value c.in_ok-third-in-Err-literal.ensures c.in-Err-signed.ensures.value c.in_ok-fourth-in-Err-signed.ensures c.in-Err-text_piece.ensures.value c.in_ok-late-in-Err-text_piece.ensures) c.late_value.ensures.value)

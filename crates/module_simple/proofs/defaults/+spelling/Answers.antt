@@ -108,3 +108,10 @@ write_spelling-returns-in-Chosen t c =
     let is = told-by (label_of c.args.node.now) (kids_of c.args.node.now) c.args.value.now (value.Chosen c.in-Chosen.identifier) value_is in
     let place_is = c.alternative-place.ensures ∙ ap (λ l. alternative_named l.form c.in-Chosen.identifier) c.label-label.ensures in
     rw (is, sym place_is, sym c.kids-kids.ensures, sym c.kids-values.ensures) c.write_chosen.ensures
+
+pub write_spelling-returns-then-not-is_list_form : goal.write_spelling-returns-then-not-is_list_form
+write_spelling-returns-then-not-is_list_form t c =
+    let value_is = ap (λ l. l.value) (sym c.label.ensures) ∙ c.in-List.is in
+    let is = told-by (label_of c.args.node.now) (kids_of c.args.node.now) c.args.value.now value.List value_is in
+    let form_is = ap (λ l. is_list_form l.form) (sym c.label-label.ensures) ∙ sym c.is_list_form.ensures ∙ c.if-not-is_list_form.true in
+    rw (is, form_is, sym c.label-label.ensures, sym c.kids-values.ensures) c.write_characters.ensures

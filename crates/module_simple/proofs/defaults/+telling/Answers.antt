@@ -1,10 +1,10 @@
-use Rattle.std.proofs.Common.{◌&&◌, Some, slice_get, sym, ap, ◌∙◌, arith}
+use Rattle.std.proofs.Common.{◌&&◌, Some, slice_get, refl, sym, ap, ◌∙◌, arith}
 use Rattle.base_trees.specs.Rose.{roses_of, label_of, kids_of}
 use Rattle.base_trees.proofs.Roses.{node_count-kids}
 use Rattle.base_trees.proofs.Kids.{kid-count-le}
 use Rattle.simple_types.proofs.Spellings.{found_at, missed_at}
 use Rattle.module_text.specs.declared.values.PlainValue.TheVariants as value
-use Rattle.module_text.specs.Defaults.{is_list_told, chosen_told, is_alternative_of, are_told}
+use Rattle.module_text.specs.Defaults.{is_list_form, is_list_told, chosen_told, is_alternative_of, are_told}
 use Rattle.module_simple.proofs.SoTold.{no-node, not-so, so-far, end-told, all-told, no-kid, chosen_so, so-by}
 use Rattle.module_simple.proofs.defaults.+telling.Goals as goal
 
@@ -58,12 +58,28 @@ is_told-are_told-requires-in-Chosen t c =
     let k = node_count-kids c.args.value.now in
     (rw c.kids-values.ensures (omega (arith, d, k)), tt)
 
+pub is_told-returns-then-not-is_list_form : goal.is_told-returns-then-not-is_list_form
+is_told-returns-then-not-is_list_form t c =
+    let kid = c.args.kid.now in
+    let is = so-by (label_of kid) (kids_of kid) c.args.value.now c.args.node.now value.List (ap (λ l. l.value) (sym c.label-written.ensures) ∙ c.in-List.is) in
+    let form_is = ap (λ l. is_list_form l.form) (sym c.label-own.ensures) ∙ sym c.is_list_form.ensures ∙ c.if-not-is_list_form.true in
+    rw (is, form_is, sym c.label-label.ensures, sym c.kids-values.ensures) c.are_characters.ensures
+
+pub is_told-returns-then-not-is_list_told : goal.is_told-returns-then-not-is_list_told
+is_told-returns-then-not-is_list_told t c =
+    let kid = c.args.kid.now in
+    let is = so-by (label_of kid) (kids_of kid) c.args.value.now c.args.node.now value.List (ap (λ l. l.value) (sym c.label-written.ensures) ∙ c.in-List.is) in
+    let form_is = ap (λ l. is_list_form l.form) (sym c.label-own.ensures) ∙ sym c.is_list_form.ensures ∙ c.if-not-is_list_form.false in
+    let list_is = ap is_list_told (sym c.label-label.ensures) ∙ sym c.is_list_told.ensures ∙ c.if-not-is_list_told.true in
+    rw (is, form_is, list_is) refl
+
 pub is_told-returns-else-not-is_list_told : goal.is_told-returns-else-not-is_list_told
 is_told-returns-else-not-is_list_told t c =
     let kid = c.args.kid.now in
     let is = so-by (label_of kid) (kids_of kid) c.args.value.now c.args.node.now value.List (ap (λ l. l.value) (sym c.label-written.ensures) ∙ c.in-List.is) in
+    let form_is = ap (λ l. is_list_form l.form) (sym c.label-own.ensures) ∙ sym c.is_list_form.ensures ∙ c.if-not-is_list_form.false in
     let list_is = ap is_list_told (sym c.label-label.ensures) ∙ sym c.is_list_told.ensures ∙ c.if-not-is_list_told.false in
-    rw (is, list_is, sym c.kids-kids.ensures, sym c.kids-values.ensures, sym c.kids-nodes.ensures) c.are_told.ensures
+    rw (is, form_is, list_is, sym c.kids-kids.ensures, sym c.kids-values.ensures, sym c.kids-nodes.ensures) c.are_told.ensures
 
 pub is_told-returns-in_default : goal.is_told-returns-in_default
 is_told-returns-in_default t c =
