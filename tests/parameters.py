@@ -34,13 +34,6 @@ MORE_PARAMETERS = {
         "module_read": ["form", "text_mark", "part_types"],
         "module_simple": ["is_default", "absence_fault"],
     },
-    "a value with its type and its module isn't a struct yet": {
-        "xer_write": [
-            *["add_attribute_at", "gather_present", "gather_children", "gather_ordered", "gather_sequence", "gather_choice"],
-            *["gather_elements", "gather_sequence_of", "gather_mixed", "gather_apart", "gather_complex", "gather_element"],
-            *["keep_at", "keep_content", "keep_present"],
-        ],
-    },
 }
 
 # Tables: one match with a row for each variant.

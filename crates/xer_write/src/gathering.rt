@@ -15,13 +15,13 @@ ghost use Rattle.xer_items.specs.Children.{Child, elements_of};
 ghost use Rattle.xer_items.specs.Spelling.{is_textual};
 ghost use Rattle.xer_write.specs.Private.Receiving.{name_seen};
 ghost use Rattle.xer_write.specs.Private.Gaining.{Gains, value_text};
-ghost use Rattle.xer_write.specs.Private.Giving.{IsTypeIn, may_be_present, place_seen, element_at, place_gives, places_give, parts_give, ordered_give, mixed_gives, type_gives};
+ghost use Rattle.xer_write.specs.Private.Giving.{IsTypeIn, AreParts, may_be_present, place_seen, element_at, place_gives, places_give, parts_give, ordered_give, mixed_gives, type_gives};
 ghost use Rattle.xer_write.specs.Private.Keeping.{AreWithin, children_seen};
 
 use crate::contents::Contents;
 use crate::keeping::{ChildElement, keep_present};
 use crate::ordering::{in_order, order_numbers};
-use crate::presence::{Place, is_last_absent, may_be_present};
+use crate::presence::{ListForm, Place, Sequence, Walk, is_last_absent, may_be_present};
 use crate::receiver::NameRef;
 use crate::spelling::is_textual;
 use asn_types::{Component, Form, Module, Role, TypeLabel, resolve, role};
@@ -72,18 +72,17 @@ fn add_nil_if(
 // Adds an attribute with the text of a value.
 #[inline(never)]
 fn add_attribute_at<'a>(
-    alloc: Global,
-    module: &'a Module,
+    walk: Walk<'a>,
     part: &'a Component,
     node: &'a Tree<TypeLabel>,
     value: &Node<'a, ValueLabel>,
     out: &mut Contents<'a>,
 ) -> Result<(), Memory>
-    requires { IsTypeIn module.now node.now }
-    ensures { OnOk result (Gains out.old out.new (place_gives module.now (record { role = role.Attribute; part = part.now; type = node.now }) value.now)) }
+    requires { IsTypeIn walk.module.now node.now }
+    ensures { OnOk result (Gains out.old out.new (place_gives walk.entry.module.now (record { role = role.Attribute; part = part.now; type = node.now }) value.now)) }
 {
-    let text = spelling(alloc, resolve(module, node), value)?;
-    out.add_attribute(alloc, NameRef::of_part(part), text)
+    let text = spelling(walk.alloc, resolve(walk.module, node), value)?;
+    out.add_attribute(walk.alloc, NameRef::of_part(part), text)
 }
 
 // Adds an element of this name with the text of a value, which is spelled first.
@@ -145,23 +144,22 @@ fn add_leaf_element<'a>(
 #[cycle(gathering)]
 #[inline(always)]
 fn gather_at<'a>(
-    alloc: Global,
-    module: &'a Module,
+    walk: Walk<'a>,
     place: &Place<'a>,
     value: &Node<'a, ValueLabel>,
     out: &mut Contents<'a>,
 ) -> Result<(), Memory>
-    requires { IsTypeIn module.now place.now.node.now }
-    ensures { OnOk result (Gains out.old out.new (place_gives module.now (place_seen place.now) value.now)) }
+    requires { IsTypeIn walk.module.now place.now.node.now }
+    ensures { OnOk result (Gains out.old out.new (place_gives walk.entry.module.now (place_seen place.now) value.now)) }
 {
     match place.role {
-        Role::Attribute => add_attribute_at(alloc, module, place.part, place.node, value, out),
+        Role::Attribute => add_attribute_at(walk, place.part, place.node, value, out),
         Role::Element => {
             let name = NameRef::of_part(place.part);
-            gather_element(alloc, module, place.node, value, &name, out)
+            gather_element(walk, place.node, value, &name, out)
         }
-        Role::Group => gather(alloc, module, place.node, value, out),
-        Role::Content => gather(alloc, module, place.node, value, out),
+        Role::Group => gather(walk, place.node, value, out),
+        Role::Content => gather(walk, place.node, value, out),
         _ => Ok(()),
     }
 }
@@ -169,19 +167,19 @@ fn gather_at<'a>(
 // Adds what the present components of a SEQUENCE give.
 #[cycle(gathering)]
 fn gather_present<'a>(
-    alloc: Global,
-    module: &'a Module,
-    node: &'a Tree<TypeLabel>,
-    parts: &'a [Component],
-    present: &[bool],
+    walk: Walk<'a>,
+    sequence: &Sequence<'a, '_>,
     values: &Kids<'a, ValueLabel>,
     out: &mut Contents<'a>,
 ) -> Result<(), Memory>
-    requires node { IsTypeIn module.now node.now }
-    requires form { (label_of node.now).form ≡ form.Sequence parts.now }
-    requires present { may_be_present parts.now present.now ≡ true }
-    ensures { OnOk result (Gains out.old out.new (places_give module.now (rule.present_from (label_of node.now) 0 parts.now (kids_of node.now) present.now) values.now)) }
+    requires { AreParts walk.module.now sequence.now }
+    ensures { OnOk result (Gains out.old out.new (places_give walk.entry.module.now (rule.present_from (label_of sequence.now.node.now) 0 sequence.now.parts.now (kids_of sequence.now.node.now) sequence.now.present.now) values.now)) }
 {
+    let Sequence {
+        node,
+        parts,
+        present,
+    } = *sequence;
     let mut left = values.again();
     'parts: for i in 0..parts.len() {
         if present[i] {
@@ -194,7 +192,7 @@ fn gather_present<'a>(
                 part,
                 node: node.kid(i),
             };
-            gather_at(alloc, module, &place, &value, out)?;
+            gather_at(walk, &place, &value, out)?;
         }
     }
     Ok(())
@@ -203,22 +201,21 @@ fn gather_present<'a>(
 // Adds child elements of this value, in this order of their numbers.
 #[cycle(gathering)]
 fn gather_children<'a>(
-    alloc: Global,
-    module: &'a Module,
+    walk: Walk<'a>,
     parent: &Node<'a, ValueLabel>,
     children: &[ChildElement<'a>],
     order: &[usize],
     out: &mut Contents<'a>,
 ) -> Result<(), Memory>
-    requires { AreWithin module.now (count_all (roses_of (kids_of parent.now))) (children_seen children.now) }
-    ensures { OnOk result ((cs : List Child) → map (slice_get (children_seen children.now)) order.now ≡ map Some cs → Gains out.old out.new (given [] (elements_of module.now cs))) }
+    requires { AreWithin walk.module.now (count_all (roses_of (kids_of parent.now))) (children_seen children.now) }
+    ensures { OnOk result ((cs : List Child) → map (slice_get (children_seen children.now)) order.now ≡ map Some cs → Gains out.old out.new (given [] (elements_of walk.entry.module.now cs))) }
 {
     let _ = parent;
     'order: for i in order {
         let Some(child) = children.get(*i) else {
             return Ok(());
         };
-        gather_element(alloc, module, child.node, &child.value, &child.name, out)?;
+        gather_element(walk, child.node, &child.value, &child.name, out)?;
     }
     Ok(())
 }
@@ -227,53 +224,44 @@ fn gather_children<'a>(
 #[cycle(gathering)]
 #[inline(never)]
 fn gather_ordered<'a>(
-    alloc: Global,
-    module: &'a Module,
-    node: &'a Tree<TypeLabel>,
-    parts: &'a [Component],
-    present: &[bool],
+    walk: Walk<'a>,
+    sequence: &Sequence<'a, '_>,
     value: &Node<'a, ValueLabel>,
     out: &mut Contents<'a>,
 ) -> Result<(), Memory>
-    requires node { IsTypeIn module.now node.now }
-    requires form { (label_of node.now).form ≡ form.Sequence parts.now }
-    requires order { has_use_order (label_of node.now).marks ≡ true }
-    requires value { label_of value.now ≡ label.Sequence present.now }
-    requires present { may_be_present parts.now present.now ≡ true }
-    ensures { OnOk result (Gains out.old out.new (ordered_give module.now node.now value.now)) }
+    requires parts { AreParts walk.module.now sequence.now }
+    requires order { has_use_order (label_of sequence.now.node.now).marks ≡ true }
+    requires value { label_of value.now ≡ label.Sequence sequence.now.present.now }
+    ensures { OnOk result (Gains out.old out.new (ordered_give walk.entry.module.now sequence.now.node.now value.now)) }
 {
-    let mut children = Vec::new(alloc);
-    let values = value.kids();
-    keep_present(
-        alloc,
-        module,
+    let Walk { alloc, module } = walk;
+    let Sequence {
         node,
         parts,
         present,
-        &values,
-        out,
-        &mut children,
-    )?;
+    } = *sequence;
+    let mut children = Vec::new(alloc);
+    let values = value.kids();
+    keep_present(walk, sequence, &values, out, &mut children)?;
     let flags = ordered_flags(alloc, module, node, value)?;
     let numbers = order_numbers(alloc, node, parts, present, value)?;
     let order = in_order(alloc, &flags, &numbers, children.len())?;
-    gather_children(alloc, module, value, &children, &order, out)
+    gather_children(walk, value, &children, &order, out)
 }
 
 // Adds what the value of a SEQUENCE gives, in the order of its type.
 #[cycle(gathering)]
 #[inline(always)]
 fn gather_sequence<'a>(
-    alloc: Global,
-    module: &'a Module,
+    walk: Walk<'a>,
     node: &'a Tree<TypeLabel>,
     parts: &'a [Component],
     value: &Node<'a, ValueLabel>,
     out: &mut Contents<'a>,
 ) -> Result<(), Memory>
-    requires node { IsTypeIn module.now node.now }
+    requires node { IsTypeIn walk.module.now node.now }
     requires form { (label_of node.now).form ≡ form.Sequence parts.now }
-    ensures { OnOk result (Gains out.old out.new (ordered_give module.now node.now value.now)) }
+    ensures { OnOk result (Gains out.old out.new (ordered_give walk.entry.module.now node.now value.now)) }
 {
     match value.label() {
         ValueLabel::Sequence { present } => {
@@ -281,10 +269,15 @@ fn gather_sequence<'a>(
             if !may_be_present(parts, present) {
                 return Ok(());
             }
+            let sequence = Sequence {
+                node,
+                parts,
+                present,
+            };
             if node.label().marks.has_use_order() {
-                return gather_ordered(alloc, module, node, parts, present, value, out);
+                return gather_ordered(walk, &sequence, value, out);
             }
-            gather_present(alloc, module, node, parts, present, &value.kids(), out)
+            gather_present(walk, &sequence, &value.kids(), out)
         }
         _ => Ok(()),
     }
@@ -294,16 +287,15 @@ fn gather_sequence<'a>(
 #[cycle(gathering)]
 #[inline(never)]
 fn gather_choice<'a>(
-    alloc: Global,
-    module: &'a Module,
+    walk: Walk<'a>,
     node: &'a Tree<TypeLabel>,
     parts: &'a [Component],
     value: &Node<'a, ValueLabel>,
     out: &mut Contents<'a>,
 ) -> Result<(), Memory>
-    requires node { IsTypeIn module.now node.now }
+    requires node { IsTypeIn walk.module.now node.now }
     requires form { (label_of node.now).form ≡ form.Choice parts.now }
-    ensures { OnOk result (Gains out.old out.new (parts_give module.now node.now value.now)) }
+    ensures { OnOk result (Gains out.old out.new (parts_give walk.entry.module.now node.now value.now)) }
 {
     let ValueLabel::Choice(i) = value.label() else {
         return Ok(());
@@ -319,26 +311,25 @@ fn gather_choice<'a>(
         part,
         node: node.kid(*i as usize),
     };
-    gather_at(alloc, module, &place, &chosen, out)
+    gather_at(walk, &place, &chosen, out)
 }
 
 // Adds the items of a SEQUENCE OF, which are elements of one name.
 #[cycle(gathering)]
 #[inline(always)]
 fn gather_elements<'a>(
-    alloc: Global,
-    module: &'a Module,
+    walk: Walk<'a>,
     part: &'a Component,
     node: &'a Tree<TypeLabel>,
     values: &Kids<'a, ValueLabel>,
     out: &mut Contents<'a>,
 ) -> Result<(), Memory>
-    requires { IsTypeIn module.now node.now }
-    ensures { OnOk result (Gains out.old out.new (gathered module.now (replicate (length values.now) (element_at part.now node.now)) (roses_of values.now))) }
+    requires { IsTypeIn walk.module.now node.now }
+    ensures { OnOk result (Gains out.old out.new (gathered walk.entry.module.now (replicate (length values.now) (element_at part.now node.now)) (roses_of values.now))) }
 {
     let name = NameRef::of_part(part);
     'values: for value in values.again() {
-        gather_element(alloc, module, node, &value, &name, out)?;
+        gather_element(walk, node, &value, &name, out)?;
     }
     Ok(())
 }
@@ -346,20 +337,19 @@ fn gather_elements<'a>(
 // Adds what the items of a SEQUENCE OF give, which are all at one place.
 #[cycle(gathering)]
 fn gather_items<'a>(
-    alloc: Global,
-    module: &'a Module,
+    walk: Walk<'a>,
     place: &Place<'a>,
     values: &Kids<'a, ValueLabel>,
     out: &mut Contents<'a>,
 ) -> Result<(), Memory>
-    requires { IsTypeIn module.now place.now.node.now }
-    ensures { OnOk result (Gains out.old out.new (gathered module.now (replicate (length values.now) (place_seen place.now)) (roses_of values.now))) }
+    requires { IsTypeIn walk.module.now place.now.node.now }
+    ensures { OnOk result (Gains out.old out.new (gathered walk.entry.module.now (replicate (length values.now) (place_seen place.now)) (roses_of values.now))) }
 {
     if let Role::Element = place.role {
-        return gather_elements(alloc, module, place.part, place.node, values, out);
+        return gather_elements(walk, place.part, place.node, values, out);
     }
     'values: for value in values.again() {
-        gather_at(alloc, module, place, &value, out)?;
+        gather_at(walk, place, &value, out)?;
     }
     Ok(())
 }
@@ -368,22 +358,20 @@ fn gather_items<'a>(
 #[cycle(gathering)]
 #[inline(never)]
 fn gather_sequence_of<'a>(
-    alloc: Global,
-    module: &'a Module,
+    walk: Walk<'a>,
     node: &'a Tree<TypeLabel>,
-    part: &'a Component,
-    min: u32,
-    max: Option<u32>,
+    list: ListForm<'a>,
     value: &Node<'a, ValueLabel>,
     out: &mut Contents<'a>,
 ) -> Result<(), Memory>
-    requires node { IsTypeIn module.now node.now }
-    requires form { (label_of node.now).form ≡ form.SequenceOf part.now min max }
-    ensures { OnOk result (Gains out.old out.new (parts_give module.now node.now value.now)) }
+    requires node { IsTypeIn walk.module.now node.now }
+    requires form { (label_of node.now).form ≡ form.SequenceOf list.part.now list.min list.max }
+    ensures { OnOk result (Gains out.old out.new (parts_give walk.entry.module.now node.now value.now)) }
 {
     let ValueLabel::SequenceOf = value.label() else {
         return Ok(());
     };
+    let ListForm { part, min, max } = list;
     let values = value.kids();
     let count = values.len();
     if count < min as usize || !is_at_most(count, max) {
@@ -394,30 +382,32 @@ fn gather_sequence_of<'a>(
         part,
         node: node.kid(0),
     };
-    gather_items(alloc, module, &place, &values, out)
+    gather_items(walk, &place, &values, out)
 }
 
 // Adds what the children of a value give, whose type is not a reference. It adds nothing if the value isn't of the type.
 #[cycle(gathering)]
 #[inline(always)]
 fn gather_kids<'a>(
-    alloc: Global,
-    module: &'a Module,
+    walk: Walk<'a>,
     node: &'a Tree<TypeLabel>,
     value: &Node<'a, ValueLabel>,
     out: &mut Contents<'a>,
 ) -> Result<(), Memory>
-    requires node { IsTypeIn module.now node.now }
+    requires node { IsTypeIn walk.module.now node.now }
     requires parts { is_textual (label_of node.now) ≡ false }
-    ensures { OnOk result (Gains out.old out.new (ordered_give module.now node.now value.now)) }
+    ensures { OnOk result (Gains out.old out.new (ordered_give walk.entry.module.now node.now value.now)) }
 {
     match &node.label().form {
-        Form::Sequence { parts } => {
-            gather_sequence(alloc, module, node, parts.items(), value, out)
-        }
-        Form::Choice { parts } => gather_choice(alloc, module, node, parts.items(), value, out),
+        Form::Sequence { parts } => { gather_sequence(walk, node, parts.items(), value, out) }
+        Form::Choice { parts } => gather_choice(walk, node, parts.items(), value, out),
         Form::SequenceOf { part, min, max } => {
-            gather_sequence_of(alloc, module, node, part, *min, *max, value, out)
+            let list = ListForm {
+                part,
+                min: *min,
+                max: *max,
+            };
+            gather_sequence_of(walk, node, list, value, out)
         }
         _ => Ok(()),
     }
@@ -427,65 +417,62 @@ fn gather_kids<'a>(
 #[cycle(gathering)]
 #[inline(never)]
 fn gather_mixed<'a>(
-    alloc: Global,
-    module: &'a Module,
+    walk: Walk<'a>,
     node: &'a Tree<TypeLabel>,
     value: &Node<'a, ValueLabel>,
     texts: Kids<'a, ValueLabel>,
     out: &mut Contents<'a>,
 ) -> Result<(), Memory>
-    requires node { IsTypeIn module.now node.now }
+    requires node { IsTypeIn walk.module.now node.now }
     requires parts { is_textual (label_of node.now) ≡ false }
-    ensures { OnOk result (Gains out.old out.new (mixed_gives (map value_text texts.entry) (ordered_give module.now node.now value.now))) }
+    ensures { OnOk result (Gains out.old out.new (mixed_gives (map value_text texts.entry) (ordered_give walk.entry.module.now node.now value.now))) }
 {
     out.begin_mixed(texts)?;
-    gather_kids(alloc, module, node, value, out)?;
-    out.end_mixed(alloc)
+    gather_kids(walk, node, value, out)?;
+    out.end_mixed(walk.alloc)
 }
 
 // Adds what a value gives whose type is neither a reference nor textual, by the instructions of the type.
 #[cycle(gathering)]
 #[inline(always)]
 fn gather_parts<'a>(
-    alloc: Global,
-    module: &'a Module,
+    walk: Walk<'a>,
     node: &'a Tree<TypeLabel>,
     value: &Node<'a, ValueLabel>,
     out: &mut Contents<'a>,
 ) -> Result<(), Memory>
-    requires node { IsTypeIn module.now node.now }
+    requires node { IsTypeIn walk.module.now node.now }
     requires parts { is_textual (label_of node.now) ≡ false }
-    ensures { OnOk result (Gains out.old out.new (type_gives module.now node.now value.now)) }
+    ensures { OnOk result (Gains out.old out.new (type_gives walk.entry.module.now node.now value.now)) }
 {
-    add_nil_if(alloc, node.label(), value.label(), out)?;
+    add_nil_if(walk.alloc, node.label(), value.label(), out)?;
     if node.label().marks.has_embed_values() {
         match texts_of(value) {
-            Some(texts) => gather_mixed(alloc, module, node, value, texts, out),
-            None => gather_kids(alloc, module, node, value, out),
+            Some(texts) => gather_mixed(walk, node, value, texts, out),
+            None => gather_kids(walk, node, value, out),
         }
     } else {
-        gather_kids(alloc, module, node, value, out)
+        gather_kids(walk, node, value, out)
     }
 }
 
 // Adds what a value of the type gives to the element that contains it.
 #[cycle(gathering)]
 fn gather<'a>(
-    alloc: Global,
-    module: &'a Module,
+    walk: Walk<'a>,
     node: &'a Tree<TypeLabel>,
     value: &Node<'a, ValueLabel>,
     out: &mut Contents<'a>,
 ) -> Result<(), Memory>
-    requires { IsTypeIn module.now node.now }
-    ensures { OnOk result (Gains out.old out.new (inside module.now node.now value.now)) }
+    requires { IsTypeIn walk.module.now node.now }
+    ensures { OnOk result (Gains out.old out.new (inside walk.entry.module.now node.now value.now)) }
 {
-    let found = resolve(module, node);
+    let found = resolve(walk.module, node);
     if is_textual(found.label()) {
-        let text = spelling(alloc, found, value)?;
-        out.add_text(alloc, text)
+        let text = spelling(walk.alloc, found, value)?;
+        out.add_text(walk.alloc, text)
     } else {
-        gather_parts(alloc, module, found, value, out)
+        gather_parts(walk, found, value, out)
     }
 }
 
@@ -494,63 +481,60 @@ fn gather<'a>(
 #[cycle(gathering)]
 #[inline(never)]
 fn gather_apart<'a>(
-    alloc: Global,
-    module: &'a Module,
+    walk: Walk<'a>,
     node: &'a Tree<TypeLabel>,
     value: &Node<'a, ValueLabel>,
     name: &NameRef<'a>,
     out: &mut Contents<'a>,
 ) -> Result<(), Memory>
-    requires node { IsTypeIn module.now node.now }
+    requires node { IsTypeIn walk.module.now node.now }
     requires parts { is_textual (label_of node.now) ≡ false }
-    ensures { OnOk result (Gains out.old out.new (given [] (more (element_of (name_seen name.now) (type_gives module.now node.now value.now)) none))) }
+    ensures { OnOk result (Gains out.old out.new (given [] (more (element_of (name_seen name.now) (type_gives walk.entry.module.now node.now value.now)) none))) }
 {
-    let outer = out.begin_element(alloc, name)?;
-    gather_parts(alloc, module, node, value, out)?;
-    out.end_element(alloc, outer)
+    let outer = out.begin_element(walk.alloc, name)?;
+    gather_parts(walk, node, value, out)?;
+    out.end_element(walk.alloc, outer)
 }
 
 // Adds an element of this name with what a value gives, whose type is neither a reference nor textual. Most often items are written
 // and no text precedes the next: then only the tag is set aside.
 #[cycle(gathering)]
 fn gather_complex<'a>(
-    alloc: Global,
-    module: &'a Module,
+    walk: Walk<'a>,
     node: &'a Tree<TypeLabel>,
     value: &Node<'a, ValueLabel>,
     name: &NameRef<'a>,
     out: &mut Contents<'a>,
 ) -> Result<(), Memory>
-    requires node { IsTypeIn module.now node.now }
+    requires node { IsTypeIn walk.module.now node.now }
     requires parts { is_textual (label_of node.now) ≡ false }
-    ensures { OnOk result (Gains out.old out.new (given [] (more (element_of (name_seen name.now) (type_gives module.now node.now value.now)) none))) }
+    ensures { OnOk result (Gains out.old out.new (given [] (more (element_of (name_seen name.now) (type_gives walk.entry.module.now node.now value.now)) none))) }
 {
     if !out.is_plain() {
-        return gather_apart(alloc, module, node, value, name, out);
+        return gather_apart(walk, node, value, name, out);
     }
-    let tag = out.begin_plain(alloc, name)?;
-    gather_parts(alloc, module, node, value, out)?;
-    out.end_plain(alloc, tag)
+    let tag = out.begin_plain(walk.alloc, name)?;
+    gather_parts(walk, node, value, out)?;
+    out.end_plain(walk.alloc, tag)
 }
 
 /// Adds an element of this name with what a value of the type gives.
 #[cycle(gathering)]
 #[inline(always)]
 pub(crate) fn gather_element<'a>(
-    alloc: Global,
-    module: &'a Module,
+    walk: Walk<'a>,
     node: &'a Tree<TypeLabel>,
     value: &Node<'a, ValueLabel>,
     name: &NameRef<'a>,
     out: &mut Contents<'a>,
 ) -> Result<(), Memory>
-    requires { IsTypeIn module.now node.now }
-    ensures { OnOk result (Gains out.old out.new (given [] (more (element_of (name_seen name.now) (inside module.now node.now value.now)) none))) }
+    requires { IsTypeIn walk.module.now node.now }
+    ensures { OnOk result (Gains out.old out.new (given [] (more (element_of (name_seen name.now) (inside walk.entry.module.now node.now value.now)) none))) }
 {
-    let found = resolve(module, node);
+    let found = resolve(walk.module, node);
     if is_textual(found.label()) {
-        add_leaf_element(alloc, found, value, name, out)
+        add_leaf_element(walk.alloc, found, value, name, out)
     } else {
-        gather_complex(alloc, module, found, value, name, out)
+        gather_complex(walk, found, value, name, out)
     }
 }

@@ -12,6 +12,7 @@ ghost use Rattle.xer_write.specs.Private.Giving.{IsTypeIn, HasTold};
 
 use crate::contents::Contents;
 use crate::gathering::gather_element;
+use crate::presence::Walk;
 use crate::receiver::{NameRef, Receiver};
 use asn_types::{Assignment, Module};
 use base_texts::Memory;
@@ -33,14 +34,8 @@ fn told<'a>(
 {
     let mut out = Contents::new(alloc, receiver);
     let name = NameRef::of_assignment(assignment);
-    gather_element(
-        alloc,
-        module,
-        assignment.body.root(),
-        &value.root(),
-        &name,
-        &mut out,
-    )?;
+    let walk = Walk { alloc, module };
+    gather_element(walk, assignment.body.root(), &value.root(), &name, &mut out)?;
     Ok(out)
 }
 

@@ -1,11 +1,19 @@
-//! The parts of a value that are present.
+//! What the walk over a value hands on, and the parts of a value that are present.
 ghost use Rattle.std.specs.Prelude.{◌≡◌};
 ghost use Rattle.asn_values.specs.Values as rule;
 ghost use Rattle.xer_write.specs.Private.Giving.{may_be_present};
 
-use asn_types::{Component, Role, TypeLabel};
+use asn_types::{Component, Module, Role, TypeLabel};
 use base_trees::Tree;
 use simple_types::ValueLabel;
+use std::alloc::Global;
+
+/// What the walk has at each value: the allocator, and the module of the types.
+#[derive(Clone, Copy)]
+pub(crate) struct Walk<'a> {
+    pub(crate) alloc: Global,
+    pub(crate) module: &'a Module,
+}
 
 /// The place of a child of a value: the part, its role, and its type.
 #[derive(Drop)]
@@ -13,6 +21,22 @@ pub(crate) struct Place<'a> {
     pub(crate) role: Role,
     pub(crate) part: &'a Component,
     pub(crate) node: &'a Tree<TypeLabel>,
+}
+
+/// A SEQUENCE with its components, and a flag for each that says whether it is present.
+#[derive(Clone, Copy)]
+pub(crate) struct Sequence<'a, 'p> {
+    pub(crate) node: &'a Tree<TypeLabel>,
+    pub(crate) parts: &'a [Component],
+    pub(crate) present: &'p [bool],
+}
+
+/// The component of a SEQUENCE OF, and the least and the greatest number of its items.
+#[derive(Clone, Copy)]
+pub(crate) struct ListForm<'a> {
+    pub(crate) part: &'a Component,
+    pub(crate) min: u32,
+    pub(crate) max: Option<u32>,
 }
 
 /// Returns whether the last part of a SEQUENCE is absent.

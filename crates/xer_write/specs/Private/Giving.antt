@@ -1,11 +1,12 @@
 -- What values give, as the code computes it.
-use Rattle.std.specs.Prelude.{ℕ, Bool, true, false, ◌&&◌, ◌||◌, length, List, [], ◌∷◌, Option, None, Some}
+use Rattle.std.specs.Prelude.{◌≡◌, ℕ, Bool, true, false, ◌&&◌, ◌||◌, length, List, [], ◌∷◌, Option, None, Some}
 use Rattle.base_trees.specs.Rose.{Rose, label_of, kids_of, roses_of}
 use Rattle.simple_types.specs.declared.labels.ValueLabel.{ValueLabel}
 use Rattle.asn_types.specs.declared.types.Component.{Component}
 use Rattle.asn_types.specs.declared.types.TypeLabel.{TypeLabel}
 use Rattle.asn_types.specs.declared.modules.Assignment.{Assignment}
 use Rattle.asn_types.specs.declared.roles.Role.TheVariants as role
+use Rattle.asn_types.specs.declared.types.Form.TheVariants as form
 use Rattle.asn_types.specs.Modules.{IsModule}
 use Rattle.asn_types.specs.Refs.{IsOf}
 use Rattle.asn_types.specs.Marks.{has_use_order}
@@ -16,6 +17,7 @@ use Rattle.xml_items.specs.Unplaced.{unplaced}
 use Rattle.xer_write.specs.declared.receiver.Receiver.{Receiver}
 use Rattle.xer_write.specs.declared.contents.Contents.{Contents}
 use Rattle.xer_write.specs.declared.presence.Place.{Place}
+use Rattle.xer_write.specs.declared.presence.Sequence.{Sequence}
 use Rattle.xer_write.specs.Private.Utf8.{ItemIsUtf8}
 use Rattle.xer_write.specs.Private.Receiving.{Tells}
 
@@ -35,6 +37,12 @@ element_at part t = record { role = role.Element; part = part; type = t }
 -- The type is a type of the module.
 abbrev pub IsTypeIn : List Assignment → Rose TypeLabel → Type 0
 IsTypeIn M t = IsModule M × IsOf M t
+
+-- The components are those of the SEQUENCE, which is a type of the module. Each that is absent is optional.
+pub record AreParts (M : List Assignment) (s : Sequence) : Type 0 where
+  pub node : IsTypeIn M s.node.now
+  pub form : (label_of s.node.now).form ≡ form.Sequence s.parts.now
+  pub present : may_be_present s.parts.now s.present.now ≡ true
 
 -- What a value gives with texts before, between and after the child elements.
 abbrev pub mixed_gives : List (List ℕ) → Given → Given

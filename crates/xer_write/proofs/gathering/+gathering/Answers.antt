@@ -37,13 +37,13 @@ use Rattle.xer_write.proofs.gathering.+gathering.Goals.{gather_present-then-pres
 
 pub gather-spelling-requires : goal.gather-spelling-requires
 gather-spelling-requires t c =
-    let m = c.args.module.now in
+    let m = c.args.walk.module.now in
     let h = found-in m c.args.node.now c.requires in
     subst (Allowed MayHave) (sym c.resolve-found.ensures) (allowed-of m h.0 (resolve m c.args.node.now) h.1)
 
 pub gather-gather_parts-requires : goal.gather-gather_parts-requires
 gather-gather_parts-requires t c =
-    let m = c.args.module.now in
+    let m = c.args.walk.module.now in
     let d = c.decreases in (
       omega (arith, d),
       (
@@ -54,7 +54,7 @@ gather-gather_parts-requires t c =
 
 pub gather-returns-in_ok-text : goal.gather-returns-in_ok-text
 gather-returns-in_ok-text t c =
-    let m = c.args.module.now in
+    let m = c.args.walk.module.now in
     let v = c.args.value.now in
     let textual : is_textual (label_of (resolve m c.args.node.now)) ≡ true =
     ap (λ x. is_textual (label_of x)) (sym c.resolve-found.ensures) ∙ ap is_textual (sym c.label.ensures) ∙ sym c.is_textual.ensures ∙ c.if-is_textual.true in
@@ -64,7 +64,7 @@ gather-returns-in_ok-text t c =
 
 pub gather-returns-else-is_textual : goal.gather-returns-else-is_textual
 gather-returns-else-is_textual t c =
-    let m = c.args.module.now in
+    let m = c.args.walk.module.now in
     let v = c.args.value.now in
     let textual : is_textual (label_of (resolve m c.args.node.now)) ≡ false =
     ap (λ x. is_textual (label_of x)) (sym c.resolve-found.ensures) ∙ ap is_textual (sym c.label.ensures) ∙ sym c.is_textual.ensures ∙ c.if-is_textual.false in
@@ -75,7 +75,7 @@ gather-returns-else-is_textual t c =
 
 pub gather_at-returns-in-Attribute : goal.gather_at-returns-in-Attribute
 gather_at-returns-in-Attribute t c =
-    let m = c.args.module.now in
+    let m = c.args.walk.module.now in
     let place = c.args.place.now in
     let v = c.args.value.now in
     let same = ap (λ r. place_gives m (record { role = r; part = place.part.now; type = place.node.now }) v) (sym c.in-Attribute.is) in
@@ -92,7 +92,7 @@ gather_at-gather-requires-in-Content t c = let d = c.decreases in (omega (arith,
 
 pub gather_at-returns-in-Element : goal.gather_at-returns-in-Element
 gather_at-returns-in-Element t c =
-    let m = c.args.module.now in
+    let m = c.args.walk.module.now in
     let p = place_seen c.args.place.now in
     let v = c.args.value.now in
     let same = at-element m p v c.in-Element.is (name_seen c.of_part-name.result) c.of_part-name.ensures in
@@ -100,24 +100,24 @@ gather_at-returns-in-Element t c =
 
 pub gather_at-returns-in-Group : goal.gather_at-returns-in-Group
 gather_at-returns-in-Group t c =
-    let same = at-group c.args.module.now (place_seen c.args.place.now) c.args.value.now c.in-Group.is in
+    let same = at-group c.args.walk.module.now (place_seen c.args.place.now) c.args.value.now c.in-Group.is in
     subst (λ g. OnOk c.gather.result (Gains c.args.out.now c.gather.new.out g)) same c.gather.ensures
 
 pub gather_at-returns-in-Content : goal.gather_at-returns-in-Content
 gather_at-returns-in-Content t c =
-    let same = at-content c.args.module.now (place_seen c.args.place.now) c.args.value.now c.in-Content.is in
+    let same = at-content c.args.walk.module.now (place_seen c.args.place.now) c.args.value.now c.in-Content.is in
     subst (λ g. OnOk c.gather-in-Content.result (Gains c.args.out.now c.gather-in-Content.new.out g)) same c.gather-in-Content.ensures
 
 pub gather_at-returns-in_default : goal.gather_at-returns-in_default
 gather_at-returns-in_default t c =
-    let same = at-other c.args.module.now (place_seen c.args.place.now) c.args.value.now c.in_default.not-Attribute c.in_default.not-Element c.in_default.not-Group c.in_default.not-Content in
+    let same = at-other c.args.walk.module.now (place_seen c.args.place.now) c.args.value.now c.in_default.not-Attribute c.in_default.not-Element c.in_default.not-Group c.in_default.not-Content in
     subst (Gains c.args.out.now c.args.out.now) same (gains-nothing c.args.out.now)
 
 -- ---- the items of a SEQUENCE OF
 
 pub gather_items-values-init : goal.gather_items-values-init
 gather_items-values-init t c =
-    let m = c.args.module.now in
+    let m = c.args.walk.module.now in
     let p = place_seen c.args.place.now in
     let o = c.args.out.now in
     let same : c.into_iter-value-iterator.result ≡ c.args.values.now = cc (c.into_iter-value-iterator.ensures.into_iter_gives, c.again-value-items.ensures) in
@@ -133,7 +133,7 @@ gather_items-gather_at-requires t c =
 
 pub gather_items-values-preserved : goal.gather_items-values-preserved
 gather_items-values-preserved t c =
-    let m = c.args.module.now in
+    let m = c.args.walk.module.now in
     let p = place_seen c.args.place.now in
     let v = c.in-Some.value in
     let later = c.next.new.self in
@@ -149,14 +149,14 @@ gather_items-values-preserved t c =
 pub gather_items-returns : goal.gather_items-returns
 gather_items-returns t c =
     let o = c.values.out in
-    c.values.invariant.gains o (subst (Gains o o) (sym (items-end c.args.module.now (place_seen c.args.place.now) c.values.value-iterator c.in-None.ensures.steps.0)) (gains-nothing o))
+    c.values.invariant.gains o (subst (Gains o o) (sym (items-end c.args.walk.module.now (place_seen c.args.place.now) c.values.value-iterator c.in-None.ensures.steps.0)) (gains-nothing o))
 
 pub gather_items-gather_elements-requires : goal.gather_items-gather_elements-requires
 gather_items-gather_elements-requires t c = let d = c.decreases in (omega (arith, d), c.requires)
 
 pub gather_items-returns-in-Element : goal.gather_items-returns-in-Element
 gather_items-returns-in-Element t c =
-    let m = c.args.module.now in
+    let m = c.args.walk.module.now in
     let place = c.args.place.now in
     let vs = c.args.values.now in
     let same = ap (λ r. gathered m (replicate (length vs) (record { role = r; part = place.part.now; type = place.node.now })) (roses_of vs)) (sym c.in-Element.is) in
@@ -166,7 +166,7 @@ gather_items-returns-in-Element t c =
 
 pub gather_elements-values-init : goal.gather_elements-values-init
 gather_elements-values-init t c =
-    let m = c.args.module.now in
+    let m = c.args.walk.module.now in
     let p = element_at c.args.part.now c.args.node.now in
     let o = c.args.out.now in
     let same : c.into_iter-value-iterator.result ≡ c.args.values.now = cc (c.into_iter-value-iterator.ensures.into_iter_gives, c.again-value-items.ensures) in
@@ -182,7 +182,7 @@ gather_elements-gather_element-requires t c =
 
 pub gather_elements-values-preserved : goal.gather_elements-values-preserved
 gather_elements-values-preserved t c =
-    let m = c.args.module.now in
+    let m = c.args.walk.module.now in
     let p = element_at c.args.part.now c.args.node.now in
     let v = c.in-Some.value in
     let later = c.next.new.self in
@@ -200,27 +200,27 @@ gather_elements-values-preserved t c =
 pub gather_elements-returns : goal.gather_elements-returns
 gather_elements-returns t c =
     let o = c.values.out in
-    c.values.invariant.gains o (subst (Gains o o) (sym (items-end c.args.module.now (element_at c.args.part.now c.args.node.now) c.values.value-iterator c.in-None.ensures.steps.0)) (gains-nothing o))
+    c.values.invariant.gains o (subst (Gains o o) (sym (items-end c.args.walk.module.now (element_at c.args.part.now c.args.node.now) c.values.value-iterator c.in-None.ensures.steps.0)) (gains-nothing o))
 
 -- ---- CHOICE
 
 pub gather_choice-returns-in_default : goal.gather_choice-returns-in_default
 gather_choice-returns-in_default t c =
     let o = c.args.out.now in
-    let same = choice-other c.args.module.now c.args.node.now c.args.value.now c.args.parts.now c.requires.form (λ i e. c.in_default.not-Choice i (c.label.ensures ∙ e)) in
+    let same = choice-other c.args.walk.module.now c.args.node.now c.args.value.now c.args.parts.now c.requires.form (λ i e. c.in_default.not-Choice i (c.label.ensures ∙ e)) in
     subst (Gains o o) (sym same) (gains-nothing o)
 
 pub gather_choice-returns-in_default-get : goal.gather_choice-returns-in_default-get
 gather_choice-returns-in_default-get t c =
     let o = c.args.out.now in
-    let same = choice-missed c.args.module.now c.args.node.now c.args.value.now c.args.parts.now c.in-Choice.i c.requires.form (sym c.label.ensures ∙ c.in-Choice.is)
+    let same = choice-missed c.args.walk.module.now c.args.node.now c.args.value.now c.args.parts.now c.in-Choice.i c.requires.form (sym c.label.ensures ∙ c.in-Choice.is)
     (missed_at c.args.parts.now c.in-Choice.i c.in_default-get.ensures.lookup.0) in
     subst (Gains o o) (sym same) (gains-nothing o)
 
 pub gather_choice-returns-in_default-next : goal.gather_choice-returns-in_default-next
 gather_choice-returns-in_default-next t c =
     let o = c.args.out.now in
-    let same = choice-empty c.args.module.now c.args.node.now c.args.value.now c.args.parts.now c.in-Choice.i c.requires.form (sym c.label.ensures ∙ c.in-Choice.is)
+    let same = choice-empty c.args.walk.module.now c.args.node.now c.args.value.now c.args.parts.now c.in-Choice.i c.requires.form (sym c.label.ensures ∙ c.in-Choice.is)
     (sym (ap (λ ks. slice_get ks 0) (sym c.kids.ensures ∙ c.in_default-next.ensures.steps.0))) in
     subst (Gains o o) (sym same) (gains-nothing o)
 
@@ -233,14 +233,14 @@ gather_choice-role-requires t c =
 pub gather_choice-kid-requires : goal.gather_choice-kid-requires
 gather_choice-kid-requires t c =
     let within = ltb-true c.in-Choice.i (length c.args.parts.now) (sym c.in-Some.ensures.lookup.0) in
-    let e = have-kids c.args.module.now c.args.node.now c.requires.node ∙ ap (λ f. length (parts_of f)) c.requires.form in
+    let e = have-kids c.args.walk.module.now c.args.node.now c.requires.node ∙ ap (λ f. length (parts_of f)) c.requires.form in
     omega (arith, within, e)
 
 pub gather_choice-gather_at-requires : goal.gather_choice-gather_at-requires
 gather_choice-gather_at-requires t c =
     let d = c.decreases in
     let k = kid-count (kids_of c.args.value.now) 0 c.in-Some-next.chosen (ap (λ ks. slice_get ks 0) (sym c.kids.ensures ∙ c.in-Some-next.ensures.steps)) in
-    (omega (arith, d, k), kid-in c.args.module.now c.args.node.now c.in-Choice.i c.kid.result.now c.kid.ensures c.requires.node)
+    (omega (arith, d, k), kid-in c.args.walk.module.now c.args.node.now c.in-Choice.i c.kid.result.now c.kid.ensures c.requires.node)
 
 pub gather_choice-returns : goal.gather_choice-returns
 gather_choice-returns t c =
@@ -248,7 +248,7 @@ gather_choice-returns t c =
     let i = c.in-Choice.i in
     let part = c.in-Some.part.now in
     let found = found_at parts i part c.in-Some.ensures.lookup.0 c.in-Some.ensures.lookup.1 in
-    let same = choice-made c.args.module.now c.args.node.now c.args.value.now parts i c.role.result part c.kid.result.now c.in-Some-next.chosen c.requires.form (sym c.label.ensures ∙ c.in-Choice.is) found c.kid.ensures
+    let same = choice-made c.args.walk.module.now c.args.node.now c.args.value.now parts i c.role.result part c.kid.result.now c.in-Some-next.chosen c.requires.form (sym c.label.ensures ∙ c.in-Choice.is) found c.kid.ensures
     (sym (ap (λ ks. slice_get ks 0) (sym c.kids.ensures ∙ c.in-Some-next.ensures.steps)))
     (role-is (label_of c.args.node.now) c.label-2.result.now c.role.result parts i part c.label-2.ensures (ap parts_of c.requires.form) found c.role.ensures) in
     subst (λ g. OnOk c.gather_at.result (Gains c.args.out.now c.gather_at.new.out g)) same c.gather_at.ensures
@@ -276,22 +276,22 @@ gather_kids-gather_sequence_of-requires t c =
 pub gather_kids-returns-in_default : goal.gather_kids-returns-in_default
 gather_kids-returns-in_default t c =
     let o = c.args.out.now in
-    let same = reference-other c.args.module.now c.args.node.now c.args.value.now c.requires.parts
+    let same = reference-other c.args.walk.module.now c.args.node.now c.args.value.now c.requires.parts
     (λ parts e. c.in_default.not-Sequence parts (ap (λ l. l.form) c.label.ensures ∙ e))
     (λ parts e. c.in_default.not-Choice parts (ap (λ l. l.form) c.label.ensures ∙ e))
     (λ part least most e. c.in_default.not-SequenceOf part least most (ap (λ l. l.form) c.label.ensures ∙ e)) in
-    subst (Gains o o) (sym (order-nothing c.args.module.now c.args.node.now c.args.value.now same)) (gains-nothing o)
+    subst (Gains o o) (sym (order-nothing c.args.walk.module.now c.args.node.now c.args.value.now same)) (gains-nothing o)
 
 pub gather_kids-returns-in-Choice : goal.gather_kids-returns-in-Choice
 gather_kids-returns-in-Choice t c =
-    let m = c.args.module.now in
+    let m = c.args.walk.module.now in
     let u = c.args.node.now in
     let other = no-order m u c.requires.node (λ is. subst IsSequence (ap (λ l. l.form) (sym c.label.ensures) ∙ c.in-Choice.is) is) in
     subst (λ g. OnOk c.gather_choice.result (Gains c.args.out.now c.gather_choice.new.out g)) (sym (order-absent m u c.args.value.now other)) c.gather_choice.ensures
 
 pub gather_kids-returns-in-SequenceOf : goal.gather_kids-returns-in-SequenceOf
 gather_kids-returns-in-SequenceOf t c =
-    let m = c.args.module.now in
+    let m = c.args.walk.module.now in
     let u = c.args.node.now in
     let other = no-order m u c.requires.node (λ is. subst IsSequence (ap (λ l. l.form) (sym c.label.ensures) ∙ c.in-SequenceOf.is) is) in
     subst (λ g. OnOk c.gather_sequence_of.result (Gains c.args.out.now c.gather_sequence_of.new.out g)) (sym (order-absent m u c.args.value.now other)) c.gather_sequence_of.ensures
@@ -303,7 +303,7 @@ gather_parts-gather_mixed-requires t c = let d = c.decreases in (omega (arith, d
 
 pub gather_parts-returns-in-Some : goal.gather_parts-returns-in-Some
 gather_parts-returns-in-Some t c =
-    let m = c.args.module.now in
+    let m = c.args.walk.module.now in
     let u = c.args.node.now in
     let v = c.args.value.now in
     let g = ordered_give m u v in
@@ -319,7 +319,7 @@ gather_parts-returns-in-Some t c =
 
 pub gather_parts-returns-in-None : goal.gather_parts-returns-in-None
 gather_parts-returns-in-None t c =
-    let m = c.args.module.now in
+    let m = c.args.walk.module.now in
     let u = c.args.node.now in
     let v = c.args.value.now in
     let g = ordered_give m u v in
@@ -335,7 +335,7 @@ gather_parts-returns-in-None t c =
 
 pub gather_parts-returns-else-has_embed_values : goal.gather_parts-returns-else-has_embed_values
 gather_parts-returns-else-has_embed_values t c =
-    let m = c.args.module.now in
+    let m = c.args.walk.module.now in
     let u = c.args.node.now in
     let v = c.args.value.now in
     let g = ordered_give m u v in
@@ -355,7 +355,7 @@ gather_mixed-gather_kids-requires t c = let d = c.decreases in (omega (arith, d)
 
 pub gather_mixed-returns : goal.gather_mixed-returns
 gather_mixed-returns t c =
-    let g = ordered_give c.args.module.now c.args.node.now c.args.value.now in
+    let g = ordered_give c.args.walk.module.now c.args.node.now c.args.value.now in
     let begun = c.in_ok-begin_mixed.ensures in
     on_ok c.end_mixed.result _ _
     (λ ends. mixed-gained c.args.out.now c.begin_mixed.new.self c.gather_kids.new.out c.end_mixed.new.self c.args.texts g begun.receiver begun.texts c.in_ok-gather_kids.ensures ends)
@@ -366,12 +366,12 @@ gather_apart-gather_parts-requires t c = let d = c.decreases in (omega (arith, d
 
 pub gather_apart-end_element-requires : goal.gather_apart-end_element-requires
 gather_apart-end_element-requires t c =
-    let g = type_gives c.args.module.now c.args.node.now c.args.value.now in
+    let g = type_gives c.args.walk.module.now c.args.node.now c.args.value.now in
     element-open c.args.out.now c.begin_element.new.self c.gather_parts.new.out c.in_ok-outer.outer (name_seen c.args.name.now) g c.in_ok-outer.ensures c.in_ok-gather_parts.ensures
 
 pub gather_apart-returns : goal.gather_apart-returns
 gather_apart-returns t c =
-    let g = type_gives c.args.module.now c.args.node.now c.args.value.now in
+    let g = type_gives c.args.walk.module.now c.args.node.now c.args.value.now in
     on_ok-two c.end_element.result _ _ _
     (λ closes texts.
     element-gained c.args.out.now c.begin_element.new.self c.gather_parts.new.out c.end_element.new.self c.in_ok-outer.outer (name_seen c.args.name.now) g c.in_ok-outer.ensures c.in_ok-gather_parts.ensures closes texts)
@@ -389,7 +389,7 @@ gather_complex-gather_parts-requires t c = let d = c.decreases in (omega (arith,
 pub gather_complex-end_plain-requires : goal.gather_complex-end_plain-requires
 gather_complex-end_plain-requires t c =
     let old = c.args.out.now in
-    let g = type_gives c.args.module.now c.args.node.now c.args.value.now in
+    let g = type_gives c.args.walk.module.now c.args.node.now c.args.value.now in
     element-open old c.begin_plain.new.self c.gather_parts.new.out (outer_of old c.in_ok-tag.tag) (name_seen c.args.name.now) g c.in_ok-tag.ensures c.in_ok-gather_parts.ensures
 
 pub gather_complex-returns : goal.gather_complex-returns
@@ -397,7 +397,7 @@ gather_complex-returns t c =
     let old = c.args.out.now in
     let begun = c.begin_plain.new.self in
     let mid = c.gather_parts.new.out in
-    let g = type_gives c.args.module.now c.args.node.now c.args.value.now in
+    let g = type_gives c.args.walk.module.now c.args.node.now c.args.value.now in
     let outer = outer_of old c.in_ok-tag.tag in
     let plain = plain-is c.is_plain.result c.args.out.now c.is_plain.ensures c.if-not-is_plain.false in
     let left = none-left begun mid g c.in_ok-tag.ensures.texts c.in_ok-gather_parts.ensures in
@@ -408,13 +408,13 @@ gather_complex-returns t c =
 
 pub gather_element-add_leaf_element-requires : goal.gather_element-add_leaf_element-requires
 gather_element-add_leaf_element-requires t c =
-    let m = c.args.module.now in
+    let m = c.args.walk.module.now in
     let h = found-in m c.args.node.now c.requires in
     subst (Allowed MayHave) (sym c.resolve-found.ensures) (allowed-of m h.0 (resolve m c.args.node.now) h.1)
 
 pub gather_element-returns-then-is_textual : goal.gather_element-returns-then-is_textual
 gather_element-returns-then-is_textual t c =
-    let m = c.args.module.now in
+    let m = c.args.walk.module.now in
     let v = c.args.value.now in
     let name = name_seen c.args.name.now in
     let textual : is_textual (label_of (resolve m c.args.node.now)) ≡ true =
@@ -425,7 +425,7 @@ gather_element-returns-then-is_textual t c =
 
 pub gather_element-gather_complex-requires : goal.gather_element-gather_complex-requires
 gather_element-gather_complex-requires t c =
-    let m = c.args.module.now in
+    let m = c.args.walk.module.now in
     let d = c.decreases in (
       omega (arith, d),
       (
@@ -436,7 +436,7 @@ gather_element-gather_complex-requires t c =
 
 pub gather_element-returns-else-is_textual : goal.gather_element-returns-else-is_textual
 gather_element-returns-else-is_textual t c =
-    let m = c.args.module.now in
+    let m = c.args.walk.module.now in
     let v = c.args.value.now in
     let textual : is_textual (label_of (resolve m c.args.node.now)) ≡ false =
     ap (λ x. is_textual (label_of x)) (sym c.resolve-found.ensures) ∙ ap is_textual (sym c.label.ensures) ∙ sym c.is_textual.ensures ∙ c.if-is_textual.false in
@@ -446,13 +446,13 @@ gather_element-returns-else-is_textual t c =
 -- ---- SEQUENCE
 
 pub gather_present-bounds-present-i : goal.gather_present-bounds-present-i
-gather_present-bounds-present-i t c = let l = fit-length c.args.parts.now c.args.present.now c.requires.present in omega (arith, c.parts-test.true, l)
+gather_present-bounds-present-i t c = let l = fit-length c.args.sequence.now.parts.now c.args.sequence.now.present.now c.requires.present in omega (arith, c.parts-test.true, l)
 
 pub gather_present-returns-in_default : goal.gather_present-returns-in_default
 gather_present-returns-in_default t c =
-    let m = c.args.module.now in
+    let m = c.args.walk.module.now in
     let o = c.parts.out in
-    let found = found_from (label_of c.args.node.now) c.args.parts.now (kids_of c.args.node.now) c.args.present.now c.parts.i in
+    let found = found_from (label_of c.args.sequence.now.node.now) c.args.sequence.now.parts.now (kids_of c.args.sequence.now.node.now) c.args.sequence.now.present.now c.parts.i in
     let none_left : places_give m found c.parts.left ≡ nothing = give-short m found c.parts.left c.in_default.ensures.steps.0 in
     c.parts.invariant.gains o (subst (Gains o o) (sym none_left) (gains-nothing o))
 
@@ -463,7 +463,7 @@ gather_present-role_of-requires t c =
 
 pub gather_present-kid-requires : goal.gather_present-kid-requires
 gather_present-kid-requires t c =
-    let e = have-kids c.args.module.now c.args.node.now c.requires.node ∙ ap (λ f. length (parts_of f)) c.requires.form in
+    let e = have-kids c.args.walk.module.now c.args.sequence.now.node.now c.requires.node ∙ ap (λ f. length (parts_of f)) c.requires.form in
     omega (arith, c.parts-test.true, e)
 
 pub gather_present-gather_at-requires : goal.gather_present-gather_at-requires
@@ -471,16 +471,16 @@ gather_present-gather_at-requires t c =
     let d = c.decreases in
     let e = ap (λ vs. count_all (roses_of vs)) c.in-Some.ensures.steps in
     let small = c.parts.invariant.small in
-    (omega (arith, d, e, small), kid-in c.args.module.now c.args.node.now c.parts.i c.kid.result.now c.kid.ensures c.requires.node)
+    (omega (arith, d, e, small), kid-in c.args.walk.module.now c.args.sequence.now.node.now c.parts.i c.kid.result.now c.kid.ensures c.requires.node)
 
 pub gather_present-parts-preserved : goal.gather_present-parts-preserved
 gather_present-parts-preserved t c =
-    let m = c.args.module.now in
-    let u = c.args.node.now in
+    let m = c.args.walk.module.now in
+    let u = c.args.sequence.now.node.now in
     let l = label_of u in
     let ts = kids_of u in
-    let parts = c.args.parts.now in
-    let flags = c.args.present.now in
+    let parts = c.args.sequence.now.parts.now in
+    let flags = c.args.sequence.now.present.now in
     let i = c.parts.i in
     let so_far = c.parts.invariant in
     let same : length ts ≡ length parts = have-kids m u c.requires.node ∙ ap (λ f. length (parts_of f)) c.requires.form in
@@ -534,21 +534,21 @@ gather_present-parts-preserved t c =
 
 pub gather_present-returns : goal.gather_present-returns
 gather_present-returns t c =
-    let m = c.args.module.now in
-    let u = c.args.node.now in
+    let m = c.args.walk.module.now in
+    let u = c.args.sequence.now.node.now in
     let o = c.parts.out in
-    let same : length (kids_of u) ≡ length c.args.parts.now = have-kids m u c.requires.node ∙ ap (λ f. length (parts_of f)) c.requires.form in
-    let end = give-end m (label_of u) c.args.parts.now (kids_of u) c.args.present.now same c.parts.i c.parts-test.false c.requires.present c.parts.left in
+    let same : length (kids_of u) ≡ length c.args.sequence.now.parts.now = have-kids m u c.requires.node ∙ ap (λ f. length (parts_of f)) c.requires.form in
+    let end = give-end m (label_of u) c.args.sequence.now.parts.now (kids_of u) c.args.sequence.now.present.now same c.parts.i c.parts-test.false c.requires.present c.parts.left in
     c.parts.invariant.gains o (subst (Gains o o) (sym end) (gains-nothing o))
 
 pub gather_sequence-gather_present-requires : goal.gather_sequence-gather_present-requires
 gather_sequence-gather_present-requires t c =
     let d = c.decreases in
-    (rw c.kids.ensures (omega (arith, d)), (c.requires.node, (c.requires.form, sym c.may_be_present.ensures ∙ c.if-not-may_be_present.false)))
+    (rw c.kids.ensures (omega (arith, d)), record { node = c.requires.node; form = c.requires.form; present = sym c.may_be_present.ensures ∙ c.if-not-may_be_present.false })
 
 pub gather_sequence-returns-else-has_use_order : goal.gather_sequence-returns-else-has_use_order
 gather_sequence-returns-else-has_use_order t c =
-    let m = c.args.module.now in
+    let m = c.args.walk.module.now in
     let u = c.args.node.now in
     let v = c.args.value.now in
     let parts = c.args.parts.now in
@@ -560,7 +560,7 @@ gather_sequence-returns-else-has_use_order t c =
 
 pub gather_sequence-returns-then-not-may_be_present : goal.gather_sequence-returns-then-not-may_be_present
 gather_sequence-returns-then-not-may_be_present t c =
-    let m = c.args.module.now in
+    let m = c.args.walk.module.now in
     let u = c.args.node.now in
     let v = c.args.value.now in
     let o = c.args.out.now in
@@ -575,15 +575,15 @@ gather_sequence-returns-then-not-may_be_present t c =
 pub gather_sequence-returns-in_default : goal.gather_sequence-returns-in_default
 gather_sequence-returns-in_default t c =
     let o = c.args.out.now in
-    let same = sequence-other c.args.module.now c.args.node.now c.args.value.now c.args.parts.now c.requires.form (λ present e. c.in_default.not-Sequence present (c.label.ensures ∙ e)) in
-    subst (Gains o o) (sym (order-nothing c.args.module.now c.args.node.now c.args.value.now same)) (gains-nothing o)
+    let same = sequence-other c.args.walk.module.now c.args.node.now c.args.value.now c.args.parts.now c.requires.form (λ present e. c.in_default.not-Sequence present (c.label.ensures ∙ e)) in
+    subst (Gains o o) (sym (order-nothing c.args.walk.module.now c.args.node.now c.args.value.now same)) (gains-nothing o)
 
 -- ---- SEQUENCE OF
 
 pub gather_sequence_of-returns-in_default : goal.gather_sequence_of-returns-in_default
 gather_sequence_of-returns-in_default t c =
     let o = c.args.out.now in
-    let same = items-other c.args.module.now c.args.node.now c.args.value.now c.args.part.now c.args.min c.args.max c.requires.form (λ e. c.in_default.not-SequenceOf (c.label.ensures ∙ e)) in
+    let same = items-other c.args.walk.module.now c.args.node.now c.args.value.now c.args.list.part.now c.args.list.min c.args.list.max c.requires.form (λ e. c.in_default.not-SequenceOf (c.label.ensures ∙ e)) in
     subst (Gains o o) (sym same) (gains-nothing o)
 
 pub gather_sequence_of-returns-then-count-min : goal.gather_sequence_of-returns-then-count-min
@@ -591,15 +591,15 @@ gather_sequence_of-returns-then-count-min t c =
     let o = c.args.out.now in
     let v = c.args.value.now in
     let long = c.len-count.ensures ∙ ap length c.kids-values.ensures in
-    let test : (nat_le c.args.min (length (kids_of v)) && is_at_most (length (kids_of v)) c.args.max) ≡ false =
+    let test : (nat_le c.args.list.min (length (kids_of v)) && is_at_most (length (kids_of v)) c.args.list.max) ≡ false =
     elim c.then-count-min.branch [
       | gather_sequence_of-then-count-min-via-then-count-min w ↦
-          too-few c.args.min (length (kids_of v)) (is_at_most (length (kids_of v)) c.args.max) (let few = w.if-count-min.true in omega (arith, few, long))
+          too-few c.args.list.min (length (kids_of v)) (is_at_most (length (kids_of v)) c.args.list.max) (let few = w.if-count-min.true in omega (arith, few, long))
       | gather_sequence_of-then-count-min-via-else-count-min+then-not-is_at_most w ↦
-          too-many (nat_le c.args.min (length (kids_of v))) (is_at_most (length (kids_of v)) c.args.max)
-          (ap (λ n. is_at_most n c.args.max) (sym long) ∙ sym w.is_at_most.ensures ∙ w.if-not-is_at_most.true)
+          too-many (nat_le c.args.list.min (length (kids_of v))) (is_at_most (length (kids_of v)) c.args.list.max)
+          (ap (λ n. is_at_most n c.args.list.max) (sym long) ∙ sym w.is_at_most.ensures ∙ w.if-not-is_at_most.true)
     ] in
-    let same = items-missed c.args.module.now c.args.node.now v c.args.part.now c.args.min c.args.max c.requires.form (sym c.label.ensures ∙ c.in-SequenceOf.is) test in
+    let same = items-missed c.args.walk.module.now c.args.node.now v c.args.list.part.now c.args.list.min c.args.list.max c.requires.form (sym c.label.ensures ∙ c.in-SequenceOf.is) test in
     subst (Gains o o) (sym same) (gains-nothing o)
 
 pub gather_sequence_of-role-requires : goal.gather_sequence_of-role-requires
@@ -609,25 +609,25 @@ gather_sequence_of-role-requires t c =
 
 pub gather_sequence_of-kid-requires : goal.gather_sequence_of-kid-requires
 gather_sequence_of-kid-requires t c =
-    let e = have-kids c.args.module.now c.args.node.now c.requires.node ∙ ap (λ f. length (parts_of f)) c.requires.form in
+    let e = have-kids c.args.walk.module.now c.args.node.now c.requires.node ∙ ap (λ f. length (parts_of f)) c.requires.form in
     omega (arith, e)
 
 pub gather_sequence_of-gather_items-requires : goal.gather_sequence_of-gather_items-requires
 gather_sequence_of-gather_items-requires t c =
     let d = c.decreases in
-    (rw c.kids-values.ensures (omega (arith, d)), kid-in c.args.module.now c.args.node.now 0 c.kid.result.now c.kid.ensures c.requires.node)
+    (rw c.kids-values.ensures (omega (arith, d)), kid-in c.args.walk.module.now c.args.node.now 0 c.kid.result.now c.kid.ensures c.requires.node)
 
 pub gather_sequence_of-returns : goal.gather_sequence_of-returns
 gather_sequence_of-returns t c =
-    let m = c.args.module.now in
+    let m = c.args.walk.module.now in
     let u = c.args.node.now in
     let v = c.args.value.now in
-    let part = c.args.part.now in
-    let low : c.args.min ≤ length (kids_of v) = let enough = c.if-count-min.false in let long = c.len-count.ensures ∙ ap length c.kids-values.ensures in omega (arith, enough, long) in
-    let high : is_at_most (length (kids_of v)) c.args.max ≡ true = ap (λ n. is_at_most n c.args.max) (sym (c.len-count.ensures ∙ ap length c.kids-values.ensures)) ∙ sym c.is_at_most.ensures ∙ c.if-not-is_at_most.false in
+    let part = c.args.list.part.now in
+    let low : c.args.list.min ≤ length (kids_of v) = let enough = c.if-count-min.false in let long = c.len-count.ensures ∙ ap length c.kids-values.ensures in omega (arith, enough, long) in
+    let high : is_at_most (length (kids_of v)) c.args.list.max ≡ true = ap (λ n. is_at_most n c.args.list.max) (sym (c.len-count.ensures ∙ ap length c.kids-values.ensures)) ∙ sym c.is_at_most.ensures ∙ c.if-not-is_at_most.false in
     let role = role-is (label_of u) c.label-2.result.now c.role.result (part ∷ []) 0 part c.label-2.ensures (ap parts_of c.requires.form) refl c.role.ensures in
     let same = ap (λ ks. gathered m (replicate (length ks) (record { role = c.role.result; part = part; type = c.kid.result.now })) (roses_of ks)) c.kids-values.ensures
-    ∙ items-made m u v part c.args.min c.args.max c.role.result c.kid.result.now c.requires.form (sym c.label.ensures ∙ c.in-SequenceOf.is) c.kid.ensures low high role in
+    ∙ items-made m u v part c.args.list.min c.args.list.max c.role.result c.kid.result.now c.requires.form (sym c.label.ensures ∙ c.in-SequenceOf.is) c.kid.ensures low high role in
     subst (λ g. OnOk c.gather_items.result (Gains c.args.out.now c.gather_items.new.out g)) same c.gather_items.ensures
 
 -- ---- child elements in an order
@@ -643,7 +643,7 @@ gather_children-returns-in_default t c =
 
 pub gather_children-gather_element-requires : goal.gather_children-gather_element-requires
 gather_children-gather_element-requires t c =
-    let m = c.args.module.now in
+    let m = c.args.walk.module.now in
     let children = c.args.children.now in
     let i = get_or c.args.order.now c.order.i-index 0 in
     let child = c.in-Some.child.now in
@@ -656,7 +656,7 @@ gather_children-gather_element-requires t c =
 
 pub gather_children-order-preserved : goal.gather_children-order-preserved
 gather_children-order-preserved t c =
-    let m = c.args.module.now in
+    let m = c.args.walk.module.now in
     let children = c.args.children.now in
     let order = c.args.order.now in
     let k = c.order.i-index in
@@ -673,7 +673,7 @@ gather_children-order-preserved t c =
 
 pub gather_children-returns : goal.gather_children-returns
 gather_children-returns t c =
-    let m = c.args.module.now in
+    let m = c.args.walk.module.now in
     let o = c.order.out in
     let order = c.args.order.now in
     let k = c.order.i-index in λ cs e.
@@ -682,21 +682,21 @@ gather_children-returns t c =
     c.order.invariant cs e o (subst (λ xs. Gains o o (given [] (elements_of m xs))) (sym none_left) (gains-nothing o))
 
 pub gather_ordered-keep_present-requires-clause-plain : goal.gather_ordered-keep_present-requires-clause-plain
-gather_ordered-keep_present-requires-clause-plain t c = order-parts c.args.module.now c.args.node.now c.requires.node c.requires.order
+gather_ordered-keep_present-requires-clause-plain t c = order-parts c.args.walk.module.now c.args.sequence.now.node.now c.requires.parts.node c.requires.order
 
 pub gather_ordered-order_numbers-requires-clause-types : goal.gather_ordered-order_numbers-requires-clause-types
-gather_ordered-order_numbers-requires-clause-types t c = have-kids c.args.module.now c.args.node.now c.requires.node ∙ ap (λ f. length (parts_of f)) c.requires.form
+gather_ordered-order_numbers-requires-clause-types t c = have-kids c.args.walk.module.now c.args.sequence.now.node.now c.requires.parts.node ∙ ap (λ f. length (parts_of f)) c.requires.parts.form
 
 pub gather_ordered-ordered_flags-requires : goal.gather_ordered-ordered_flags-requires
-gather_ordered-ordered_flags-requires t c = order-part c.args.module.now c.args.node.now c.requires.node c.requires.order
+gather_ordered-ordered_flags-requires t c = order-part c.args.walk.module.now c.args.sequence.now.node.now c.requires.parts.node c.requires.order
 
 pub gather_ordered-returns : goal.gather_ordered-returns
 gather_ordered-returns t c =
-    let m = c.args.module.now in
-    let u = c.args.node.now in
+    let m = c.args.walk.module.now in
+    let u = c.args.sequence.now.node.now in
     let v = c.args.value.now in
-    let parts = c.args.parts.now in
-    let present = c.args.present.now in
+    let parts = c.args.sequence.now.parts.now in
+    let present = c.args.sequence.now.present.now in
     let n = count_all (roses_of c.kids-values.result) in
     let A = c.args.out.now in
     let B = c.keep_present.new.out in
@@ -705,7 +705,7 @@ gather_ordered-returns t c =
     let cs = children_seen children in
     let flags = ordered_flags m (label_of u) u v in
     let numbers = order_of u v in
-    let gives = ap (places_give m (present_from (label_of u) 0 parts (kids_of u) present)) c.kids-values.ensures ∙ sym (sequence-give m u v parts present c.requires.form c.requires.value) in
+    let gives = ap (places_give m (present_from (label_of u) 0 parts (kids_of u) present)) c.kids-values.ensures ∙ sym (sequence-give m u v parts present c.requires.parts.form c.requires.value) in
     let kept : Keeps m n A B [] cs (parts_give m u v) =
     subst (Keeps m n A B [] cs) gives (subst (λ xs. Keeps m n A B (children_seen xs) cs (places_give m (present_from (label_of u) 0 parts (kids_of u) present) c.kids-values.result)) c.new-children.ensures.items c.in_ok-keep_present.ensures) in
     let children_are = ap length c.deref-3.ensures.value in

@@ -62,24 +62,24 @@ decreases-gather_mixed l = 10 * node_count l.value.now + 1
 abbrev pub invariant-gather_items-values : goal.invariant-gather_items-values
 invariant-gather_items-values l = record {
   small : count_all (roses_of l.value-iterator) ≤ count_all (roses_of l.values);
-  gains : (new : Contents) → Gains l.out new (items_give l.«module» (place_seen l.place) l.value-iterator) → Gains l.initial.out new (items_give l.«module» (place_seen l.place) l.values);
+  gains : (new : Contents) → Gains l.out new (items_give l.walk.module.now (place_seen l.place) l.value-iterator) → Gains l.initial.out new (items_give l.walk.module.now (place_seen l.place) l.values);
 }
 
 abbrev pub invariant-gather_elements-values : goal.invariant-gather_elements-values
 invariant-gather_elements-values l = record {
   small : count_all (roses_of l.value-iterator) ≤ count_all (roses_of l.values);
-  gains : (new : Contents) → Gains l.out new (items_give l.«module» (element_at l.part l.node) l.value-iterator) → Gains l.initial.out new (items_give l.«module» (element_at l.part l.node) l.values);
+  gains : (new : Contents) → Gains l.out new (items_give l.walk.module.now (element_at l.part l.node) l.value-iterator) → Gains l.initial.out new (items_give l.walk.module.now (element_at l.part l.node) l.values);
 }
 
 abbrev pub invariant-gather_present-parts : goal.invariant-gather_present-parts
 invariant-gather_present-parts l = record {
-  fit : fit_from l.parts l.present l.i ≡ true;
+  fit : fit_from l.sequence.parts.now l.sequence.present.now l.i ≡ true;
   small : count_all (roses_of l.left) ≤ count_all (roses_of l.values);
-  gains : (new : Contents) → Gains l.out new (places_give l.«module» (found_from (label_of l.node) l.parts (kids_of l.node) l.present l.i) l.left)
-      → Gains l.initial.out new (places_give l.«module» (found_from (label_of l.node) l.parts (kids_of l.node) l.present 0) l.values);
+  gains : (new : Contents) → Gains l.out new (places_give l.walk.module.now (found_from (label_of l.sequence.node.now) l.sequence.parts.now (kids_of l.sequence.node.now) l.sequence.present.now l.i) l.left)
+      → Gains l.initial.out new (places_give l.walk.module.now (found_from (label_of l.sequence.node.now) l.sequence.parts.now (kids_of l.sequence.node.now) l.sequence.present.now 0) l.values);
 }
 
 abbrev pub invariant-gather_children-order : goal.invariant-gather_children-order
 invariant-gather_children-order l =
-    (cs : List Child) → map (slice_get (children_seen l.children)) l.order ≡ map Some cs → (new : Contents) → Gains l.out new (given [] (elements_of l.«module» (drop l.i-index cs)))
-    → Gains l.initial.out new (given [] (elements_of l.«module» cs))
+    (cs : List Child) → map (slice_get (children_seen l.children)) l.order ≡ map Some cs → (new : Contents) → Gains l.out new (given [] (elements_of l.walk.module.now (drop l.i-index cs)))
+    → Gains l.initial.out new (given [] (elements_of l.walk.module.now cs))

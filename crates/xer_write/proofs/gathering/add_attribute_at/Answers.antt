@@ -13,14 +13,14 @@ use Rattle.xer_write.proofs.gathering.add_attribute_at.Goals as goal
 
 pub spelling-requires : goal.spelling-requires
 spelling-requires c =
-    let m = c.args.module.now in
+    let m = c.args.walk.module.now in
     let u = c.args.node.now in
     let h = found-in m u c.requires in
     subst (Allowed MayHave) (sym c.resolve.ensures) (allowed-of m h.0 (resolve m u) h.1)
 
 pub returns : goal.returns
 returns c =
-    let m = c.args.module.now in
+    let m = c.args.walk.module.now in
     let p : ComponentPlace = record { role = role.Attribute; part = c.args.part.now; type = c.args.node.now } in
     let v = c.args.value.now in
     let text = c.in_ok-text.ensures ∙ ap (λ x. spelled (space_at x) v) c.resolve.ensures in

@@ -27,14 +27,14 @@ use Rattle.xer_write.proofs.keeping.+keeping.Goals.{keep_present-then-present-i+
 
 pub keep_at-spelling-requires : goal.keep_at-spelling-requires
 keep_at-spelling-requires t c =
-    let m = c.args.module.now in
+    let m = c.args.walk.module.now in
     let u = c.args.place.now.node.now in
     let h = found-in m u c.requires.node in
     subst (Allowed MayHave) (sym c.resolve.ensures) (allowed-of m h.0 (resolve m u) h.1)
 
 pub keep_at-returns-in_ok-text-in-Attribute : goal.keep_at-returns-in_ok-text-in-Attribute
 keep_at-returns-in_ok-text-in-Attribute t c =
-    let m = c.args.module.now in
+    let m = c.args.walk.module.now in
     let p = place_seen c.args.place.now in
     let v = c.args.value.now in
     let cs = children_seen c.args.children.now.items in
@@ -47,7 +47,7 @@ keep_at-returns-in_ok-text-in-Attribute t c =
 
 pub keep_at-returns-in_ok-push-in-Element : goal.keep_at-returns-in_ok-push-in-Element
 keep_at-returns-in_ok-push-in-Element t c =
-    let m = c.args.module.now in
+    let m = c.args.walk.module.now in
     let p = place_seen c.args.place.now in
     let v = c.args.value.now in
     let o = c.args.out.now in
@@ -62,7 +62,7 @@ keep_at-returns-in_ok-push-in-Element t c =
 
 pub keep_at-returns-in_default : goal.keep_at-returns-in_default
 keep_at-returns-in_default t c =
-    let m = c.args.module.now in
+    let m = c.args.walk.module.now in
     let p = place_seen c.args.place.now in
     let v = c.args.value.now in
     let o = c.args.out.now in
@@ -74,7 +74,7 @@ keep_at-returns-in_default t c =
 
 pub keep_content-returns-in_default-label : goal.keep_content-returns-in_default-label
 keep_content-returns-in_default-label t c =
-    let m = c.args.module.now in
+    let m = c.args.walk.module.now in
     let u = c.args.node.now in
     let v = c.args.value.now in
     let n = node_count v in
@@ -87,7 +87,7 @@ keep_content-returns-in_default-label t c =
 
 pub keep_content-returns-then-not-may_be_present : goal.keep_content-returns-then-not-may_be_present
 keep_content-returns-then-not-may_be_present t c =
-    let m = c.args.module.now in
+    let m = c.args.walk.module.now in
     let u = c.args.node.now in
     let v = c.args.value.now in
     let n = node_count v in
@@ -107,23 +107,24 @@ keep_content-returns-then-not-may_be_present t c =
 
 pub keep_content-keep_present-requires : goal.keep_content-keep_present-requires
 keep_content-keep_present-requires t c =
-    let m = c.args.module.now in
+    let m = c.args.walk.module.now in
     let u = c.args.node.now in
     let d = c.decreases in
     let k = node_count-kids c.args.value.now in (
       rw c.kids.ensures (omega (arith, d, k)),
       (
-        subst (IsTypeIn m) (sym c.resolve-found.ensures) (found-in m u c.requires.node),
-        (
-          ap (λ l. l.form) (sym c.label.ensures) ∙ c.in-Sequence.is ∙ ap (λ ps. form.Sequence ps) (sym c.items-parts.ensures),
-          (sym c.may_be_present.ensures ∙ c.if-not-may_be_present.false, subst (PartsArePlain m) (sym c.resolve-found.ensures) (plain-parts m (resolve m u) c.requires.plain)),
-        ),
+        record {
+          node = subst (IsTypeIn m) (sym c.resolve-found.ensures) (found-in m u c.requires.node);
+          form = ap (λ l. l.form) (sym c.label.ensures) ∙ c.in-Sequence.is ∙ ap (λ ps. form.Sequence ps) (sym c.items-parts.ensures);
+          present = sym c.may_be_present.ensures ∙ c.if-not-may_be_present.false;
+        },
+        subst (PartsArePlain m) (sym c.resolve-found.ensures) (plain-parts m (resolve m u) c.requires.plain),
       ),
     )
 
 pub keep_content-returns : goal.keep_content-returns
 keep_content-returns t c =
-    let m = c.args.module.now in
+    let m = c.args.walk.module.now in
     let u = c.args.node.now in
     let v = c.args.value.now in
     let found = resolve m u in
@@ -149,29 +150,29 @@ keep_content-returns t c =
 -- ---- a SEQUENCE
 
 pub keep_present-bounds-present-i : goal.keep_present-bounds-present-i
-keep_present-bounds-present-i t c = let l = fit-length c.args.parts.now c.args.present.now c.requires.present in omega (arith, c.parts-test.true, l)
+keep_present-bounds-present-i t c = let l = fit-length c.args.sequence.now.parts.now c.args.sequence.now.present.now c.requires.parts.present in omega (arith, c.parts-test.true, l)
 
 pub keep_present-returns-in_default : goal.keep_present-returns-in_default
 keep_present-returns-in_default t c =
-    let m = c.args.module.now in
+    let m = c.args.walk.module.now in
     let o = c.parts.out in
     let n = count_all (roses_of c.args.values.now) in
     let cs = children_seen c.parts.children.items in
-    let found = found_from (label_of c.args.node.now) c.args.parts.now (kids_of c.args.node.now) c.args.present.now c.parts.i in
+    let found = found_from (label_of c.args.sequence.now.node.now) c.args.sequence.now.parts.now (kids_of c.args.sequence.now.node.now) c.args.sequence.now.present.now c.parts.i in
     let none_left : places_give m found c.parts.left ≡ nothing = give-short m found c.parts.left c.in_default.ensures.steps.0 in
     c.parts.invariant.keeps o cs (subst (Keeps m n o o cs cs) (sym none_left) (keeps-nothing m n o cs))
 
 pub keep_present-kid-requires : goal.keep_present-kid-requires
 keep_present-kid-requires t c =
-    let e = have-kids c.args.module.now c.args.node.now c.requires.node ∙ ap (λ f. length (parts_of f)) c.requires.form in
+    let e = have-kids c.args.walk.module.now c.args.sequence.now.node.now c.requires.parts.node ∙ ap (λ f. length (parts_of f)) c.requires.parts.form in
     omega (arith, c.parts-test.true, e)
 
 pub keep_present-keep_at-requires : goal.keep_present-keep_at-requires
 keep_present-keep_at-requires t c =
-    let m = c.args.module.now in
-    let u = c.args.node.now in
+    let m = c.args.walk.module.now in
+    let u = c.args.sequence.now.node.now in
     let i = c.parts.i in
-    let parts = c.args.parts.now in
+    let parts = c.args.sequence.now.parts.now in
     let kid = c.kid.result.now in
     let asked = c.index-parts-i.result in
     let part = c.index-parts-i-then-present-i.result in
@@ -183,25 +184,25 @@ keep_present-keep_at-requires t c =
     let small = c.parts.invariant.small in (
       omega (arith, d, e, small),
       (
-        kid-in m u i kid c.kid.ensures c.requires.node,
-        subst (λ r. GivesPlainly m (record { role = r; part = part; type = kid })) (sym role) (c.requires.plain i part kid (ap (λ f. slice_get (parts_of f) i) c.requires.form ∙ there) c.kid.ensures),
+        kid-in m u i kid c.kid.ensures c.requires.parts.node,
+        subst (λ r. GivesPlainly m (record { role = r; part = part; type = kid })) (sym role) (c.requires.plain i part kid (ap (λ f. slice_get (parts_of f) i) c.requires.parts.form ∙ there) c.kid.ensures),
       ),
     )
 
 pub keep_present-parts-preserved : goal.keep_present-parts-preserved
 keep_present-parts-preserved t c =
-    let m = c.args.module.now in
-    let u = c.args.node.now in
+    let m = c.args.walk.module.now in
+    let u = c.args.sequence.now.node.now in
     let l = label_of u in
     let ts = kids_of u in
-    let parts = c.args.parts.now in
-    let flags = c.args.present.now in
+    let parts = c.args.sequence.now.parts.now in
+    let flags = c.args.sequence.now.present.now in
     let i = c.parts.i in
     let n = count_all (roses_of c.args.values.now) in
     let so_far = c.parts.invariant in
     let before = children_seen c.parts.children.items in
-    let same : length ts ≡ length parts = have-kids m u c.requires.node ∙ ap (λ f. length (parts_of f)) c.requires.form in
-    let long = fit-length parts flags c.requires.present in
+    let same : length ts ≡ length parts = have-kids m u c.requires.parts.node ∙ ap (λ f. length (parts_of f)) c.requires.parts.form in
+    let long = fit-length parts flags c.requires.parts.present in
     let flagged : i < length flags = omega (arith, c.parts-test.true, long) in
     let found = found_from l parts ts flags in
     elim c.if-present-i.branch [
@@ -263,11 +264,11 @@ keep_present-parts-preserved t c =
 
 pub keep_present-returns : goal.keep_present-returns
 keep_present-returns t c =
-    let m = c.args.module.now in
-    let u = c.args.node.now in
+    let m = c.args.walk.module.now in
+    let u = c.args.sequence.now.node.now in
     let o = c.parts.out in
     let n = count_all (roses_of c.args.values.now) in
     let cs = children_seen c.parts.children.items in
-    let same : length (kids_of u) ≡ length c.args.parts.now = have-kids m u c.requires.node ∙ ap (λ f. length (parts_of f)) c.requires.form in
-    let end = give-end m (label_of u) c.args.parts.now (kids_of u) c.args.present.now same c.parts.i c.parts-test.false c.requires.present c.parts.left in
+    let same : length (kids_of u) ≡ length c.args.sequence.now.parts.now = have-kids m u c.requires.parts.node ∙ ap (λ f. length (parts_of f)) c.requires.parts.form in
+    let end = give-end m (label_of u) c.args.sequence.now.parts.now (kids_of u) c.args.sequence.now.present.now same c.parts.i c.parts-test.false c.requires.parts.present c.parts.left in
     c.parts.invariant.keeps o cs (subst (Keeps m n o o cs cs) (sym end) (keeps-nothing m n o cs))

@@ -19,10 +19,10 @@ decreases-keep_present l = 4 * count_all (roses_of l.values.now) + 3
 -- for whatever is kept from here on, all is kept from the start on
 abbrev pub invariant-keep_present-parts : goal.invariant-keep_present-parts
 invariant-keep_present-parts l = record {
-  fit : fit_from l.parts l.present l.i ≡ true;
+  fit : fit_from l.sequence.parts.now l.sequence.present.now l.i ≡ true;
   small : count_all (roses_of l.left) ≤ count_all (roses_of l.values);
   keeps : (new : Contents) (cs : List Child)
-      → Keeps l.«module» (count_all (roses_of l.values)) l.out new (children_seen l.children.items) cs (places_give l.«module» (found_from (label_of l.node) l.parts (kids_of l.node) l.present l.i) l.left)
-      → Keeps l.«module» (count_all (roses_of l.values)) l.initial.out new (children_seen l.initial.children.items) cs
-      (places_give l.«module» (found_from (label_of l.node) l.parts (kids_of l.node) l.present 0) l.values);
+      → Keeps l.walk.module.now (count_all (roses_of l.values)) l.out new (children_seen l.children.items) cs (places_give l.walk.module.now (found_from (label_of l.sequence.node.now) l.sequence.parts.now (kids_of l.sequence.node.now) l.sequence.present.now l.i) l.left)
+      → Keeps l.walk.module.now (count_all (roses_of l.values)) l.initial.out new (children_seen l.initial.children.items) cs
+      (places_give l.walk.module.now (found_from (label_of l.sequence.node.now) l.sequence.parts.now (kids_of l.sequence.node.now) l.sequence.present.now 0) l.values);
 }
