@@ -68,7 +68,7 @@ fn complete<S: Source, K: Origin, V: Variant>(
         node: body,
         found: resolve(module, body),
     };
-    run.node(place, &mut values)?;
+    run.node(&place, &mut values)?;
     last(run)?;
     Ok((values.finish_one(), run.position() / 8))
 }

@@ -83,16 +83,16 @@ fn has_no_rules(module: &Module, found: &Tree<TypeLabel>) -> bool
 // Appends a value whose fields were all read, from a bit to another, if it follows the rules of its node.
 #[inline(always)]
 fn owned(
-    place: Place<'_>,
+    place: &Place<'_>,
     value: Flat<ValueLabel>,
     span: Span,
     stop: &mut Stop,
     values: &mut Builder<ValueLabel>,
 ) -> Result<(), PerEnd>
-    requires place { IsPlace 64 place }
+    requires place { IsPlace 64 place.now }
     ensures pushed { OnOk result (values.new ≡ added value values.old) }
-    ensures ok { OnOk result (Own place.entry.module.now place.entry.node.now value) }
-    ensures err { IfErr result (λ fault. (fault ≡ PerEnd.Memory) ⊎ ((fault ≡ PerEnd.Stopped) × (stop.new ≡ record { bit = span.begin; why = Why.NotAValue; end = span.end }) × (Own place.entry.module.now place.entry.node.now value → ⊥))) }
+    ensures ok { OnOk result (Own place.now.module.now place.now.node.now value) }
+    ensures err { IfErr result (λ fault. (fault ≡ PerEnd.Memory) ⊎ ((fault ≡ PerEnd.Stopped) × (stop.new ≡ record { bit = span.begin; why = Why.NotAValue; end = span.end }) × (Own place.now.module.now place.now.node.now value → ⊥))) }
 {
     if own(place.alloc, place.module, place.node, &value.root())? {
         values.append(value.into_trees())?;
@@ -103,12 +103,12 @@ fn owned(
 }
 
 // Returns why a component may not be present with this value.
-fn unkept_why(part: Part<'_>, value: &Node<'_, ValueLabel>) -> Result<Why, Memory>
-    requires place { IsPlace 65 part.place }
-    ensures { IfOk result (λ why. why ≡ nodes.unkept_why part.entry.place.module.now part.entry.component.now part.entry.place.node.now value.now) }
+fn unkept_why(part: &Part<'_>, value: &Node<'_, ValueLabel>) -> Result<Why, Memory>
+    requires place { IsPlace 65 part.now.place }
+    ensures { IfOk result (λ why. why ≡ nodes.unkept_why part.now.place.module.now part.now.component.now part.now.place.node.now value.now) }
 {
     if part.component.optional {
-        let place = part.place;
+        let place = &part.place;
         if is_standard(place.alloc, place.module, part.component, place.node, value)? {
             return Ok(Why::DefaultWritten);
         }
@@ -119,16 +119,16 @@ fn unkept_why(part: Part<'_>, value: &Node<'_, ValueLabel>) -> Result<Why, Memor
 // Appends the value of a component, which was read from a bit to another, if the component's default or fixed value allows it.
 #[inline(always)]
 fn unless_standard(
-    part: Part<'_>,
+    part: &Part<'_>,
     value: Flat<ValueLabel>,
     span: Span,
     stop: &mut Stop,
     values: &mut Builder<ValueLabel>,
 ) -> Result<(), PerEnd>
-    requires place { IsPlace 65 part.place }
+    requires place { IsPlace 65 part.now.place }
     ensures pushed { OnOk result (values.new ≡ added value values.old) }
-    ensures ok { OnOk result (Kept part.entry.place.module.now part.entry.component.now part.entry.place.node.now value) }
-    ensures err { IfErr result (λ fault. (fault ≡ PerEnd.Memory) ⊎ ((fault ≡ PerEnd.Stopped) × (stop.new ≡ record { bit = span.begin; why = nodes.unkept_why part.entry.place.module.now part.entry.component.now part.entry.place.node.now value; end = span.end }) × (Kept part.entry.place.module.now part.entry.component.now part.entry.place.node.now value → ⊥))) }
+    ensures ok { OnOk result (Kept part.now.place.module.now part.now.component.now part.now.place.node.now value) }
+    ensures err { IfErr result (λ fault. (fault ≡ PerEnd.Memory) ⊎ ((fault ≡ PerEnd.Stopped) × (stop.new ≡ record { bit = span.begin; why = nodes.unkept_why part.now.place.module.now part.now.component.now part.now.place.node.now value; end = span.end }) × (Kept part.now.place.module.now part.now.component.now part.now.place.node.now value → ⊥))) }
 {
     let Place {
         alloc,
@@ -151,16 +151,16 @@ impl<'a, S: Source, K: Origin, V: Variant> Run<'a, S, K, V> {
     #[cycle(nodes)]
     pub(crate) fn node(
         &mut self,
-        place: Place<'_>,
+        place: &Place<'_>,
         values: &mut Builder<ValueLabel>,
     ) -> Result<(), PerEnd>
-        requires place { IsPlace 65 place }
+        requires place { IsPlace 65 place.now }
         requires in_step { InStep self.old }
         ensures reads { Reads self.old self.new result }
         ensures pushed { OnOk result (values.new ≡ added (newest values.new.kids) values.old) }
         ensures count { OnOk result (self.new.nodes ≡ self.old.nodes + node_count (newest values.new.kids)) }
-        ensures fits { OnOk result (FitsAt place.entry.module.now place.entry.depth place.entry.node.now (newest values.new.kids)) }
-        ensures gives { Gives (λ _. newest values.new.kids) result self.old self.new (node_read V.ALIGNED place.entry.module.now place.entry.depth place.entry.node.now) }
+        ensures fits { OnOk result (FitsAt place.now.module.now place.now.depth place.now.node.now (newest values.new.kids)) }
+        ensures gives { Gives (λ _. newest values.new.kids) result self.old self.new (node_read V.ALIGNED place.now.module.now place.now.depth place.now.node.now) }
     {
         let begin = self.position();
         if place.depth > MOST_DEEP {
@@ -178,17 +178,17 @@ impl<'a, S: Source, K: Origin, V: Variant> Run<'a, S, K, V> {
     #[cycle(nodes)]
     fn body(
         &mut self,
-        place: Place<'_>,
+        place: &Place<'_>,
         begin: u64,
         values: &mut Builder<ValueLabel>,
     ) -> Result<(), PerEnd>
-        requires place { IsPlace 64 place }
+        requires place { IsPlace 64 place.now }
         requires in_step { InStep self.old }
         ensures reads { Reads self.old self.new result }
         ensures pushed { OnOk result (values.new ≡ added (newest values.new.kids) values.old) }
         ensures count { OnOk result (self.new.nodes + 1 ≡ self.old.nodes + node_count (newest values.new.kids)) }
-        ensures fits { OnOk result (FitsAt place.entry.module.now place.entry.depth place.entry.node.now (newest values.new.kids)) }
-        ensures gives { Gives (λ _. newest values.new.kids) result self.old self.new (bodies.body_at V.ALIGNED place.entry.module.now place.entry.depth begin (resolve place.entry.module.now place.entry.node.now)) }
+        ensures fits { OnOk result (FitsAt place.now.module.now place.now.depth place.now.node.now (newest values.new.kids)) }
+        ensures gives { Gives (λ _. newest values.new.kids) result self.old self.new (bodies.body_at V.ALIGNED place.now.module.now place.now.depth begin (resolve place.now.module.now place.now.node.now)) }
     {
         if let Form::Utf8 { .. } = &place.found.label().form {
             return self.text(place, begin, values);
@@ -204,18 +204,18 @@ impl<'a, S: Source, K: Origin, V: Variant> Run<'a, S, K, V> {
     #[cycle(nodes)]
     fn ruled(
         &mut self,
-        place: Place<'_>,
+        place: &Place<'_>,
         begin: u64,
         values: &mut Builder<ValueLabel>,
     ) -> Result<(), PerEnd>
-        requires place { IsPlace 64 place }
-        requires form { bodies.IsNoText (label_of place.found.now).form }
+        requires place { IsPlace 64 place.now }
+        requires form { bodies.IsNoText (label_of place.now.found.now).form }
         requires in_step { InStep self.old }
         ensures reads { Reads self.old self.new result }
         ensures pushed { OnOk result (values.new ≡ added (newest values.new.kids) values.old) }
         ensures count { OnOk result (self.new.nodes + 1 ≡ self.old.nodes + node_count (newest values.new.kids)) }
-        ensures fits { OnOk result (FitsAt place.entry.module.now place.entry.depth place.entry.node.now (newest values.new.kids)) }
-        ensures gives { Gives (λ _. newest values.new.kids) result self.old self.new (bodies.body_at V.ALIGNED place.entry.module.now place.entry.depth begin (resolve place.entry.module.now place.entry.node.now)) }
+        ensures fits { OnOk result (FitsAt place.now.module.now place.now.depth place.now.node.now (newest values.new.kids)) }
+        ensures gives { Gives (λ _. newest values.new.kids) result self.old self.new (bodies.body_at V.ALIGNED place.now.module.now place.now.depth begin (resolve place.now.module.now place.now.node.now)) }
     {
         let mut read = Builder::new(place.alloc);
         self.fields(place, &mut read)?;
@@ -232,12 +232,12 @@ impl<'a, S: Source, K: Origin, V: Variant> Run<'a, S, K, V> {
     // Reads the fields and the children of a node whose type resolves to neither a text nor a reference.
     #[inline(always)]
     #[cycle(nodes)]
-    fn fields(&mut self, place: Place<'_>, values: &mut Builder<ValueLabel>) -> Result<(), PerEnd>
-        requires place { IsPlace 64 place }
-        requires form { bodies.HasFields (label_of place.found.now).form }
+    fn fields(&mut self, place: &Place<'_>, values: &mut Builder<ValueLabel>) -> Result<(), PerEnd>
+        requires place { IsPlace 64 place.now }
+        requires form { bodies.HasFields (label_of place.now.found.now).form }
         requires in_step { InStep self.old }
-        ensures adds { AddsFields place.entry self.old self.new result values.old values.new }
-        ensures gives { Gives (λ _. newest values.new.kids) result self.old self.new (bodies.fields_at V.ALIGNED place.entry.module.now place.entry.depth place.entry.found.now) }
+        ensures adds { AddsFields place.now self.old self.new result values.old values.new }
+        ensures gives { Gives (λ _. newest values.new.kids) result self.old self.new (bodies.fields_at V.ALIGNED place.now.module.now place.now.depth place.now.found.now) }
     {
         match &place.found.label().form {
             Form::Bool => self.boolean(values),
@@ -268,15 +268,15 @@ impl<'a, S: Source, K: Origin, V: Variant> Run<'a, S, K, V> {
     #[cycle(nodes)]
     fn sequence(
         &mut self,
-        place: Place<'_>,
+        place: &Place<'_>,
         parts: &[Component],
         values: &mut Builder<ValueLabel>,
     ) -> Result<(), PerEnd>
-        requires place { IsPlace 64 place }
-        requires form { (label_of place.found.now).form ≡ form.Sequence parts.now }
+        requires place { IsPlace 64 place.now }
+        requires form { (label_of place.now.found.now).form ≡ form.Sequence parts.now }
         requires in_step { InStep self.old }
-        ensures adds { AddsFields place.entry self.old self.new result values.old values.new }
-        ensures gives { Gives (λ _. newest values.new.kids) result self.old self.new (sequence_at (bodies.kid_at V.ALIGNED place.entry.module.now place.entry.depth) (label_of place.entry.found.now) (kids_of place.entry.found.now) parts.now) }
+        ensures adds { AddsFields place.now self.old self.new result values.old values.new }
+        ensures gives { Gives (λ _. newest values.new.kids) result self.old self.new (sequence_at (bodies.kid_at V.ALIGNED place.now.module.now place.now.depth) (label_of place.now.found.now) (kids_of place.now.found.now) parts.now) }
     {
         let mut present = Flags::none();
         self.presence(place.alloc, parts, &mut present)?;
@@ -295,21 +295,21 @@ impl<'a, S: Source, K: Origin, V: Variant> Run<'a, S, K, V> {
     #[cycle(nodes)]
     fn components(
         &mut self,
-        place: Place<'_>,
+        place: &Place<'_>,
         parts: &[Component],
         present: &[bool],
         values: &mut Builder<ValueLabel>,
     ) -> Result<(), PerEnd>
-        requires place { IsPlace 64 place }
-        requires form { (label_of place.found.now).form ≡ form.Sequence parts.now }
+        requires place { IsPlace 64 place.now }
+        requires form { (label_of place.now.found.now).form ≡ form.Sequence parts.now }
         requires present { Present parts.now present.now }
         requires empty { values.old.kids ≡ [] }
         requires in_step { InStep self.old }
         ensures reads { Reads self.old self.new result }
         ensures above { OnOk result (values.new.above ≡ values.old.above) }
         ensures count { OnOk result (self.new.nodes ≡ self.old.nodes + count_all (roses_of values.new.kids)) }
-        ensures fits { OnOk result (bodies.FitSome place.entry.module.now place.entry.depth (present_from (label_of place.entry.found.now) 0 parts.now (kids_of place.entry.found.now) present.now) (roses_of values.new.kids)) }
-        ensures gives { Gives (λ _. values.new.kids) result self.old self.new (bodies.kids_read V.ALIGNED place.entry.module.now place.entry.depth (present_from (label_of place.entry.found.now) 0 parts.now (kids_of place.entry.found.now) present.now)) }
+        ensures fits { OnOk result (bodies.FitSome place.now.module.now place.now.depth (present_from (label_of place.now.found.now) 0 parts.now (kids_of place.now.found.now) present.now) (roses_of values.new.kids)) }
+        ensures gives { Gives (λ _. values.new.kids) result self.old self.new (bodies.kids_read V.ALIGNED place.now.module.now place.now.depth (present_from (label_of place.now.found.now) 0 parts.now (kids_of place.now.found.now) present.now)) }
     {
         'parts: for i in 0..parts.len() {
             if !present[i] {
@@ -329,7 +329,7 @@ impl<'a, S: Source, K: Origin, V: Variant> Run<'a, S, K, V> {
                 component: &parts[i],
                 place: there,
             };
-            self.component(part, values)?;
+            self.component(&part, values)?;
         }
         Ok(())
     }
@@ -337,18 +337,18 @@ impl<'a, S: Source, K: Origin, V: Variant> Run<'a, S, K, V> {
     // Reads a component that is present, and appends it: a node, and then its default or fixed value.
     #[inline(always)]
     #[cycle(nodes)]
-    fn component(&mut self, part: Part<'_>, values: &mut Builder<ValueLabel>) -> Result<(), PerEnd>
-        requires place { IsPlace 65 part.place }
+    fn component(&mut self, part: &Part<'_>, values: &mut Builder<ValueLabel>) -> Result<(), PerEnd>
+        requires place { IsPlace 65 part.now.place }
         requires in_step { InStep self.old }
         ensures reads { Reads self.old self.new result }
         ensures pushed { OnOk result (values.new ≡ added (newest values.new.kids) values.old) }
         ensures count { OnOk result (self.new.nodes ≡ self.old.nodes + node_count (newest values.new.kids)) }
-        ensures fits { OnOk result (FitsAt part.entry.place.module.now part.entry.place.depth part.entry.place.node.now (newest values.new.kids)) }
-        ensures kept { OnOk result (Kept part.entry.place.module.now part.entry.component.now part.entry.place.node.now (newest values.new.kids)) }
-        ensures gives { Gives (λ _. newest values.new.kids) result self.old self.new (bodies.part_read V.ALIGNED part.entry.place.module.now part.entry.place.depth part.entry.component.now part.entry.place.node.now) }
+        ensures fits { OnOk result (FitsAt part.now.place.module.now part.now.place.depth part.now.place.node.now (newest values.new.kids)) }
+        ensures kept { OnOk result (Kept part.now.place.module.now part.now.component.now part.now.place.node.now (newest values.new.kids)) }
+        ensures gives { Gives (λ _. newest values.new.kids) result self.old self.new (bodies.part_read V.ALIGNED part.now.place.module.now part.now.place.depth part.now.component.now part.now.place.node.now) }
     {
         match &part.component.standard {
-            Standard::Free => self.node(part.place, values),
+            Standard::Free => self.node(&part.place, values),
             Standard::Default(_) | Standard::Fixed(_) => self.standard(part, values),
         }
     }
@@ -356,19 +356,19 @@ impl<'a, S: Source, K: Origin, V: Variant> Run<'a, S, K, V> {
     // Reads a component that has a default or fixed value, which is rare.
     #[inline(never)]
     #[cycle(nodes)]
-    fn standard(&mut self, part: Part<'_>, values: &mut Builder<ValueLabel>) -> Result<(), PerEnd>
-        requires place { IsPlace 65 part.place }
+    fn standard(&mut self, part: &Part<'_>, values: &mut Builder<ValueLabel>) -> Result<(), PerEnd>
+        requires place { IsPlace 65 part.now.place }
         requires in_step { InStep self.old }
         ensures reads { Reads self.old self.new result }
         ensures pushed { OnOk result (values.new ≡ added (newest values.new.kids) values.old) }
         ensures count { OnOk result (self.new.nodes ≡ self.old.nodes + node_count (newest values.new.kids)) }
-        ensures fits { OnOk result (FitsAt part.entry.place.module.now part.entry.place.depth part.entry.place.node.now (newest values.new.kids)) }
-        ensures kept { OnOk result (Kept part.entry.place.module.now part.entry.component.now part.entry.place.node.now (newest values.new.kids)) }
-        ensures gives { Gives (λ _. newest values.new.kids) result self.old self.new (bodies.part_read V.ALIGNED part.entry.place.module.now part.entry.place.depth part.entry.component.now part.entry.place.node.now) }
+        ensures fits { OnOk result (FitsAt part.now.place.module.now part.now.place.depth part.now.place.node.now (newest values.new.kids)) }
+        ensures kept { OnOk result (Kept part.now.place.module.now part.now.component.now part.now.place.node.now (newest values.new.kids)) }
+        ensures gives { Gives (λ _. newest values.new.kids) result self.old self.new (bodies.part_read V.ALIGNED part.now.place.module.now part.now.place.depth part.now.component.now part.now.place.node.now) }
     {
         let begin = self.position();
         let mut read = Builder::new(part.place.alloc);
-        self.node(part.place, &mut read)?;
+        self.node(&part.place, &mut read)?;
         let end = self.position();
         unless_standard(
             part,
@@ -384,15 +384,15 @@ impl<'a, S: Source, K: Origin, V: Variant> Run<'a, S, K, V> {
     #[cycle(nodes)]
     fn choice(
         &mut self,
-        place: Place<'_>,
+        place: &Place<'_>,
         parts: &[Component],
         values: &mut Builder<ValueLabel>,
     ) -> Result<(), PerEnd>
-        requires place { IsPlace 64 place }
-        requires form { (label_of place.found.now).form ≡ form.Choice parts.now }
+        requires place { IsPlace 64 place.now }
+        requires form { (label_of place.now.found.now).form ≡ form.Choice parts.now }
         requires in_step { InStep self.old }
-        ensures adds { AddsFields place.entry self.old self.new result values.old values.new }
-        ensures gives { Gives (λ _. newest values.new.kids) result self.old self.new (choice_at V.ALIGNED (bodies.kid_at V.ALIGNED place.entry.module.now place.entry.depth) (label_of place.entry.found.now) (kids_of place.entry.found.now) parts.now) }
+        ensures adds { AddsFields place.now self.old self.new result values.old values.new }
+        ensures gives { Gives (λ _. newest values.new.kids) result self.old self.new (choice_at V.ALIGNED (bodies.kid_at V.ALIGNED place.now.module.now place.now.depth) (label_of place.now.found.now) (kids_of place.now.found.now) parts.now) }
     {
         let index = self.number((parts.len() - 1) as u128)? as u32;
         let kid = place.found.kid(index as usize);
@@ -406,7 +406,7 @@ impl<'a, S: Source, K: Origin, V: Variant> Run<'a, S, K, V> {
             found: to,
         };
         values.open(ValueLabel::Choice(index))?;
-        self.node(there, values)?;
+        self.node(&there, values)?;
         values.close();
         Ok(())
     }
@@ -416,16 +416,16 @@ impl<'a, S: Source, K: Origin, V: Variant> Run<'a, S, K, V> {
     #[cycle(nodes)]
     fn sequence_of(
         &mut self,
-        place: Place<'_>,
+        place: &Place<'_>,
         part: &Component,
         sizes: Sizes,
         values: &mut Builder<ValueLabel>,
     ) -> Result<(), PerEnd>
-        requires place { IsPlace 64 place }
-        requires form { (label_of place.found.now).form ≡ form.SequenceOf part.now sizes.min sizes.max }
+        requires place { IsPlace 64 place.now }
+        requires form { (label_of place.now.found.now).form ≡ form.SequenceOf part.now sizes.min sizes.max }
         requires in_step { InStep self.old }
-        ensures adds { AddsFields place.entry self.old self.new result values.old values.new }
-        ensures gives { Gives (λ _. newest values.new.kids) result self.old self.new (items_at V.ALIGNED (bodies.kid_at V.ALIGNED place.entry.module.now place.entry.depth) sizes.min sizes.max (bodies.item_place place.entry.found.now part.now)) }
+        ensures adds { AddsFields place.now self.old self.new result values.old values.new }
+        ensures gives { Gives (λ _. newest values.new.kids) result self.old self.new (items_at V.ALIGNED (bodies.kid_at V.ALIGNED place.now.module.now place.now.depth) sizes.min sizes.max (bodies.item_place place.now.found.now part.now)) }
     {
         let item = place.found.kid(0);
         let to = resolve(place.module, item);
@@ -438,7 +438,7 @@ impl<'a, S: Source, K: Origin, V: Variant> Run<'a, S, K, V> {
             found: to,
         };
         values.open(ValueLabel::SequenceOf)?;
-        self.list(there, sizes, values)?;
+        self.list(&there, sizes, values)?;
         values.close();
         Ok(())
     }
@@ -447,20 +447,20 @@ impl<'a, S: Source, K: Origin, V: Variant> Run<'a, S, K, V> {
     #[cycle(nodes)]
     fn list(
         &mut self,
-        place: Place<'_>,
+        place: &Place<'_>,
         sizes: Sizes,
         values: &mut Builder<ValueLabel>,
     ) -> Result<(), PerEnd>
-        requires place { IsPlace 65 place }
+        requires place { IsPlace 65 place.now }
         requires sizes { AreSizes sizes.min sizes.max }
         requires empty { values.old.kids ≡ [] }
         requires in_step { InStep self.old }
         ensures reads { Reads self.old self.new result }
         ensures above { OnOk result (values.new.above ≡ values.old.above) }
         ensures count { OnOk result (self.new.nodes ≡ self.old.nodes + count_all (roses_of values.new.kids)) }
-        ensures fits { OnOk result (bodies.FitAll place.entry.module.now place.entry.depth place.entry.node.now values.new.kids) }
+        ensures fits { OnOk result (bodies.FitAll place.now.module.now place.now.depth place.now.node.now values.new.kids) }
         ensures size { OnOk result ((sizes.min ≤ length values.new.kids) × (is_at_most (length values.new.kids) sizes.max ≡ true)) }
-        ensures gives { Gives (λ _. values.new.kids) result self.old self.new (list_at V.ALIGNED sizes.min sizes.max (λ n. bodies.many_at V.ALIGNED place.entry.module.now place.entry.depth n place.entry.node.now)) }
+        ensures gives { Gives (λ _. values.new.kids) result self.old self.new (list_at V.ALIGNED sizes.min sizes.max (λ n. bodies.many_at V.ALIGNED place.now.module.now place.now.depth n place.now.node.now)) }
     {
         match sizes.max {
             Some(most) => {
@@ -479,19 +479,19 @@ impl<'a, S: Source, K: Origin, V: Variant> Run<'a, S, K, V> {
     #[cycle(nodes)]
     fn fragments(
         &mut self,
-        place: Place<'_>,
+        place: &Place<'_>,
         sizes: Sizes,
         values: &mut Builder<ValueLabel>,
     ) -> Result<(), PerEnd>
-        requires place { IsPlace 65 place }
+        requires place { IsPlace 65 place.now }
         requires empty { values.old.kids ≡ [] }
         requires in_step { InStep self.old }
         ensures reads { Reads self.old self.new result }
         ensures above { OnOk result (values.new.above ≡ values.old.above) }
         ensures count { OnOk result (self.new.nodes ≡ self.old.nodes + count_all (roses_of values.new.kids)) }
-        ensures fits { OnOk result (bodies.FitAll place.entry.module.now place.entry.depth place.entry.node.now values.new.kids) }
+        ensures fits { OnOk result (bodies.FitAll place.now.module.now place.now.depth place.now.node.now values.new.kids) }
         ensures size { OnOk result ((sizes.min ≤ length values.new.kids) × (is_at_most (length values.new.kids) sizes.max ≡ true)) }
-        ensures gives { Gives (λ _. values.new.kids) result self.old self.new (counted_at V.ALIGNED sizes.min sizes.max (λ n. bodies.many_at V.ALIGNED place.entry.module.now place.entry.depth n place.entry.node.now)) }
+        ensures gives { Gives (λ _. values.new.kids) result self.old self.new (counted_at V.ALIGNED sizes.min sizes.max (λ n. bodies.many_at V.ALIGNED place.now.module.now place.now.depth n place.now.node.now)) }
     {
         let mut total: usize = 0;
         let mut before = MOST_UNITS;
@@ -513,19 +513,19 @@ impl<'a, S: Source, K: Origin, V: Variant> Run<'a, S, K, V> {
     #[cycle(nodes)]
     fn items(
         &mut self,
-        place: Place<'_>,
+        place: &Place<'_>,
         n: u32,
         values: &mut Builder<ValueLabel>,
     ) -> Result<(), PerEnd>
-        requires place { IsPlace 65 place }
-        requires fit { bodies.FitAll place.module.now place.depth place.node.now values.old.kids }
+        requires place { IsPlace 65 place.now }
+        requires fit { bodies.FitAll place.now.module.now place.now.depth place.now.node.now values.old.kids }
         requires in_step { InStep self.old }
         ensures reads { Reads self.old self.new result }
         ensures above { OnOk result (values.new.above ≡ values.old.above) }
         ensures count { OnOk result (self.new.nodes + count_all (roses_of values.old.kids) ≡ self.old.nodes + count_all (roses_of values.new.kids)) }
-        ensures fits { OnOk result (bodies.FitAll place.entry.module.now place.entry.depth place.entry.node.now values.new.kids) }
+        ensures fits { OnOk result (bodies.FitAll place.now.module.now place.now.depth place.now.node.now values.new.kids) }
         ensures size { OnOk result (length values.new.kids ≡ length values.old.kids + n) }
-        ensures gives { Gives (λ _. values.new.kids) result self.old self.new (bodies.more_at V.ALIGNED place.entry.module.now place.entry.depth n place.entry.node.now values.old.kids) }
+        ensures gives { Gives (λ _. values.new.kids) result self.old self.new (bodies.more_at V.ALIGNED place.now.module.now place.now.depth n place.now.node.now values.old.kids) }
     {
         'items: for _ in 0..n {
             self.node(place, values)?;

@@ -37,19 +37,19 @@ impl<'a, S: Source, K: Origin, V: Variant> Run<'a, S, K, V> {
     #[inline(always)]
     pub(crate) fn text(
         &mut self,
-        place: Place<'_>,
+        place: &Place<'_>,
         begin: u64,
         values: &mut Builder<ValueLabel>,
     ) -> Result<(), PerEnd>
-        requires place { IsPlace 64 place }
-        requires text { IsText (label_of (refs.resolve place.module.now place.node.now)).form }
+        requires place { IsPlace 64 place.now }
+        requires text { IsText (label_of (refs.resolve place.now.module.now place.now.node.now)).form }
         requires in_step { InStep self.old }
         ensures reads { Reads self.old self.new result }
         ensures nodes { self.new.nodes ≡ self.old.nodes }
         ensures pushed { OnOk result (values.new ≡ added (newest values.new.kids) values.old) }
         ensures leaf { OnOk result ((text : List ℕ) × (newest values.new.kids ≡ text_leaf text)) }
-        ensures own { OnOk result (Own place.entry.module.now place.entry.node.now (newest values.new.kids)) }
-        ensures gives { Gives (λ _. newest values.new.kids) result self.old self.new (kept_by place.entry.module.now begin (refs.resolve place.entry.module.now place.entry.node.now) (counted_at V.ALIGNED 0 None octets_at)) }
+        ensures own { OnOk result (Own place.now.module.now place.now.node.now (newest values.new.kids)) }
+        ensures gives { Gives (λ _. newest values.new.kids) result self.old self.new (kept_by place.now.module.now begin (refs.resolve place.now.module.now place.now.node.now) (counted_at V.ALIGNED 0 None octets_at)) }
     {
         let piece = self.count(0, None, MOST_UNITS, 0)?;
         match piece {
@@ -62,22 +62,22 @@ impl<'a, S: Source, K: Origin, V: Variant> Run<'a, S, K, V> {
     #[inline(always)]
     fn short_text(
         &mut self,
-        place: Place<'_>,
+        place: &Place<'_>,
         begin: u64,
         n: u32,
         values: &mut Builder<ValueLabel>,
     ) -> Result<(), PerEnd>
-        requires place { IsPlace 64 place }
+        requires place { IsPlace 64 place.now }
         requires few { n ≤ 22 }
-        requires text { IsText (label_of (refs.resolve place.module.now place.node.now)).form }
+        requires text { IsText (label_of (refs.resolve place.now.module.now place.now.node.now)).form }
         requires aligned { V.ALIGNED ≡ true → self.old.bits.position % 8 ≡ 0 }
         requires in_step { InStep self.old }
         ensures reads { Reads self.old self.new result }
         ensures nodes { self.new.nodes ≡ self.old.nodes }
         ensures pushed { OnOk result (values.new ≡ added (newest values.new.kids) values.old) }
         ensures leaf { OnOk result ((text : List ℕ) × (newest values.new.kids ≡ text_leaf text)) }
-        ensures own { OnOk result (Own place.entry.module.now place.entry.node.now (newest values.new.kids)) }
-        ensures gives { Gives (λ _. newest values.new.kids) result self.old self.new (kept_by place.entry.module.now begin (refs.resolve place.entry.module.now place.entry.node.now) (octets_at n)) }
+        ensures own { OnOk result (Own place.now.module.now place.now.node.now (newest values.new.kids)) }
+        ensures gives { Gives (λ _. newest values.new.kids) result self.old self.new (kept_by place.now.module.now begin (refs.resolve place.now.module.now place.now.node.now) (octets_at n)) }
     {
         let mut bytes = [0u8; ROOM];
         self.fill_few(&mut bytes, n)?;
@@ -93,22 +93,22 @@ impl<'a, S: Source, K: Origin, V: Variant> Run<'a, S, K, V> {
     #[inline(never)]
     fn long_text(
         &mut self,
-        place: Place<'_>,
+        place: &Place<'_>,
         begin: u64,
         first: Piece,
         values: &mut Builder<ValueLabel>,
     ) -> Result<(), PerEnd>
-        requires place { IsPlace 64 place }
+        requires place { IsPlace 64 place.now }
         requires piece { IsPiece first }
-        requires text { IsText (label_of (refs.resolve place.module.now place.node.now)).form }
+        requires text { IsText (label_of (refs.resolve place.now.module.now place.now.node.now)).form }
         requires aligned { V.ALIGNED ≡ true → self.old.bits.position % 8 ≡ 0 }
         requires in_step { InStep self.old }
         ensures reads { Reads self.old self.new result }
         ensures nodes { self.new.nodes ≡ self.old.nodes }
         ensures pushed { OnOk result (values.new ≡ added (newest values.new.kids) values.old) }
         ensures leaf { OnOk result ((text : List ℕ) × (newest values.new.kids ≡ text_leaf text)) }
-        ensures own { OnOk result (Own place.entry.module.now place.entry.node.now (newest values.new.kids)) }
-        ensures gives { Gives (λ _. newest values.new.kids) result self.old self.new (kept_by place.entry.module.now begin (refs.resolve place.entry.module.now place.entry.node.now) (octets_behind V.ALIGNED (piece_of first))) }
+        ensures own { OnOk result (Own place.now.module.now place.now.node.now (newest values.new.kids)) }
+        ensures gives { Gives (λ _. newest values.new.kids) result self.old self.new (kept_by place.now.module.now begin (refs.resolve place.now.module.now place.now.node.now) (octets_behind V.ALIGNED (piece_of first))) }
     {
         let octets = self.octets_behind(place.alloc, first)?;
         let end = self.position();
@@ -120,19 +120,19 @@ impl<'a, S: Source, K: Origin, V: Variant> Run<'a, S, K, V> {
 // the rules of its node. ASCII characters stay in place.
 #[inline(always)]
 fn few_octets(
-    place: Place<'_>,
+    place: &Place<'_>,
     octets: FewOctets<'_>,
     span: Span,
     stop: &mut Stop,
     values: &mut Builder<ValueLabel>,
 ) -> Result<(), PerEnd>
-    requires place { IsPlace 64 place }
-    requires text { IsText (label_of (refs.resolve place.module.now place.node.now)).form }
+    requires place { IsPlace 64 place.now }
+    requires text { IsText (label_of (refs.resolve place.now.module.now place.now.node.now)).form }
     ensures pushed { OnOk result (values.new ≡ added (text_leaf (take octets.entry.count octets.entry.bytes.now)) values.old) }
-    ensures ok { OnOk result (IsUtf8 (take octets.entry.count octets.entry.bytes.now) × Own place.entry.module.now place.entry.node.now (text_leaf (take octets.entry.count octets.entry.bytes.now))) }
+    ensures ok { OnOk result (IsUtf8 (take octets.entry.count octets.entry.bytes.now) × Own place.now.module.now place.now.node.now (text_leaf (take octets.entry.count octets.entry.bytes.now))) }
     ensures err { IfErr result (λ fault. (fault ≡ PerEnd.Memory)
         ⊎ ((fault ≡ PerEnd.Stopped) × (stop.new ≡ record { bit = span.begin; why = Why.NotUtf8; end = span.end }) × (IsUtf8 (take octets.entry.count octets.entry.bytes.now) → ⊥))
-        ⊎ ((fault ≡ PerEnd.Stopped) × (stop.new ≡ record { bit = span.begin; why = Why.NotAValue; end = span.end }) × IsUtf8 (take octets.entry.count octets.entry.bytes.now) × (Own place.entry.module.now place.entry.node.now (text_leaf (take octets.entry.count octets.entry.bytes.now)) → ⊥))) }
+        ⊎ ((fault ≡ PerEnd.Stopped) × (stop.new ≡ record { bit = span.begin; why = Why.NotAValue; end = span.end }) × IsUtf8 (take octets.entry.count octets.entry.bytes.now) × (Own place.now.module.now place.now.node.now (text_leaf (take octets.entry.count octets.entry.bytes.now)) → ⊥))) }
 {
     let bytes = octets.bytes;
     match Text::of_ascii(*bytes, octets.count) {
@@ -150,19 +150,19 @@ fn few_octets(
 // Appends the text of these octets, which are copied.
 #[inline(never)]
 fn copied_text(
-    place: Place<'_>,
+    place: &Place<'_>,
     octets: &[u8],
     span: Span,
     stop: &mut Stop,
     values: &mut Builder<ValueLabel>,
 ) -> Result<(), PerEnd>
-    requires place { IsPlace 64 place }
-    requires text { IsText (label_of (refs.resolve place.module.now place.node.now)).form }
+    requires place { IsPlace 64 place.now }
+    requires text { IsText (label_of (refs.resolve place.now.module.now place.now.node.now)).form }
     ensures pushed { OnOk result (values.new ≡ added (text_leaf octets.now) values.old) }
-    ensures ok { OnOk result (IsUtf8 octets.now × Own place.entry.module.now place.entry.node.now (text_leaf octets.now)) }
+    ensures ok { OnOk result (IsUtf8 octets.now × Own place.now.module.now place.now.node.now (text_leaf octets.now)) }
     ensures err { IfErr result (λ fault. (fault ≡ PerEnd.Memory)
         ⊎ ((fault ≡ PerEnd.Stopped) × (stop.new ≡ record { bit = span.begin; why = Why.NotUtf8; end = span.end }) × (IsUtf8 octets.now → ⊥))
-        ⊎ ((fault ≡ PerEnd.Stopped) × (stop.new ≡ record { bit = span.begin; why = Why.NotAValue; end = span.end }) × IsUtf8 octets.now × (Own place.entry.module.now place.entry.node.now (text_leaf octets.now) → ⊥))) }
+        ⊎ ((fault ≡ PerEnd.Stopped) × (stop.new ≡ record { bit = span.begin; why = Why.NotAValue; end = span.end }) × IsUtf8 octets.now × (Own place.now.module.now place.now.node.now (text_leaf octets.now) → ⊥))) }
 {
     match Text::of(place.alloc, octets) {
         Ok(text) => owned_text(place, text, span, stop, values),
@@ -173,18 +173,18 @@ fn copied_text(
 
 // Appends a text that was read from a bit to another, if it follows the rules of its node.
 fn owned_text(
-    place: Place<'_>,
+    place: &Place<'_>,
     text: Text,
     span: Span,
     stop: &mut Stop,
     values: &mut Builder<ValueLabel>,
 ) -> Result<(), PerEnd>
-    requires place { IsPlace 64 place }
-    requires text { IsText (label_of (refs.resolve place.module.now place.node.now)).form }
+    requires place { IsPlace 64 place.now }
+    requires text { IsText (label_of (refs.resolve place.now.module.now place.now.node.now)).form }
     ensures pushed { OnOk result (values.new ≡ added (text_leaf text) values.old) }
-    ensures ok { OnOk result (Own place.entry.module.now place.entry.node.now (text_leaf text)) }
+    ensures ok { OnOk result (Own place.now.module.now place.now.node.now (text_leaf text)) }
     ensures err { IfErr result (λ fault. (fault ≡ PerEnd.Memory)
-        ⊎ ((fault ≡ PerEnd.Stopped) × (stop.new ≡ record { bit = span.begin; why = Why.NotAValue; end = span.end }) × (Own place.entry.module.now place.entry.node.now (text_leaf text) → ⊥))) }
+        ⊎ ((fault ≡ PerEnd.Stopped) × (stop.new ≡ record { bit = span.begin; why = Why.NotAValue; end = span.end }) × (Own place.now.module.now place.now.node.now (text_leaf text) → ⊥))) }
 {
     if keeps_rules(place.module, place.found, &text) {
         values.leaf(ValueLabel::Utf8(text))?;

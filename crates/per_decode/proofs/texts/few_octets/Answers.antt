@@ -6,6 +6,6 @@ use Rattle.per_decode.proofs.texts.few_octets.Goals as goal
 
 pub is_plain-requires : goal.is_plain-requires
 is_plain-requires c =
-    let M = c.args.place.module.now in
-    let t = c.args.place.node.now in
+    let M = c.args.place.now.module.now in
+    let t = c.args.place.now.node.now in
     subst (AreWellFormed M) (sym c.requires.place.resolved) (well-formed M (resolve M t) c.requires.place.known.0 (resolved-of-module M t c.requires.place.of))

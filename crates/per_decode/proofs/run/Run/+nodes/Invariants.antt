@@ -10,43 +10,43 @@ use Rattle.per_decode.proofs.Loop.{with_front, Through}
 use Rattle.per_decode.proofs.run.Run.+nodes.Given as goal
 
 abbrev pub decreases-node : goal.decreases-node
-decreases-node g l = 10 * needs l.place.module.now l.place.depth l.place.found.now + 9
+decreases-node g l = 10 * needs l.place.now.module.now l.place.now.depth l.place.now.found.now + 9
 
 abbrev pub decreases-body : goal.decreases-body
-decreases-body g l = 10 * needs l.place.module.now l.place.depth l.place.found.now + 8
+decreases-body g l = 10 * needs l.place.now.module.now l.place.now.depth l.place.now.found.now + 8
 
 abbrev pub decreases-ruled : goal.decreases-ruled
-decreases-ruled g l = 10 * needs l.place.module.now l.place.depth l.place.found.now + 7
+decreases-ruled g l = 10 * needs l.place.now.module.now l.place.now.depth l.place.now.found.now + 7
 
 abbrev pub decreases-fields : goal.decreases-fields
-decreases-fields g l = 10 * needs l.place.module.now l.place.depth l.place.found.now + 6
+decreases-fields g l = 10 * needs l.place.now.module.now l.place.now.depth l.place.now.found.now + 6
 
 abbrev pub decreases-sequence : goal.decreases-sequence
-decreases-sequence g l = 10 * levels_needed l.place.module.now l.place.depth l.place.found.now + 5
+decreases-sequence g l = 10 * levels_needed l.place.now.module.now l.place.now.depth l.place.now.found.now + 5
 
 abbrev pub decreases-components : goal.decreases-components
-decreases-components g l = 10 * levels_needed l.place.module.now l.place.depth l.place.found.now + 4
+decreases-components g l = 10 * levels_needed l.place.now.module.now l.place.now.depth l.place.now.found.now + 4
 
 abbrev pub decreases-component : goal.decreases-component
-decreases-component g l = 10 * needs l.part.place.module.now l.part.place.depth l.part.place.found.now + 11
+decreases-component g l = 10 * needs l.part.now.place.module.now l.part.now.place.depth l.part.now.place.found.now + 11
 
 abbrev pub decreases-standard : goal.decreases-standard
-decreases-standard g l = 10 * needs l.part.place.module.now l.part.place.depth l.part.place.found.now + 10
+decreases-standard g l = 10 * needs l.part.now.place.module.now l.part.now.place.depth l.part.now.place.found.now + 10
 
 abbrev pub decreases-choice : goal.decreases-choice
-decreases-choice g l = 10 * levels_needed l.place.module.now l.place.depth l.place.found.now + 5
+decreases-choice g l = 10 * levels_needed l.place.now.module.now l.place.now.depth l.place.now.found.now + 5
 
 abbrev pub decreases-sequence_of : goal.decreases-sequence_of
-decreases-sequence_of g l = 10 * levels_needed l.place.module.now l.place.depth l.place.found.now + 5
+decreases-sequence_of g l = 10 * levels_needed l.place.now.module.now l.place.now.depth l.place.now.found.now + 5
 
 abbrev pub decreases-list : goal.decreases-list
-decreases-list g l = 10 * levels_needed l.place.module.now l.place.depth l.place.node.now + 12
+decreases-list g l = 10 * levels_needed l.place.now.module.now l.place.now.depth l.place.now.node.now + 12
 
 abbrev pub decreases-fragments : goal.decreases-fragments
-decreases-fragments g l = 10 * levels_needed l.place.module.now l.place.depth l.place.node.now + 11
+decreases-fragments g l = 10 * levels_needed l.place.now.module.now l.place.now.depth l.place.now.node.now + 11
 
 abbrev pub decreases-items : goal.decreases-items
-decreases-items g l = 10 * levels_needed l.place.module.now l.place.depth l.place.node.now + 10
+decreases-items g l = 10 * levels_needed l.place.now.module.now l.place.now.depth l.place.now.node.now + 10
 
 abbrev pub invariant-components-parts : goal.invariant-components-parts
 invariant-components-parts g l = record {

@@ -16,7 +16,7 @@ returns-in_err-fill_few-clause-gives g c = λ told.
     let p = err_from_is_err_and c.from_residual.result c.from_residual.ensures.1 in
     let old = c.args.self.now in
     let i = stands_inside old.bits.position old.bits.taken old.bits.held old.bits.limit g.K.Origin.limit g.K.Origin.whole _ old.limited old.bits.behind old.bits.within (old.here told) in
-    rw (p.1, p.2) (kept_fails c.args.place.module.now c.args.begin (resolve c.args.place.module.now c.args.place.node.now) (octets_at c.args.n) (sits-octets c.args.n) (input g.K.Origin.limit g.K.Origin.whole) (spot old.bits.position old.nodes) g.K.Origin.limit g.K.Origin.whole (halt_of c.in_err-fill_few.field-0.0 c.fill_few.new.self.stop) c.fill_few.new.self.bits.taken i (c.in_err-fill_few.ensures.gives told))
+    rw (p.1, p.2) (kept_fails c.args.place.now.module.now c.args.begin (resolve c.args.place.now.module.now c.args.place.now.node.now) (octets_at c.args.n) (sits-octets c.args.n) (input g.K.Origin.limit g.K.Origin.whole) (spot old.bits.position old.nodes) g.K.Origin.limit g.K.Origin.whole (halt_of c.in_err-fill_few.field-0.0 c.fill_few.new.self.stop) c.fill_few.new.self.bits.taken i (c.in_err-fill_few.ensures.gives told))
 
 pub returns-clause-pushed : goal.returns-clause-pushed
 returns-clause-pushed g c = pushed-told c.few_octets.result _ _ _ c.few_octets.ensures.pushed
@@ -25,14 +25,14 @@ pub returns-clause-leaf : goal.returns-clause-leaf
 returns-clause-leaf g c = on_ok_weaker c.few_octets.result (λ h. (_, h)) (newest-told c.few_octets.result _ _ _ c.few_octets.ensures.pushed)
 
 pub returns-clause-own : goal.returns-clause-own
-returns-clause-own g c = newest-has (λ v. Own c.args.place.module.now c.args.place.node.now v) c.few_octets.result _ _ (newest-told c.few_octets.result _ _ _ c.few_octets.ensures.pushed) (on_ok_weaker c.few_octets.result (λ h. h.1) c.few_octets.ensures.ok)
+returns-clause-own g c = newest-has (λ v. Own c.args.place.now.module.now c.args.place.now.node.now v) c.few_octets.result _ _ (newest-told c.few_octets.result _ _ _ c.few_octets.ensures.pushed) (on_ok_weaker c.few_octets.result (λ h. h.1) c.few_octets.ensures.ok)
 
 pub returns-clause-gives : goal.returns-clause-gives
 returns-clause-gives g c = λ told.
     let old = c.args.self.now in
     let new = c.fill_few.new.self in
-    let M = c.args.place.module.now in
-    let t = c.args.place.node.now in
+    let M = c.args.place.now.module.now in
+    let t = c.args.place.now.node.now in
     subst (Shows g.K.Origin.limit g.K.Origin.whole (λ _. newest c.few_octets.new.values.kids) c.few_octets.result (spot new.bits.position new.nodes) c.few_octets.new.stop new.bits.taken)
     (sym (kept_read M c.args.begin (resolve M t) (octets_at c.args.n) (input g.K.Origin.limit g.K.Origin.whole) (spot old.bits.position old.nodes) _ (spot new.bits.position new.nodes) (c.in_ok-fill_few.ensures.gives told)))
     (text_shows M c.requires.place.known c.args.begin t c.requires.place.of _ (spot new.bits.position new.nodes) g.K.Origin.limit g.K.Origin.whole c.few_octets.new.stop new.bits.taken (newest c.few_octets.new.values.kids) c.few_octets.result

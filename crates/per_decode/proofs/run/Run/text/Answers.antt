@@ -16,7 +16,7 @@ returns-in_err-piece-clause-gives g c = λ told.
     let p = err_from_is_err_and c.from_residual.result c.from_residual.ensures.1 in
     let old = c.args.self.now in
     let i = stands_inside old.bits.position old.bits.taken old.bits.held old.bits.limit g.K.Origin.limit g.K.Origin.whole _ old.limited old.bits.behind old.bits.within (old.here told) in
-    rw (p.1, p.2) (count_fails c.args.place.module.now c.args.begin (resolve c.args.place.module.now c.args.place.node.now) g.V.Variant.ALIGNED (input g.K.Origin.limit g.K.Origin.whole) (spot old.bits.position old.nodes) i g.K.Origin.limit g.K.Origin.whole (halt_of c.in_err-piece.field-0.0 c.count.new.self.stop) c.count.new.self.bits.taken (c.in_err-piece.ensures.gives told))
+    rw (p.1, p.2) (count_fails c.args.place.now.module.now c.args.begin (resolve c.args.place.now.module.now c.args.place.now.node.now) g.V.Variant.ALIGNED (input g.K.Origin.limit g.K.Origin.whole) (spot old.bits.position old.nodes) i g.K.Origin.limit g.K.Origin.whole (halt_of c.in_err-piece.field-0.0 c.count.new.self.stop) c.count.new.self.bits.taken (c.in_err-piece.ensures.gives told))
 
 pub returns-in-Last-clause-gives : goal.returns-in-Last-clause-gives
 returns-in-Last-clause-gives g c = λ told.
@@ -24,7 +24,7 @@ returns-in-Last-clause-gives g c = λ told.
     let mid = c.count.new.self in
     let i = stands_inside old.bits.position old.bits.taken old.bits.held old.bits.limit g.K.Origin.limit g.K.Origin.whole _ old.limited old.bits.behind old.bits.within (old.here told) in
     shows_as g.K.Origin.limit g.K.Origin.whole (λ _. newest c.short_text.new.values.kids) c.short_text.result _ _ _ _ _
-    (count_reads c.args.place.module.now c.args.begin (resolve c.args.place.module.now c.args.place.node.now) g.V.Variant.ALIGNED (input g.K.Origin.limit g.K.Origin.whole) (spot old.bits.position old.nodes) i (Last c.in-Last.n) (spot mid.bits.position mid.nodes) (rw c.in-Last.is at (c.in_ok-piece.ensures.gives told)))
+    (count_reads c.args.place.now.module.now c.args.begin (resolve c.args.place.now.module.now c.args.place.now.node.now) g.V.Variant.ALIGNED (input g.K.Origin.limit g.K.Origin.whole) (spot old.bits.position old.nodes) i (Last c.in-Last.n) (spot mid.bits.position mid.nodes) (rw c.in-Last.is at (c.in_ok-piece.ensures.gives told)))
     (c.short_text.ensures.gives told)
 
 pub returns-in_default-clause-gives : goal.returns-in_default-clause-gives
@@ -37,6 +37,6 @@ returns-in_default-clause-gives g c = λ told.
       | in_default-via-in_default w ↦ w.piece-is
     ] in
     shows_as g.K.Origin.limit g.K.Origin.whole (λ _. newest c.long_text.new.values.kids) c.long_text.result _ _ _ _ _
-    (count_reads c.args.place.module.now c.args.begin (resolve c.args.place.module.now c.args.place.node.now) g.V.Variant.ALIGNED (input g.K.Origin.limit g.K.Origin.whole) (spot old.bits.position old.nodes) i (piece_of c.in_default.piece) (spot mid.bits.position mid.nodes)
+    (count_reads c.args.place.now.module.now c.args.begin (resolve c.args.place.now.module.now c.args.place.now.node.now) g.V.Variant.ALIGNED (input g.K.Origin.limit g.K.Origin.whole) (spot old.bits.position old.nodes) i (piece_of c.in_default.piece) (spot mid.bits.position mid.nodes)
     (c.in_ok-piece.ensures.gives told ∙ ap (λ p. Ok (piece_of p, spot mid.bits.position mid.nodes)) (sym same)))
     (c.long_text.ensures.gives told)
