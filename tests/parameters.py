@@ -23,10 +23,6 @@ MORE_PARAMETERS = {
         "transcode_core": ["answer", "send", "serve_prepared", "serve_mapped", "serve_task"],
         "people_results": ["answer_counted"],
     },
-    "what an encoder has at each node isn't a struct yet": {
-        "der_encode": ["put_parts", "put_node"],
-        "per_encode": ["put_list"],
-    },
     "the place of a part in a module's text isn't a struct yet": {
         "module_check": ["is_near", "part_front_fault", "behind_fault", "judged_fault", "part_fault", "mark_stands"],
         "module_parse": ["ended_part", "part"],

@@ -3,7 +3,7 @@ ghost use Rattle.std.specs.Prelude.{◌≡◌, IfOk};
 ghost use Rattle.asn_values.specs.Values.{In};
 ghost use Rattle.der_fields.specs.Encoding.{distinguished};
 
-use crate::nodes::put_node;
+use crate::nodes::{Encoding, put_node};
 use asn_types::Module;
 use base_texts::Memory;
 use simple_types::Value;
@@ -19,7 +19,7 @@ pub fn encode_der(alloc: Global, module: &Module, t: u32, value: &Value) -> Resu
     let mut back = Vec::new(alloc);
     let body = module.assignment(t).body.root();
     let root = value.root();
-    put_node(alloc, &mut back, module, None, body, &root)?;
+    put_node(Encoding { alloc, module }, &mut back, None, body, &root)?;
     back.reverse();
     Ok(back)
 }

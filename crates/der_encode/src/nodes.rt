@@ -13,6 +13,13 @@ use der_fields::{is_constructed, universal_identifier};
 use simple_types::ValueLabel;
 use std::alloc::Global;
 
+/// What each node of a value is written with: the allocator, and the module of its type.
+#[derive(Clone, Copy)]
+pub(crate) struct Encoding<'a> {
+    pub(crate) alloc: Global,
+    pub(crate) module: &'a Module,
+}
+
 // Returns the children of a value as a list. A tree gives them only from the first to the last, and the last is needed first. Each
 // node is in one such list, so the time of all lists is linear in the nodes.
 fn kids_of<'a>(
@@ -72,15 +79,14 @@ fn item_number(form: &Form, i: u32) -> i128
 // Writes the components of a SEQUENCE that are present, the last first.
 #[cycle(encoding)]
 fn put_parts(
-    alloc: Global,
+    encoding: Encoding<'_>,
     back: &mut Vec<u8>,
-    module: &Module,
     types: &[Tree<TypeLabel>],
     present: &[bool],
     mut kids: Vec<Node<'_, ValueLabel>>,
 ) -> Result<(), Memory>
-    requires { PartsFit module.now types.now present.now kids.items }
-    ensures { OnOk result (back.new.items ≡ back.old.items ++ reverse (parts_octets module.now 0 types.now present.now kids.entry.items)) }
+    requires { PartsFit encoding.module.now types.now present.now kids.items }
+    ensures { OnOk result (back.new.items ≡ back.old.items ++ reverse (parts_octets encoding.entry.module.now 0 types.now present.now kids.entry.items)) }
 {
     let mut i = present.len();
     'parts: while 0 < i {
@@ -89,7 +95,7 @@ fn put_parts(
             let Some(kid) = kids.pop() else {
                 unreachable!();
             };
-            put_node(alloc, back, module, Some(i), &types[i], &kid)?;
+            put_node(encoding, back, Some(i), &types[i], &kid)?;
         }
     }
     Ok(())
@@ -98,17 +104,16 @@ fn put_parts(
 // Writes items, the last first.
 #[cycle(encoding)]
 fn put_items(
-    alloc: Global,
+    encoding: Encoding<'_>,
     back: &mut Vec<u8>,
-    module: &Module,
     item: &Tree<TypeLabel>,
     mut kids: Vec<Node<'_, ValueLabel>>,
 ) -> Result<(), Memory>
-    requires { ItemsFit module.now item.now kids.items }
-    ensures { OnOk result (back.new.items ≡ back.old.items ++ reverse (items_octets module.now item.now kids.entry.items)) }
+    requires { ItemsFit encoding.module.now item.now kids.items }
+    ensures { OnOk result (back.new.items ≡ back.old.items ++ reverse (items_octets encoding.entry.module.now item.now kids.entry.items)) }
 {
     'items: while let Some(kid) = kids.pop() {
-        put_node(alloc, back, module, None, item, &kid)?;
+        put_node(encoding, back, None, item, &kid)?;
     }
     Ok(())
 }
@@ -116,14 +121,13 @@ fn put_items(
 // Writes the contents of a value of a type that is not a reference (clauses 8.2 to 8.4, 8.9, 8.10, 8.13 and 8.23).
 #[cycle(encoding)]
 fn put_contents(
-    alloc: Global,
+    encoding: Encoding<'_>,
     back: &mut Vec<u8>,
-    module: &Module,
     node: &Tree<TypeLabel>,
     value: &Node<'_, ValueLabel>,
 ) -> Result<(), Memory>
-    requires { KidsFit module.now node.now value.now }
-    ensures { OnOk result (back.new.items ≡ back.old.items ++ reverse (resolved_octets module.now node.now value.now)) }
+    requires { KidsFit encoding.module.now node.now value.now }
+    ensures { OnOk result (back.new.items ≡ back.old.items ++ reverse (resolved_octets encoding.entry.module.now node.now value.now)) }
 {
     match value.label() {
         ValueLabel::Bool(b) => {
@@ -134,18 +138,18 @@ fn put_contents(
         ValueLabel::Enum(i) => put_signed(back, item_number(&node.label().form, *i)),
         ValueLabel::Utf8(text) => put_text(back, text.bytes()),
         ValueLabel::Sequence { present } => {
-            let kids = kids_of(alloc, value)?;
-            put_parts(alloc, back, module, node.kids(), present.items(), kids)
+            let kids = kids_of(encoding.alloc, value)?;
+            put_parts(encoding, back, node.kids(), present.items(), kids)
         }
         ValueLabel::Choice(i) => {
             let alternative = node.kid(*i as usize);
             let inner = value.kid(0);
-            put_node(alloc, back, module, Some(*i as usize), alternative, &inner)
+            put_node(encoding, back, Some(*i as usize), alternative, &inner)
         }
         ValueLabel::SequenceOf => {
             let item = node.kid(0);
-            let kids = kids_of(alloc, value)?;
-            put_items(alloc, back, module, item, kids)
+            let kids = kids_of(encoding.alloc, value)?;
+            put_items(encoding, back, item, kids)
         }
     }
 }
@@ -153,20 +157,19 @@ fn put_contents(
 /// Writes the octets of a value of the type, or of the type that its references reach, with this tag or without one.
 #[cycle(encoding)]
 pub(crate) fn put_node(
-    alloc: Global,
+    encoding: Encoding<'_>,
     back: &mut Vec<u8>,
-    module: &Module,
     tag: Option<usize>,
     node: &Tree<TypeLabel>,
     value: &Node<'_, ValueLabel>,
 ) -> Result<(), Memory>
-    requires { FitsSomewhere module.now node.now value.now }
-    ensures { OnOk result (back.new.items ≡ back.old.items ++ reverse (der module.now tag node.now value.now)) }
+    requires { FitsSomewhere encoding.module.now node.now value.now }
+    ensures { OnOk result (back.new.items ≡ back.old.items ++ reverse (der encoding.entry.module.now tag node.now value.now)) }
 {
-    let found = resolve(module, node);
+    let found = resolve(encoding.module, node);
     let form = &found.label().form;
     let before = back.len();
-    put_contents(alloc, back, module, found, value)?;
+    put_contents(encoding, back, found, value)?;
     if is_open(tag, form) {
         return Ok(());
     }

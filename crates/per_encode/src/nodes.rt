@@ -21,6 +21,13 @@ use base_trees::Tree;
 use per_fields::Variant;
 use simple_types::ValueLabel;
 
+// The least and the greatest number of items of a SEQUENCE OF.
+#[derive(Clone, Copy)]
+struct Sizes {
+    min: u32,
+    max: Option<u32>,
+}
+
 // Writes the components of a SEQUENCE that are present.
 #[cycle(encoding)]
 fn put_parts<V: Variant>(
@@ -100,16 +107,16 @@ fn put_list<V: Variant>(
     sink: &mut BitSink,
     module: &Module,
     node: &Tree<TypeLabel>,
-    min: u32,
-    max: Option<u32>,
+    sizes: Sizes,
     value: &Node<'_, ValueLabel>,
 ) -> Result<(), Memory>
-    requires least { min ≤ length (kids_of value.now) }
-    requires most { is_at_most (length (kids_of value.now)) max ≡ true }
+    requires least { sizes.min ≤ length (kids_of value.now) }
+    requires most { is_at_most (length (kids_of value.now)) sizes.max ≡ true }
     requires fit { AllOf (FitsSomewhere module.now node.now) (kids_of value.now) }
-    ensures { OnOk result (sink.new ≡ sink.old ++ list_bits V.ALIGNED min max (map (per V.ALIGNED module.now node.now) (kids_of value.now)) (length sink.old)) }
+    ensures { OnOk result (sink.new ≡ sink.old ++ list_bits V.ALIGNED sizes.min sizes.max (map (per V.ALIGNED module.now node.now) (kids_of value.now)) (length sink.old)) }
 {
     let values = value.kids();
+    let Sizes { min, max } = sizes;
     match max {
         Some(max) if max < 65_536 => {
             let count = values.len();
@@ -215,8 +222,11 @@ fn put_content<V: Variant>(
         Form::Choice { parts } => put_choice::<V>(sink, module, node, parts, value),
         Form::SequenceOf { min, max, .. } => match label {
             ValueLabel::SequenceOf => {
-                let item = node.kid(0);
-                put_list::<V>(sink, module, item, *min, *max, value)
+                let sizes = Sizes {
+                    min: *min,
+                    max: *max,
+                };
+                put_list::<V>(sink, module, node.kid(0), sizes, value)
             }
             _ => unreachable!(),
         },

@@ -18,11 +18,11 @@ use Rattle.der_encode.proofs.nodes.+encoding.Goals as goal
 pub put_node-put_contents-requires : goal.put_node-put_contents-requires
 put_node-put_contents-requires t c =
     let d = c.decreases in
-    (omega (arith, d), subst (λ u. KidsFit c.args.module.now u c.args.value.now) (sym c.resolve-found.ensures) (kids_fit c.args.module.now c.args.node.now c.args.value.now c.requires))
+    (omega (arith, d), subst (λ u. KidsFit c.args.encoding.module.now u c.args.value.now) (sym c.resolve-found.ensures) (kids_fit c.args.encoding.module.now c.args.node.now c.args.value.now c.requires))
 
 pub put_node-returns-then-is_open : goal.put_node-returns-then-is_open
 put_node-returns-then-is_open t c =
-    let M = c.args.module.now in
+    let M = c.args.encoding.module.now in
     let tag = c.args.tag in
     let v = c.args.value.now in
     let old = c.args.back.now.items in
@@ -34,7 +34,7 @@ put_node-returns-then-is_open t c =
 
 pub put_node-returns : goal.put_node-returns
 put_node-returns t c =
-    let M = c.args.module.now in
+    let M = c.args.encoding.module.now in
     let tag = c.args.tag in
     let v = c.args.value.now in
     let old = c.args.back.now in
@@ -55,7 +55,7 @@ put_node-returns t c =
 
 pub put_parts-parts-init : goal.put_parts-parts-init
 put_parts-parts-init t c =
-    let M = c.args.module.now in
+    let M = c.args.encoding.module.now in
     let ts = c.args.types.now in
     let flags = c.args.present.now in
     let vs = c.args.kids.items in
@@ -69,13 +69,13 @@ put_parts-parts-init t c =
 
 pub put_parts-bounds-types-i : goal.put_parts-bounds-types-i
 put_parts-bounds-types-i t c =
-    let k = taken c.args.module.now c.args.types.now c.args.present.now c.parts.i c.parts-test.true c.parts.invariant.within c.if-present-i.true
+    let k = taken c.args.encoding.module.now c.args.types.now c.args.present.now c.parts.i c.parts-test.true c.parts.invariant.within c.if-present-i.true
     c.parts.kids.items c.pop.new.self.items c.in-Some.kid c.in-Some.ensures.items c.parts.invariant.fit in
     omega (arith, k.within)
 
 pub put_parts-offset_bounds-types-i : goal.put_parts-offset_bounds-types-i
 put_parts-offset_bounds-types-i t c =
-    let k = taken c.args.module.now c.args.types.now c.args.present.now c.parts.i c.parts-test.true c.parts.invariant.within c.if-present-i.true
+    let k = taken c.args.encoding.module.now c.args.types.now c.args.present.now c.parts.i c.parts-test.true c.parts.invariant.within c.if-present-i.true
     c.parts.kids.items c.pop.new.self.items c.in-Some.kid c.in-Some.ensures.items c.parts.invariant.fit in
     let within = k.within in
     omega (arith, within)
@@ -86,19 +86,19 @@ put_parts-put_node-requires t c =
     let ws = c.pop.new.self.items in
     let w = c.in-Some.kid in
     let e = c.in-Some.ensures.items in
-    let k = taken c.args.module.now c.args.types.now c.args.present.now c.parts.i c.parts-test.true c.parts.invariant.within c.if-present-i.true vs ws w e c.parts.invariant.fit in
+    let k = taken c.args.encoding.module.now c.args.types.now c.args.present.now c.parts.i c.parts-test.true c.parts.invariant.within c.if-present-i.true vs ws w e c.parts.invariant.fit in
     let n = count_front vs ws w e in
     let d = c.decreases in
-    (omega (arith, d, c.parts.invariant.fewer, n.1), subst (λ x. FitsSomewhere c.args.module.now x w) (sym (c.index-types-i.is ∙ k.here c.index-types-i.result)) k.fits)
+    (omega (arith, d, c.parts.invariant.fewer, n.1), subst (λ x. FitsSomewhere c.args.encoding.module.now x w) (sym (c.index-types-i.is ∙ k.here c.index-types-i.result)) k.fits)
 
 pub put_parts-unreachable-requires : goal.put_parts-unreachable-requires
 put_parts-unreachable-requires t c =
-    is_left c.args.module.now c.args.types.now c.args.present.now c.parts.i c.parts-test.true c.parts.invariant.within c.if-present-i.true c.parts.kids.items
+    is_left c.args.encoding.module.now c.args.types.now c.args.present.now c.parts.i c.parts-test.true c.parts.invariant.within c.if-present-i.true c.parts.kids.items
     (nothing c.parts.kids.items (omega (arith, c.in_default.ensures.cases.0, c.parts.kids.ok.0))) c.parts.invariant.fit
 
 pub put_parts-parts-preserved-in-Continue-1 : goal.put_parts-parts-preserved-in-Continue-1
 put_parts-parts-preserved-in-Continue-1 t c =
-    let M = c.args.module.now in
+    let M = c.args.encoding.module.now in
     let ts = c.args.types.now in
     let flags = c.args.present.now in
     let i = c.parts.i in
@@ -121,7 +121,7 @@ put_parts-parts-preserved-in-Continue-1 t c =
 
 pub put_parts-parts-preserved : goal.put_parts-parts-preserved
 put_parts-parts-preserved t c =
-    let M = c.args.module.now in
+    let M = c.args.encoding.module.now in
     let ts = c.args.types.now in
     let flags = c.args.present.now in
     let k = passed M ts flags c.parts.i c.parts-test.true c.parts.invariant.within c.if-present-i.false c.parts.kids.items c.parts.invariant.fit in
@@ -134,7 +134,7 @@ put_parts-parts-preserved t c =
 
 pub put_parts-returns : goal.put_parts-returns
 put_parts-returns t c =
-    let M = c.args.module.now in
+    let M = c.args.encoding.module.now in
     let ts = c.args.types.now in
     let flags = c.args.present.now in
     let i = c.parts.i in
@@ -145,7 +145,7 @@ put_parts-returns t c =
 
 pub put_items-put_node-requires : goal.put_items-put_node-requires
 put_items-put_node-requires t c =
-    let M = c.args.module.now in
+    let M = c.args.encoding.module.now in
     let item = c.args.item.now in
     let vs = c.items.kids.items in
     let ws = c.pop.new.self.items in
@@ -158,7 +158,7 @@ put_items-put_node-requires t c =
 
 pub put_items-items-preserved : goal.put_items-items-preserved
 put_items-items-preserved t c =
-    let M = c.args.module.now in
+    let M = c.args.encoding.module.now in
     let item = c.args.item.now in
     let vs = c.items.kids.items in
     let ws = c.pop.new.self.items in
@@ -176,7 +176,7 @@ put_items-items-preserved t c =
 
 pub put_items-returns : goal.put_items-returns
 put_items-returns t c =
-    let M = c.args.module.now in
+    let M = c.args.encoding.module.now in
     let item = c.args.item.now in
     let vs = c.items.kids.items in
     let none = nothing vs (omega (arith, c.in_default.ensures.cases.0, c.items.kids.ok.0)) in
@@ -190,13 +190,13 @@ put_contents-returns-in_ok-push-in-Bool t c =
     let b = c.in-Bool.b in
     let is : label_of v ≡ value.Bool b = sym c.label.ensures ∙ c.in-Bool.is in
     let put : c.push.new.self.items ≡ old ++ (c.bool_octet.result ∷ []) = c.in_ok-push-in-Bool.ensures.items in
-    let all : c.bool_octet.result ∷ [] ≡ reverse (resolved_octets c.args.module.now u v) =
-    ap (λ x. x ∷ []) c.bool_octet.ensures ∙ sym (ap reverse (seen_as c.args.module.now u v (value.Bool b) is)) in
+    let all : c.bool_octet.result ∷ [] ≡ reverse (resolved_octets c.args.encoding.module.now u v) =
+    ap (λ x. x ∷ []) c.bool_octet.ensures ∙ sym (ap reverse (seen_as c.args.encoding.module.now u v (value.Bool b) is)) in
     put ∙ ap (λ octets. old ++ octets) all
 
 pub put_contents-returns-in-Int : goal.put_contents-returns-in-Int
 put_contents-returns-in-Int t c =
-    let M = c.args.module.now in
+    let M = c.args.encoding.module.now in
     let u = c.args.node.now in
     let v = c.args.value.now in
     let old = c.args.back.now.items in
@@ -212,11 +212,11 @@ put_contents-item_number-requires t c =
     let v = c.args.value.now in
     let i = c.in-Enum.i in
     let is : label_of v ≡ value.Enum i = sym c.label.ensures ∙ c.in-Enum.is in
-    subst (λ (l : TypeLabel). HasItem l.form i) (sym c.label-in-Enum.ensures) (enum_here c.args.module.now c.args.node.now v i is c.requires)
+    subst (λ (l : TypeLabel). HasItem l.form i) (sym c.label-in-Enum.ensures) (enum_here c.args.encoding.module.now c.args.node.now v i is c.requires)
 
 pub put_contents-returns-in-Enum : goal.put_contents-returns-in-Enum
 put_contents-returns-in-Enum t c =
-    let M = c.args.module.now in
+    let M = c.args.encoding.module.now in
     let u = c.args.node.now in
     let v = c.args.value.now in
     let old = c.args.back.now.items in
@@ -231,7 +231,7 @@ put_contents-returns-in-Enum t c =
 
 pub put_contents-returns-in-Utf8 : goal.put_contents-returns-in-Utf8
 put_contents-returns-in-Utf8 t c =
-    let M = c.args.module.now in
+    let M = c.args.encoding.module.now in
     let u = c.args.node.now in
     let v = c.args.value.now in
     let old = c.args.back.now.items in
@@ -241,7 +241,7 @@ put_contents-returns-in-Utf8 t c =
 
 pub put_contents-put_parts-requires : goal.put_contents-put_parts-requires
 put_contents-put_parts-requires t c =
-    let M = c.args.module.now in
+    let M = c.args.encoding.module.now in
     let u = c.args.node.now in
     let v = c.args.value.now in
     let flags = c.in-Sequence.present in
@@ -253,7 +253,7 @@ put_contents-put_parts-requires t c =
 
 pub put_contents-returns-in_ok-kids-in-Sequence : goal.put_contents-returns-in_ok-kids-in-Sequence
 put_contents-returns-in_ok-kids-in-Sequence t c =
-    let M = c.args.module.now in
+    let M = c.args.encoding.module.now in
     let u = c.args.node.now in
     let v = c.args.value.now in
     let old = c.args.back.now.items in
@@ -269,16 +269,16 @@ put_contents-returns-in_ok-kids-in-Sequence t c =
 pub put_contents-kid-alternative-requires : goal.put_contents-kid-alternative-requires
 put_contents-kid-alternative-requires t c =
     let is : label_of c.args.value.now ≡ value.Choice c.in-Choice.i = sym c.label.ensures ∙ c.in-Choice.is in
-    (choice_within c.args.module.now c.args.node.now c.args.value.now c.in-Choice.i is c.requires).0
+    (choice_within c.args.encoding.module.now c.args.node.now c.args.value.now c.in-Choice.i is c.requires).0
 
 pub put_contents-kid-inner-requires : goal.put_contents-kid-inner-requires
 put_contents-kid-inner-requires t c =
     let is : label_of c.args.value.now ≡ value.Choice c.in-Choice.i = sym c.label.ensures ∙ c.in-Choice.is in
-    (choice_within c.args.module.now c.args.node.now c.args.value.now c.in-Choice.i is c.requires).1
+    (choice_within c.args.encoding.module.now c.args.node.now c.args.value.now c.in-Choice.i is c.requires).1
 
 pub put_contents-put_node-requires : goal.put_contents-put_node-requires
 put_contents-put_node-requires t c =
-    let M = c.args.module.now in
+    let M = c.args.encoding.module.now in
     let u = c.args.node.now in
     let v = c.args.value.now in
     let i = c.in-Choice.i in
@@ -289,7 +289,7 @@ put_contents-put_node-requires t c =
 
 pub put_contents-returns-in-Choice : goal.put_contents-returns-in-Choice
 put_contents-returns-in-Choice t c =
-    let M = c.args.module.now in
+    let M = c.args.encoding.module.now in
     let u = c.args.node.now in
     let v = c.args.value.now in
     let old = c.args.back.now.items in
@@ -301,11 +301,11 @@ put_contents-returns-in-Choice t c =
 
 pub put_contents-kid-item-requires : goal.put_contents-kid-item-requires
 put_contents-kid-item-requires t c =
-    let is : label_of c.args.value.now ≡ value.SequenceOf = sym c.label.ensures ∙ c.in-SequenceOf.is in list_within c.args.module.now c.args.node.now c.args.value.now is c.requires
+    let is : label_of c.args.value.now ≡ value.SequenceOf = sym c.label.ensures ∙ c.in-SequenceOf.is in list_within c.args.encoding.module.now c.args.node.now c.args.value.now is c.requires
 
 pub put_contents-put_items-requires : goal.put_contents-put_items-requires
 put_contents-put_items-requires t c =
-    let M = c.args.module.now in
+    let M = c.args.encoding.module.now in
     let u = c.args.node.now in
     let v = c.args.value.now in
     let is : label_of v ≡ value.SequenceOf = sym c.label.ensures ∙ c.in-SequenceOf.is in
@@ -316,7 +316,7 @@ put_contents-put_items-requires t c =
 
 pub put_contents-returns-in_ok-kids-in-SequenceOf : goal.put_contents-returns-in_ok-kids-in-SequenceOf
 put_contents-returns-in_ok-kids-in-SequenceOf t c =
-    let M = c.args.module.now in
+    let M = c.args.encoding.module.now in
     let u = c.args.node.now in
     let v = c.args.value.now in
     let old = c.args.back.now.items in

@@ -17,7 +17,7 @@ decreases-put_items l = 3 * count_all (roses_of l.kids.items) + 2
 
 abbrev pub invariant-put_parts-parts : goal.invariant-put_parts-parts
 invariant-put_parts-parts l =
-    let M = l.«module» in
+    let M = l.encoding.module.now in
     record {
       within : l.i ≤ length l.present;
       fit : PartsFit M l.types (take l.i l.present) l.kids.items;
@@ -30,7 +30,7 @@ decreases-put_parts-parts l = l.i
 
 abbrev pub invariant-put_items-items : goal.invariant-put_items-items
 invariant-put_items-items l =
-    let M = l.«module» in
+    let M = l.encoding.module.now in
     record {
       fit : ItemsFit M l.item l.kids.items;
       whole : l.back.items ++ reverse (items_octets M l.item l.kids.items) ≡ l.fn.back.items ++ reverse (items_octets M l.item l.fn.kids.items);

@@ -104,7 +104,7 @@ put_content-put_list-requires g t c =
     let l = list_here g.V.Variant.ALIGNED M u v part least most is c.requires in
     let size = both (leb least (length (kids_of v))) (is_at_most (length (kids_of v)) most) l.size in
     let d = c.decreases in
-    (λ κs h. (omega (arith, d), (h, (leb-true least (length (kids_of v)) size.0, (size.1, list_item g.V.Variant.ALIGNED M u v part least most c.kid-item.result.now l c.kid-item.ensures)))))
+    (λ κs h. (omega (arith, d), (h, (leb-true least (length (kids_of v)) size.0, (size.1, list_item g.V.Variant.ALIGNED M u v part least most c.kid.result.now l c.kid.ensures)))))
 
 pub put_content-returns-in-Bool-label : goal.put_content-returns-in-Bool-label
 put_content-returns-in-Bool-label g t c =
@@ -219,10 +219,10 @@ put_content-returns-in-SequenceOf-label g t c =
     let least = c.in-SequenceOf.min in
     let most = c.in-SequenceOf.max in
     let is : Is g.V.Variant.ALIGNED M u v (form.SequenceOf part least most) value.SequenceOf = (ap (λ l. l.form) (sym c.label.ensures) ∙ c.in-SequenceOf.is, sym c.label-label.ensures ∙ c.in-SequenceOf-label.is) in
-    let item = c.kid-item.result.now in
+    let item = c.kid.result.now in
     let sink = c.args.sink.now in
     let p = length sink in
-    on_ok c.put_list.result (λ e. e ∙ ap (λ bs. sink ++ bs) (sym (list-bits g.V.Variant.ALIGNED M u v part least most item is c.requires c.kid-item.ensures p))) c.put_list.ensures
+    on_ok c.put_list.result (λ e. e ∙ ap (λ bs. sink ++ bs) (sym (list-bits g.V.Variant.ALIGNED M u v part least most item is c.requires c.kid.ensures p))) c.put_list.ensures
 
 pub put_items-put_node-requires : goal.put_items-put_node-requires
 put_items-put_node-requires g t c =
