@@ -65,28 +65,22 @@ fn counted(docs: &[RawDoc]) -> Result<(), LinkError>
 fn named(alloc: Global, docs: &[RawDoc]) -> Result<(), LinkError>
     ensures { AnswersPasses (map doc_of docs.now) (Naming ∷ []) result }
 {
-    match first_duplicate(alloc, docs) {
-        Ok(found) => unless(found),
-        Err(_) => Err(LinkError::Memory),
-    }
+    let found = first_duplicate(alloc, docs)?;
+    unless(found)
 }
 
 fn resolved(alloc: Global, docs: &[RawDoc]) -> Result<(), LinkError>
     ensures { AnswersPasses (map doc_of docs.now) (Resolving ∷ []) result }
 {
-    match first_unresolved(alloc, docs) {
-        Ok(found) => unless(found),
-        Err(_) => Err(LinkError::Memory),
-    }
+    let found = first_unresolved(alloc, docs)?;
+    unless(found)
 }
 
 fn ordered(alloc: Global, docs: &[RawDoc]) -> Result<(), LinkError>
     ensures { AnswersPasses (map doc_of docs.now) (Ordering ∷ []) result }
 {
-    match first_circular(alloc, docs) {
-        Ok(found) => unless(found),
-        Err(_) => Err(LinkError::Memory),
-    }
+    let found = first_circular(alloc, docs)?;
+    unless(found)
 }
 
 fn first_inconsistent(alloc: Global, docs: &[RawDoc]) -> Result<Option<LinkingFault>, Memory>
@@ -100,19 +94,15 @@ fn first_inconsistent(alloc: Global, docs: &[RawDoc]) -> Result<Option<LinkingFa
 fn compared(alloc: Global, docs: &[RawDoc]) -> Result<(), LinkError>
     ensures { AnswersPasses (map doc_of docs.now) (Comparing ∷ []) result }
 {
-    match first_inconsistent(alloc, docs) {
-        Ok(found) => unless(found),
-        Err(_) => Err(LinkError::Memory),
-    }
+    let found = first_inconsistent(alloc, docs)?;
+    unless(found)
 }
 
 fn cleared(alloc: Global, docs: &[RawDoc]) -> Result<(), LinkError>
     ensures { AnswersPasses (map doc_of docs.now) (Clearing ∷ []) result }
 {
-    match first_unclear(alloc, docs) {
-        Ok(found) => unless(found),
-        Err(_) => Err(LinkError::Memory),
-    }
+    let found = first_unclear(alloc, docs)?;
+    unless(found)
 }
 
 fn resolved_and_ordered(alloc: Global, docs: &[RawDoc]) -> Result<(), LinkError>
@@ -163,10 +153,8 @@ pub fn check_standards(alloc: Global, docs: &[RawDoc], simples: &[Simple]) -> Re
     requires sound { AreSound simples.now }
     ensures { AnswersPasses (map doc_of docs.now) (Valuing ∷ []) result }
 {
-    match first_misfit(alloc, docs, simples) {
-        Ok(found) => unless(found),
-        Err(_) => Err(LinkError::Memory),
-    }
+    let found = first_misfit(alloc, docs, simples)?;
+    unless(found)
 }
 
 /// Runs the passes over complex types. They find two attributes of one name in a type, two element particles of one name with

@@ -64,17 +64,14 @@ fn element_entries<'a>(
 ) -> Result<Vec<NamedPlace<'a>>, Memory>
     ensures { IfOk result (λ entries. entries_of entries.items ≡ map told.element_entry (elements_of elements.now)) }
 {
-    let mut entries = Vec::new(alloc);
-    'elements: for written in elements {
-        entries.push(NamedPlace {
-            name: Some(&written.element.name),
-            place: Place {
-                file: written.file,
-                at: written.element.at,
-            },
-        })?;
-    }
-    Ok(entries)
+    let entries = elements.iter().map(|written| NamedPlace {
+        name: Some(&written.element.name),
+        place: Place {
+            file: written.file,
+            at: written.element.at,
+        },
+    });
+    Ok(entries.collect(alloc)?)
 }
 
 fn simple_entries<'a>(
@@ -83,14 +80,11 @@ fn simple_entries<'a>(
 ) -> Result<Vec<NamedPlace<'a>>, Memory>
     ensures { IfOk result (λ entries. entries_of entries.items ≡ map told.simple_entry (simples_of types.now)) }
 {
-    let mut entries = Vec::new(alloc);
-    'types: for definition in types {
-        entries.push(NamedPlace {
-            name: definition.name,
-            place: definition.place,
-        })?;
-    }
-    Ok(entries)
+    let entries = types.iter().map(|definition| NamedPlace {
+        name: definition.name,
+        place: definition.place,
+    });
+    Ok(entries.collect(alloc)?)
 }
 
 fn complex_entries<'a>(
@@ -99,14 +93,11 @@ fn complex_entries<'a>(
 ) -> Result<Vec<NamedPlace<'a>>, Memory>
     ensures { IfOk result (λ entries. entries_of entries.items ≡ map told.complex_entry (complexes_of types.now)) }
 {
-    let mut entries = Vec::new(alloc);
-    'types: for definition in types {
-        entries.push(NamedPlace {
-            name: definition.name,
-            place: definition.place,
-        })?;
-    }
-    Ok(entries)
+    let entries = types.iter().map(|definition| NamedPlace {
+        name: definition.name,
+        place: definition.place,
+    });
+    Ok(entries.collect(alloc)?)
 }
 
 fn numbers_of_globals<'a>(

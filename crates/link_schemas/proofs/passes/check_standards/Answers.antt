@@ -7,7 +7,7 @@ use Rattle.link_schemas.proofs.passes.check_standards.Goals as goal
 pub first_misfit-requires-clause-acyclic : goal.first_misfit-requires-clause-acyclic
 first_misfit-requires-clause-acyclic c = c.requires.passed.1.1.1.0
 
-pub returns-in-Ok : goal.returns-in-Ok
-returns-in-Ok c =
+pub returns : goal.returns
+returns c =
     let docs = map doc_of c.args.docs.now in
-    alone docs Valuing c.in-Ok.found c.unless.result c.in-Ok.ensures c.unless.ensures
+    alone docs Valuing c.in_ok-found.found c.unless.result c.in_ok-found.ensures c.unless.ensures

@@ -4,7 +4,7 @@ use Rattle.link_schemas.specs.Passes.{Comparing}
 use Rattle.link_schemas.proofs.Passing.{alone}
 use Rattle.link_schemas.proofs.passes.compared.Goals as goal
 
-pub returns-in-Ok : goal.returns-in-Ok
-returns-in-Ok c =
+pub returns : goal.returns
+returns c =
     let docs = map doc_of c.args.docs.now in
-    alone docs Comparing c.in-Ok.found c.unless.result c.in-Ok.ensures c.unless.ensures
+    alone docs Comparing c.in_ok-found.found c.unless.result c.in_ok-found.ensures c.unless.ensures

@@ -6,7 +6,7 @@ use Rattle.link_schemas.specs.Passes.{Resolving}
 use Rattle.link_schemas.proofs.Passing.{alone}
 use Rattle.link_schemas.proofs.passes.resolved.Goals as goal
 
-pub returns-in-Ok : goal.returns-in-Ok
-returns-in-Ok c =
+pub returns : goal.returns
+returns c =
     let docs = map doc_of c.args.docs.now in
-    alone docs Resolving c.in-Ok.found c.unless.result (first_such (unresolved docs) c.in-Ok.found c.in-Ok.ensures) c.unless.ensures
+    alone docs Resolving c.in_ok-found.found c.unless.result (first_such (unresolved docs) c.in_ok-found.found c.in_ok-found.ensures) c.unless.ensures
