@@ -24,6 +24,7 @@ START = [
     ("transcode_cmd", "Runs", "Ends"),
     ("transcode_core", "Runs", "Runs"),
     ("transcode_core", "Requests/Answers", "Answers"),
+    ("transcode_core", "Agendas", "Begins"),
     ("transcode_words", "Asked", "IsWithin"),
     ("transcode_words", "AskedSeen", "asked_seen"),
     ("transcode_words", "Status", "status"),

@@ -4,9 +4,10 @@
 #![tactic(auto)]
 
 ghost use Rattle.std.specs.Prelude.{◌≡◌, ℕ, ◌<◌};
-ghost use Rattle.transcode_words.specs.Asked.{IsWithin};
+ghost use Rattle.transcode_words.specs.Asked.{IsWithin, files_of};
 ghost use Rattle.transcode_words.specs.AskedSeen.{asked_seen};
-ghost use Rattle.transcode_core.specs.Requests.Answers.{Answers};
+ghost use Rattle.transcode_core.specs.Agendas.{Begins};
+ghost use Rattle.transcode_core.specs.Requests.Answers.{Answers, environment_of};
 
 use base_texts::{Library, Sink, Source, Steps};
 use std::alloc::Global;
@@ -26,32 +27,13 @@ fn answer_counted<F: Library, S: Source, K: Sink, L: Ledger>(
     blank: Blank,
 ) -> Outcome
     requires within { IsWithin (asked_seen asked) }
+    requires named { Begins (F.agenda library.old) (files_of (asked_seen asked)) }
     requires name { blank.name ≡ L.name }
     requires parts { blank.parts ≡ L.parts }
     requires some { 0 < L.parts }
     ensures { (steps : ℕ) × Answers (asked_seen asked.entry)
-        (record {
-          entries = F.entries library.old;
-          is_sure = F.is_sure library.old;
-          left = S.left input.old;
-          written = K.written output.old;
-          room = K.free output.old;
-          load_faults = F.faults library.old;
-          read_faults = S.faults input.old;
-          write_faults = K.faults output.old;
-          steps = 0;
-        })
-        (record {
-          entries = F.entries library.new;
-          is_sure = F.is_sure library.new;
-          left = S.left input.new;
-          written = K.written output.new;
-          room = K.free output.new;
-          load_faults = F.faults library.new;
-          read_faults = S.faults input.new;
-          write_faults = K.faults output.new;
-          steps = steps;
-        })
+        (environment_of F.Library S.Source K.Sink library.old input.old output.old 0)
+        (environment_of F.Library S.Source K.Sink library.new input.new output.new steps)
         (input.new ≡ input.old) (output.new ≡ output.old) result }
 {
     let mut steps = Steps::<L>::new(blank);
@@ -66,30 +48,11 @@ pub fn answer_in<F: Library, S: Source, K: Sink>(
     input: &mut S,
     output: &mut K,
 ) -> Outcome
-    requires { IsWithin (asked_seen asked) }
+    requires within { IsWithin (asked_seen asked) }
+    requires named { Begins (F.agenda library.old) (files_of (asked_seen asked)) }
     ensures { (steps : ℕ) × Answers (asked_seen asked.entry)
-        (record {
-          entries = F.entries library.old;
-          is_sure = F.is_sure library.old;
-          left = S.left input.old;
-          written = K.written output.old;
-          room = K.free output.old;
-          load_faults = F.faults library.old;
-          read_faults = S.faults input.old;
-          write_faults = K.faults output.old;
-          steps = 0;
-        })
-        (record {
-          entries = F.entries library.new;
-          is_sure = F.is_sure library.new;
-          left = S.left input.new;
-          written = K.written output.new;
-          room = K.free output.new;
-          load_faults = F.faults library.new;
-          read_faults = S.faults input.new;
-          write_faults = K.faults output.new;
-          steps = steps;
-        })
+        (environment_of F.Library S.Source K.Sink library.old input.old output.old 0)
+        (environment_of F.Library S.Source K.Sink library.new input.new output.new steps)
         (input.new ≡ input.old) (output.new ≡ output.old) result }
 {
     answer_counted::<_, _, _, Brand>(alloc, asked, library, input, output, Blank::new(1))

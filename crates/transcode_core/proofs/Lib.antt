@@ -2,6 +2,7 @@ pub mod SetLaws
 pub mod Roots
 pub mod Single
 pub mod Loading
+pub mod Agendas
 pub mod DerOctets
 pub mod Syntaxes
 pub mod Octets

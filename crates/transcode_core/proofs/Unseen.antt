@@ -39,6 +39,7 @@ module _ (old new : Environment) (A B : Type 0) (o : Outcome) where
     output = inl tt;
     at_end = a.at_end;
     library = a.library;
+    named = a.named;
     loads = a.loads;
     reads = a.reads;
     writes = a.writes;

@@ -1,6 +1,7 @@
 pub mod Syntaxes
 pub mod Trial
 pub mod Causes
+pub mod Agendas
 pub mod Steps
 pub mod Due
 pub mod Preparing

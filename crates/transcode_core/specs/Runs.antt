@@ -1,11 +1,11 @@
 -- WHAT `run` PROMISES of words: the request that they make is answered, and the complaints receive the line of the outcome.
-use Rattle.std.specs.Prelude.{◌≡◌, ◌⊎◌, ℕ, ◌≤◌, List, Option, Some, None}
+use Rattle.std.specs.Prelude.{◌≡◌, ◌⊎◌, ℕ, ◌≤◌, List, [], Option, Some, None}
 use Rattle.std.specs.Io.KnownBytes.{Appends}
 use Rattle.base_texts.specs.Faults.{HasRisen}
 use Rattle.base_texts.specs.Bytes.{AppendsFront}
 use Rattle.transcode_words.specs.declared.outcome.Outcome.{Outcome}
 use Rattle.transcode_words.specs.declared.outcome.Outcome.TheVariants.{Usage}
-use Rattle.transcode_words.specs.Asked.{Asked}
+use Rattle.transcode_words.specs.Asked.{Asked, files_of}
 use Rattle.transcode_words.specs.Commands.{asked_by}
 use Rattle.transcode_words.specs.Lines.{line}
 use Rattle.transcode_core.specs.Requests.Answers.{Environment, Answers}
@@ -14,6 +14,11 @@ use Rattle.transcode_core.specs.Requests.Answers.{Environment, Answers}
 pub record Complaints : Type 0 where
   pub written : Option (List ℕ)
   pub faults : ℕ
+
+-- the names of the files of the request, if there is one
+abbrev pub files_named : Option Asked → List (List ℕ)
+files_named None = []
+files_named (Some asked) = files_of asked
 
 -- A request is answered. Where there is none, the outcome is `Usage`, and nothing is loaded, read or written.
 abbrev pub AnswersIf : Option Asked → Environment → Environment → Type 0 → Type 0 → Outcome → Type 0

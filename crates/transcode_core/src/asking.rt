@@ -1,7 +1,8 @@
 //! The answer to a request.
 ghost use Rattle.std.specs.Prelude.{◌≡◌};
-ghost use Rattle.transcode_words.specs.Asked.{IsWithin};
+ghost use Rattle.transcode_words.specs.Asked.{IsWithin, files_of};
 ghost use Rattle.transcode_words.specs.AskedSeen.{asked_seen};
+ghost use Rattle.transcode_core.specs.Agendas.{Begins};
 ghost use Rattle.transcode_core.specs.Requests.Answers.{Answers, environment_of};
 
 use crate::delivering::deliver;
@@ -18,6 +19,9 @@ use transcode_words::asked::Asked;
 
 /// Loads the files of the request, reads its input and writes its result. It writes the complete result at once, and nothing of a rejected
 /// request. The documents of records are written one by one, each before the octet after its record is read.
+///
+/// Only files that the request names are loaded, in its order and each as often as it is named: a library that may be asked for
+/// exactly these, once each, serves every request.
 pub fn answer<F: Library, S: Source, K: Sink, L: Ledger>(
     alloc: Global,
     asked: Asked<'_>,
@@ -26,7 +30,8 @@ pub fn answer<F: Library, S: Source, K: Sink, L: Ledger>(
     output: &mut K,
     steps: &mut Steps<L>,
 ) -> Outcome
-    requires { IsWithin (asked_seen asked) }
+    requires within { IsWithin (asked_seen asked) }
+    requires named { Begins (F.agenda library.old) (files_of (asked_seen asked)) }
     ensures { Answers (asked_seen asked.entry)
         (environment_of F.Library S.Source K.Sink library.old input.old output.old steps.old)
         (environment_of F.Library S.Source K.Sink library.new input.new output.new steps.new)

@@ -5,6 +5,7 @@ ghost use Rattle.schema_components.specs.Documents.{doc_of};
 ghost use Rattle.schema_read.specs.Raw.{raw_of};
 ghost use Rattle.transcode_words.specs.Order.{Give, Then};
 ghost use Rattle.std.specs.Io.KnownBytes.{IsAtEnd};
+ghost use Rattle.base_texts.specs.Entries.{IsNext, after_next};
 ghost use Rattle.transcode_core.specs.Steps.{Loaded, Input, Read, Faultless};
 ghost use Rattle.transcode_words.specs.Answers.{Answers, NoMemory};
 ghost use Rattle.transcode_core.specs.Causes.{OneLoad, OneRead, IsOfInput};
@@ -26,10 +27,12 @@ pub fn load_file<F: Library>(
     file: u32,
     name: &Text,
 ) -> Result<Vec<u8>, Outcome>
+    requires { IsNext (F.agenda files.old) name.now }
     ensures due { Answers (λ bytes. bytes.items) (Loaded (F.entries files.old) file name.now)
         (OneLoad (F.faults files.old) (F.faults files.new) (F.is_sure files.old) (F.entries files.old) file name.now) result }
     ensures most { IfOk result (λ bytes. length bytes.items ≤ 16777216) }
     ensures files { (F.entries files.new ≡ F.entries files.old) × (F.is_sure files.new ≡ F.is_sure files.old) }
+    ensures rest { F.agenda files.new ≡ after_next (F.agenda files.old) }
     ensures later { F.faults files.old ≤ F.faults files.new }
 {
     match files.load(alloc, name, LIMIT) {

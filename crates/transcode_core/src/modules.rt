@@ -3,6 +3,7 @@ ghost use Rattle.std.specs.Prelude.{◌≡◌, ◌∷◌, [], ◌≤◌, length}
 ghost use Rattle.module_read.specs.Summary as back;
 ghost use Rattle.transcode_words.specs.Order.{Give, Then};
 ghost use Rattle.transcode_words.specs.Answers.{Answers, NoMemory};
+ghost use Rattle.transcode_core.specs.Agendas.{Begins, LoadsFirst};
 ghost use Rattle.transcode_core.specs.Steps.{ModuleIn};
 ghost use Rattle.transcode_core.specs.Due.{ShownBack};
 ghost use Rattle.transcode_core.specs.Causes.{SomeLoad};
@@ -45,9 +46,11 @@ fn tell_of(alloc: Global, bytes: &[u8]) -> Result<Vec<u8>, Outcome>
 
 /// Returns the result of `show-back` for this file.
 pub fn show_back<F: Library>(alloc: Global, files: &mut F, name: &Text) -> Result<Vec<u8>, Outcome>
+    requires { Begins (F.agenda files.old) (name.now ∷ []) }
     ensures due { Answers (λ bytes. bytes.items) (ShownBack (F.entries files.old) name.now)
         (SomeLoad (F.faults files.old) (F.faults files.new) (F.is_sure files.old) (F.entries files.old) (name.now ∷ [])) result }
     ensures files { (F.entries files.new ≡ F.entries files.old) × (F.is_sure files.new ≡ F.is_sure files.old) }
+    ensures named { LoadsFirst (name.now ∷ []) (F.agenda files.old) (F.agenda files.new) }
     ensures later { F.faults files.old ≤ F.faults files.new }
 {
     let bytes = load_file(alloc, files, 1, name)?;

@@ -3,6 +3,7 @@ ghost use Rattle.std.specs.Prelude.{◌≡◌, ◌≤◌, length};
 ghost use Rattle.schema_components.specs.SetParts.{parts_of};
 ghost use Rattle.transcode_words.specs.AskedSeen.{chosen_seen};
 ghost use Rattle.transcode_words.specs.Answers.{Answers};
+ghost use Rattle.transcode_core.specs.Agendas.{Begins, LoadsFirst};
 ghost use Rattle.transcode_core.specs.Private.Seen.{opened_seen};
 ghost use Rattle.transcode_core.specs.Due.{SetIn};
 ghost use Rattle.transcode_core.specs.Due as due;
@@ -24,10 +25,12 @@ pub fn read_set<F: Library>(
     files: &mut F,
     names: &[Text],
 ) -> Result<SchemaSet, Outcome>
-    requires { length names.now ≤ 64 }
+    requires few { length names.now ≤ 64 }
+    requires named { Begins (F.agenda files.old) names.now }
     ensures due { Answers parts_of (SetIn (F.entries files.old) names.now)
         (SomeLoad (F.faults files.old) (F.faults files.new) (F.is_sure files.old) (F.entries files.old) names.now) result }
     ensures files { (F.entries files.new ≡ F.entries files.old) × (F.is_sure files.new ≡ F.is_sure files.old) }
+    ensures named { LoadsFirst names.now (F.agenda files.old) (F.agenda files.new) }
     ensures later { F.faults files.old ≤ F.faults files.new }
 {
     let documents = load_schemas(alloc, files, names)?;
@@ -41,10 +44,12 @@ pub fn open_asked<F: Library>(
     root: Root<'_>,
     names: &[Text],
 ) -> Result<Opened, Outcome>
-    requires { length names.now ≤ 64 }
+    requires few { length names.now ≤ 64 }
+    requires named { Begins (F.agenda files.old) names.now }
     ensures due { Answers opened_seen (requests.Opened (F.entries files.old) (chosen_seen root.entry) names.now)
         (SomeLoad (F.faults files.old) (F.faults files.new) (F.is_sure files.old) (F.entries files.old) names.now) result }
     ensures files { (F.entries files.new ≡ F.entries files.old) × (F.is_sure files.new ≡ F.is_sure files.old) }
+    ensures named { LoadsFirst names.now (F.agenda files.old) (F.agenda files.new) }
     ensures later { F.faults files.old ≤ F.faults files.new }
 {
     let set = read_set(alloc, files, names)?;

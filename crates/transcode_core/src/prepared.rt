@@ -6,6 +6,7 @@ ghost use Rattle.xml_items.specs.Counts.{element_count};
 ghost use Rattle.transcode_words.specs.Seen.{root_seen};
 ghost use Rattle.transcode_words.specs.Order.{Give, Then};
 ghost use Rattle.transcode_words.specs.Answers.{Answers, NoMemory};
+ghost use Rattle.transcode_core.specs.Agendas.{Begins, LoadsFirst};
 ghost use Rattle.transcode_core.specs.Private.Seen.{opened_seen};
 ghost use Rattle.transcode_core.specs.Preparing.{prepared_seen};
 ghost use Rattle.transcode_core.specs.Steps.{RootType, Typed, Judged, ValueIn, Encoding};
@@ -77,10 +78,12 @@ impl Prepared {
         root: Root<'_>,
         names: &[Text],
     ) -> Result<Prepared, Outcome>
-        requires { length names.now ≤ 64 }
+        requires few { length names.now ≤ 64 }
+        requires named { Begins (F.agenda files.old) names.now }
         ensures due { Answers prepared_seen (due.Opened (F.entries files.old) (root_seen root.entry) names.now)
             (SomeLoad (F.faults files.old) (F.faults files.new) (F.is_sure files.old) (F.entries files.old) names.now) result }
         ensures files { (F.entries files.new ≡ F.entries files.old) × (F.is_sure files.new ≡ F.is_sure files.old) }
+        ensures named { LoadsFirst names.now (F.agenda files.old) (F.agenda files.new) }
         ensures later { F.faults files.old ≤ F.faults files.new }
     {
         let opened = open_asked(alloc, files, Chosen::Named(root), names)?;

@@ -9,6 +9,7 @@ ghost use Rattle.module_print.specs.Printed.{printed as printed_module};
 ghost use Rattle.schema_components.specs.SetParts.{parts_of};
 ghost use Rattle.transcode_words.specs.Answers.{Answers, NoMemory};
 ghost use Rattle.transcode_words.specs.Order.{Give, Then};
+ghost use Rattle.transcode_core.specs.Agendas.{Begins, LoadsFirst};
 ghost use Rattle.transcode_core.specs.Digits.{both_digits};
 ghost use Rattle.transcode_core.specs.Due.{SetIn};
 ghost use Rattle.transcode_core.specs.Causes.{SomeLoad};
@@ -84,10 +85,12 @@ pub fn show_files<F: Library>(
     library: &mut F,
     names: &[Text],
 ) -> Result<Vec<u8>, Outcome>
-    requires { length names.now ≤ 64 }
+    requires few { length names.now ≤ 64 }
+    requires named { Begins (F.agenda library.old) names.now }
     ensures due { Answers (λ bytes. bytes.items) (Then (SetIn (F.entries library.old) names.now) (λ parts. Then (Mapped parts) (λ made. Give (shown form made))))
         (SomeLoad (F.faults library.old) (F.faults library.new) (F.is_sure library.old) (F.entries library.old) names.now) result }
     ensures files { (F.entries library.new ≡ F.entries library.old) × (F.is_sure library.new ≡ F.is_sure library.old) }
+    ensures named { LoadsFirst names.now (F.agenda library.old) (F.agenda library.new) }
     ensures later { F.faults library.old ≤ F.faults library.new }
 {
     let set = read_set(alloc, library, names)?;

@@ -4,7 +4,10 @@ ghost use Rattle.std.specs.Io.KnownBytes.{Appends};
 ghost use Rattle.base_texts.specs.Faults.{HasRisen};
 ghost use Rattle.base_texts.specs.Bytes.{AppendsFront};
 ghost use Rattle.transcode_words.specs.Lines.{line};
+ghost use Rattle.transcode_words.specs.Commands.{asked_by};
+ghost use Rattle.transcode_core.specs.Agendas.{Begins};
 ghost use Rattle.transcode_core.specs.Environments.{RunsIn};
+ghost use Rattle.transcode_core.specs.Runs.{files_named};
 
 use crate::asking::answer;
 use crate::environments::Environment;
@@ -25,7 +28,7 @@ fn complain<E: Sink>(outcome: Outcome, complaints: &mut E) -> Outcome
 }
 
 /// Serves the request that the words make by `answer`, and writes the line of the outcome to the complaints. Other words are `Usage`,
-/// and nothing is loaded, read or written for them.
+/// and nothing is loaded, read or written for them. A library that may only be asked for the files that the words name serves `run`.
 ///
 /// The words are `show FILE...`, `show-back FILE`, `check ROOT FILE...`, `to-per ROOT FILE...`, `to-xml ROOT FILE...`, `trial N`,
 /// `each-to-xml ROOT FILE...`, and with the words of `to-per` and `to-xml` also `to-per-u`, `to-xml-u`, `to-der` and `from-der`.
@@ -35,6 +38,7 @@ pub fn run<F: Library, S: Source, K: Sink, E: Sink, L: Ledger>(
     environment: Environment<'_, F, S, K, E>,
     steps: &mut Steps<L>,
 ) -> Outcome
+    requires { Begins (F.agenda environment.files.now) (files_named (asked_by words.now)) }
     ensures { RunsIn F.Library S.Source K.Sink E.Sink words.now environment.entry environment.exit steps.old steps.new result }
 {
     let Environment {

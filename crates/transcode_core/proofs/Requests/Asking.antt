@@ -3,39 +3,24 @@ use Rattle.std.proofs.Common.{◌≡◌, ◌⊎◌, ℕ, ◌≤◌, Bool, true, 
 use Rattle.std.specs.Prelude.{Vec, OnOk, MatchResult}
 use Rattle.std.specs.declared.alloc.Global.{Global}
 use Rattle.schema_components.specs.SetParts.{SetParts}
-use Rattle.transcode_words.specs.Asked.{Root, Asked, Show, ShowBack, Serve, Trial, files_of, reads_input}
+use Rattle.transcode_words.specs.Asked.{Root, Asked, Serve, files_of, reads_input}
 use Rattle.transcode_words.specs.declared.asked.Task.{Task}
-use Rattle.transcode_words.specs.declared.asked.Task.TheVariants.{Check, Send, Receive, Each}
 use Rattle.transcode_words.specs.declared.outcome.Outcome.{Outcome}
 use Rattle.transcode_words.specs.declared.outcome.Outcome.TheVariants.{Done, LoadFault, WriteFault, OutOfMemory}
 use Rattle.transcode_words.specs.Answers as steps
 use Rattle.transcode_words.specs.Answers.{IsRefusal}
+use Rattle.transcode_core.specs.Agendas.{LoadsFirst}
 use Rattle.transcode_core.specs.Causes.{SomeLoad, StepsUpTo, StepsFrom}
 use Rattle.transcode_core.specs.Requests.Due.{Opened, Due}
-use Rattle.transcode_core.specs.Requests.Answers.{Environment, Back, LooksAt, looks, MayWrite, Answers}
+use Rattle.transcode_core.specs.Requests.Answers.{Environment, Back, LooksAt, looks, Answers}
 use Rattle.transcode_core.specs.Requests.Records.{Streams}
 use Rattle.transcode_core.specs.Requests.Serving.{Serves}
 use Rattle.transcode_core.proofs.Requests.Delivering.{IsWhole, refused, unloaded, delivered}
-use Rattle.transcode_core.proofs.Requests.Served.{IsDelivered}
+use Rattle.transcode_core.proofs.Requests.Served.{IsDelivered, may_write}
 
 -- the streams of an environment
 abbrev pub streams_of : Environment → Streams
 streams_of e = record { left = e.left; written = e.written; room = e.room; read_faults = e.read_faults; write_faults = e.write_faults }
-
-may_write : (asked : Asked) (o : Outcome) → IsWhole asked → (o ≡ Done) ⊎ (o ≡ WriteFault) → MayWrite asked o
-may_write (Show form files) o is (inl e) = rw e tt
-may_write (Show form files) o is (inr e) = rw e tt
-may_write (ShowBack file) o is (inl e) = rw e tt
-may_write (ShowBack file) o is (inr e) = rw e tt
-may_write (Serve Check root files) o is (inl e) = rw e tt
-may_write (Serve Check root files) o is (inr e) = rw e tt
-may_write (Serve (Send syntax stamped) root files) o is (inl e) = rw e tt
-may_write (Serve (Send syntax stamped) root files) o is (inr e) = rw e tt
-may_write (Serve (Receive syntax stamped) root files) o is (inl e) = rw e tt
-may_write (Serve (Receive syntax stamped) root files) o is (inr e) = rw e tt
-may_write (Serve Each root files) o none wrote = absurd none
-may_write (Trial lines) o is (inl e) = rw e tt
-may_write (Trial lines) o is (inr e) = rw e tt
 
 wrote_of : (old new : Streams) (bytes : List ℕ) (o : Outcome) → IsDelivered old new bytes o → (o ≡ Done) ⊎ (o ≡ WriteFault)
 wrote_of old new bytes o (inl (e, appends)) = inl e
@@ -48,8 +33,8 @@ not_loaded : (loads loads_now : ℕ) (is_sure : Bool) (entries : Option (List (L
 not_loaded loads loads_now is_sure entries names o (inl e) done = let clash : OutOfMemory ≡ Done = sym e ∙ done in cc
 not_loaded loads loads_now is_sure entries names o (inr (k, name, e, reaches, fails)) done = let clash : LoadFault k ≡ Done = sym e ∙ done in cc
 
-module _ (asked : Asked) (old new : Environment) (same_input same_output : Type 0) (library : (new.entries ≡ old.entries) × (new.is_sure ≡ old.is_sure)) (loads : old.load_faults ≤ new.load_faults)
-    (kept : same_output → new.written ≡ old.written) where
+module _ (asked : Asked) (old new : Environment) (same_input same_output : Type 0) (library : (new.entries ≡ old.entries) × (new.is_sure ≡ old.is_sure))
+    (named : LoadsFirst (files_of asked) old.agenda new.agenda) (loads : old.load_faults ≤ new.load_faults) (kept : same_output → new.written ≡ old.written) where
   -- the request was rejected before its input: by the files or the root, or for want of a file or memory
   pub answers_before : (o : Outcome) → (Due asked old.entries old.left o [] × IsRefusal o) ⊎ SomeLoad old.load_faults new.load_faults old.is_sure old.entries (files_of asked) o
       → same_input → same_output → old.read_faults ≤ new.read_faults → old.write_faults ≤ new.write_faults → StepsUpTo (LooksAt asked old.left) old.steps new.steps
@@ -60,6 +45,7 @@ module _ (asked : Asked) (old new : Environment) (same_input same_output : Type 
     output = inl output;
     at_end = λ done. absurd (not_done o is done);
     library = library;
+    named = named;
     loads = loads;
     reads = reads;
     writes = writes;
@@ -72,6 +58,7 @@ module _ (asked : Asked) (old new : Environment) (same_input same_output : Type 
     output = inl output;
     at_end = λ done. absurd (not_loaded old.load_faults new.load_faults old.is_sure old.entries (files_of asked) o cause done);
     library = library;
+    named = named;
     loads = loads;
     reads = reads;
     writes = writes;
@@ -89,6 +76,7 @@ module _ (asked : Asked) (old new : Environment) (same_input same_output : Type 
     output = inr (may_write asked o is_whole (wrote_of (streams_of old) (streams_of new) bytes o wrote));
     at_end = λ done e. absurd (reads_none e);
     library = library;
+    named = named;
     loads = loads;
     reads = reads;
     writes = writes;
@@ -116,15 +104,16 @@ never e = cc
 
 -- a task with the set and its root
 module _ (task : Task) (root : Root) (files : List (List ℕ)) (old new : Environment) (same_input same_output : Type 0) (library : (new.entries ≡ old.entries) × (new.is_sure ≡ old.is_sure))
-    (loads : old.load_faults ≤ new.load_faults) where
+    (named : LoadsFirst files old.agenda new.agenda) (loads : old.load_faults ≤ new.load_faults) where
   pub answers_served : (opened : SetParts × ℕ) (o : Outcome) → Opened old.entries root files (Ok opened)
       → Serves task opened (streams_of old) (streams_of new) old.steps new.steps same_input same_output o → Answers (Serve task root files) old new same_input same_output o
   answers_served opened o opens serves = record {
-    ends = serves.ends old.entries new.entries root files old.is_sure new.is_sure old.load_faults new.load_faults old.steps new.steps opens;
+    ends = serves.ends old.entries new.entries root files old.is_sure new.is_sure old.agenda new.agenda old.load_faults new.load_faults old.steps new.steps opens;
     input = elim serves.input [ inl same ↦ inl same | inr (takes, of_input) ↦ inr ((opened, opens, takes), of_input) ];
     output = elim serves.output [ inl same ↦ inl same | inr writes ↦ inr (writes root files) ];
     at_end = λ done reads. serves.at_end done;
     library = library;
+    named = named;
     loads = loads;
     reads = serves.reads;
     writes = serves.writes;

@@ -37,31 +37,31 @@ module _ (opened : SetParts × ℕ) (type : RootType) (typed : Typed opened (Ok 
     due left o bytes each = inr (opened, is, inr (type, typed, each))
 
   pub records_end : (o : Outcome) → EndsRecords opened type old new o → EndsServed Each opened old new same o
-  records_end (LoadFault k) (bytes, each, values, appends) entries entries_now root files sure sure_now loads loads_now steps steps_now is = absurd (never_loads type old.left k bytes each)
-  records_end ReadFault (rose, (before, reads, values, appends)) entries entries_now root files sure sure_now loads loads_now steps steps_now is =
+  records_end (LoadFault k) (bytes, each, values, appends) entries entries_now root files sure sure_now agenda agenda_now loads loads_now steps steps_now is = absurd (never_loads type old.left k bytes each)
+  records_end ReadFault (rose, (before, reads, values, appends)) entries entries_now root files sure sure_now agenda agenda_now loads loads_now steps steps_now is =
       (rose, (opened, is, (before, (type, typed, reads), back entries root files is old.left ReadFault before values, appends)))
-  records_end WriteFault (rose, (before, next, value, holds, written, values, lacks, received)) entries entries_now root files sure sure_now loads loads_now steps steps_now is =
+  records_end WriteFault (rose, (before, next, value, holds, written, values, lacks, received)) entries entries_now root files sure sure_now agenda agenda_now loads loads_now steps steps_now is =
       (rose, (before, next, (opened, is, (type, typed, (value, holds, written))), lacks, back entries root files is old.left Done _ values, received))
-  records_end OutOfMemory (before, inl reads, values, appends) entries entries_now root files sure sure_now loads loads_now steps steps_now is =
+  records_end OutOfMemory (before, inl reads, values, appends) entries entries_now root files sure sure_now agenda agenda_now loads loads_now steps steps_now is =
       inr (opened, is, (before, inl (type, typed, reads), back entries root files is old.left OutOfMemory before values, appends))
-  records_end OutOfMemory (before, inr holds, values, appends) entries entries_now root files sure sure_now loads loads_now steps steps_now is =
+  records_end OutOfMemory (before, inr holds, values, appends) entries entries_now root files sure sure_now agenda agenda_now loads loads_now steps steps_now is =
       inr (opened, is, (before, inr (type, typed, holds), back entries root files is old.left OutOfMemory before values, appends))
-  records_end Done (bytes, each, values, appends) entries entries_now root files sure sure_now loads loads_now steps steps_now is = (bytes, due entries root files is old.left Done bytes each, back entries root files is old.left Done bytes values, appends)
-  records_end Usage (bytes, each, values, appends) entries entries_now root files sure sure_now loads loads_now steps steps_now is = (bytes, due entries root files is old.left Usage bytes each, back entries root files is old.left Usage bytes values, appends)
-  records_end (SchemaSyntax k at why) (bytes, each, values, appends) entries entries_now root files sure sure_now loads loads_now steps steps_now is = (bytes, due entries root files is old.left (SchemaSyntax k at why) bytes each, back entries root files is old.left (SchemaSyntax k at why) bytes values, appends)
-  records_end (SchemaFault k at why) (bytes, each, values, appends) entries entries_now root files sure sure_now loads loads_now steps steps_now is = (bytes, due entries root files is old.left (SchemaFault k at why) bytes each, back entries root files is old.left (SchemaFault k at why) bytes values, appends)
-  records_end (LinkFault k at why) (bytes, each, values, appends) entries entries_now root files sure sure_now loads loads_now steps steps_now is = (bytes, due entries root files is old.left (LinkFault k at why) bytes each, back entries root files is old.left (LinkFault k at why) bytes values, appends)
-  records_end UnknownRoot (bytes, each, values, appends) entries entries_now root files sure sure_now loads loads_now steps steps_now is = (bytes, due entries root files is old.left UnknownRoot bytes each, back entries root files is old.left UnknownRoot bytes values, appends)
-  records_end Stamp (bytes, each, values, appends) entries entries_now root files sure sure_now loads loads_now steps steps_now is = (bytes, due entries root files is old.left Stamp bytes each, back entries root files is old.left Stamp bytes values, appends)
-  records_end (DocSyntax at why) (bytes, each, values, appends) entries entries_now root files sure sure_now loads loads_now steps steps_now is = (bytes, due entries root files is old.left (DocSyntax at why) bytes each, back entries root files is old.left (DocSyntax at why) bytes values, appends)
-  records_end (Invalid at why) (bytes, each, values, appends) entries entries_now root files sure sure_now loads loads_now steps steps_now is = (bytes, due entries root files is old.left (Invalid at why) bytes each, back entries root files is old.left (Invalid at why) bytes values, appends)
-  records_end (PerFault bit why) (bytes, each, values, appends) entries entries_now root files sure sure_now loads loads_now steps steps_now is = (bytes, due entries root files is old.left (PerFault bit why) bytes each, back entries root files is old.left (PerFault bit why) bytes values, appends)
-  records_end (RecordFault n bit why) (bytes, each, values, appends) entries entries_now root files sure sure_now loads loads_now steps steps_now is = (bytes, due entries root files is old.left (RecordFault n bit why) bytes each, back entries root files is old.left (RecordFault n bit why) bytes values, appends)
-  records_end (DerFault at why) (bytes, each, values, appends) entries entries_now root files sure sure_now loads loads_now steps steps_now is = (bytes, due entries root files is old.left (DerFault at why) bytes each, back entries root files is old.left (DerFault at why) bytes values, appends)
-  records_end (ModuleFault at why) (bytes, each, values, appends) entries entries_now root files sure sure_now loads loads_now steps steps_now is = (bytes, due entries root files is old.left (ModuleFault at why) bytes each, back entries root files is old.left (ModuleFault at why) bytes values, appends)
-  records_end (Trailing at) (bytes, each, values, appends) entries entries_now root files sure sure_now loads loads_now steps steps_now is = (bytes, due entries root files is old.left (Trailing at) bytes each, back entries root files is old.left (Trailing at) bytes values, appends)
-  records_end (TooLong k) (bytes, each, values, appends) entries entries_now root files sure sure_now loads loads_now steps steps_now is = (bytes, due entries root files is old.left (TooLong k) bytes each, back entries root files is old.left (TooLong k) bytes values, appends)
-  records_end (TooManyNodes n) (bytes, each, values, appends) entries entries_now root files sure sure_now loads loads_now steps steps_now is = (bytes, due entries root files is old.left (TooManyNodes n) bytes each, back entries root files is old.left (TooManyNodes n) bytes values, appends)
+  records_end Done (bytes, each, values, appends) entries entries_now root files sure sure_now agenda agenda_now loads loads_now steps steps_now is = (bytes, due entries root files is old.left Done bytes each, back entries root files is old.left Done bytes values, appends)
+  records_end Usage (bytes, each, values, appends) entries entries_now root files sure sure_now agenda agenda_now loads loads_now steps steps_now is = (bytes, due entries root files is old.left Usage bytes each, back entries root files is old.left Usage bytes values, appends)
+  records_end (SchemaSyntax k at why) (bytes, each, values, appends) entries entries_now root files sure sure_now agenda agenda_now loads loads_now steps steps_now is = (bytes, due entries root files is old.left (SchemaSyntax k at why) bytes each, back entries root files is old.left (SchemaSyntax k at why) bytes values, appends)
+  records_end (SchemaFault k at why) (bytes, each, values, appends) entries entries_now root files sure sure_now agenda agenda_now loads loads_now steps steps_now is = (bytes, due entries root files is old.left (SchemaFault k at why) bytes each, back entries root files is old.left (SchemaFault k at why) bytes values, appends)
+  records_end (LinkFault k at why) (bytes, each, values, appends) entries entries_now root files sure sure_now agenda agenda_now loads loads_now steps steps_now is = (bytes, due entries root files is old.left (LinkFault k at why) bytes each, back entries root files is old.left (LinkFault k at why) bytes values, appends)
+  records_end UnknownRoot (bytes, each, values, appends) entries entries_now root files sure sure_now agenda agenda_now loads loads_now steps steps_now is = (bytes, due entries root files is old.left UnknownRoot bytes each, back entries root files is old.left UnknownRoot bytes values, appends)
+  records_end Stamp (bytes, each, values, appends) entries entries_now root files sure sure_now agenda agenda_now loads loads_now steps steps_now is = (bytes, due entries root files is old.left Stamp bytes each, back entries root files is old.left Stamp bytes values, appends)
+  records_end (DocSyntax at why) (bytes, each, values, appends) entries entries_now root files sure sure_now agenda agenda_now loads loads_now steps steps_now is = (bytes, due entries root files is old.left (DocSyntax at why) bytes each, back entries root files is old.left (DocSyntax at why) bytes values, appends)
+  records_end (Invalid at why) (bytes, each, values, appends) entries entries_now root files sure sure_now agenda agenda_now loads loads_now steps steps_now is = (bytes, due entries root files is old.left (Invalid at why) bytes each, back entries root files is old.left (Invalid at why) bytes values, appends)
+  records_end (PerFault bit why) (bytes, each, values, appends) entries entries_now root files sure sure_now agenda agenda_now loads loads_now steps steps_now is = (bytes, due entries root files is old.left (PerFault bit why) bytes each, back entries root files is old.left (PerFault bit why) bytes values, appends)
+  records_end (RecordFault n bit why) (bytes, each, values, appends) entries entries_now root files sure sure_now agenda agenda_now loads loads_now steps steps_now is = (bytes, due entries root files is old.left (RecordFault n bit why) bytes each, back entries root files is old.left (RecordFault n bit why) bytes values, appends)
+  records_end (DerFault at why) (bytes, each, values, appends) entries entries_now root files sure sure_now agenda agenda_now loads loads_now steps steps_now is = (bytes, due entries root files is old.left (DerFault at why) bytes each, back entries root files is old.left (DerFault at why) bytes values, appends)
+  records_end (ModuleFault at why) (bytes, each, values, appends) entries entries_now root files sure sure_now agenda agenda_now loads loads_now steps steps_now is = (bytes, due entries root files is old.left (ModuleFault at why) bytes each, back entries root files is old.left (ModuleFault at why) bytes values, appends)
+  records_end (Trailing at) (bytes, each, values, appends) entries entries_now root files sure sure_now agenda agenda_now loads loads_now steps steps_now is = (bytes, due entries root files is old.left (Trailing at) bytes each, back entries root files is old.left (Trailing at) bytes values, appends)
+  records_end (TooLong k) (bytes, each, values, appends) entries entries_now root files sure sure_now agenda agenda_now loads loads_now steps steps_now is = (bytes, due entries root files is old.left (TooLong k) bytes each, back entries root files is old.left (TooLong k) bytes values, appends)
+  records_end (TooManyNodes n) (bytes, each, values, appends) entries entries_now root files sure sure_now agenda agenda_now loads loads_now steps steps_now is = (bytes, due entries root files is old.left (TooManyNodes n) bytes each, back entries root files is old.left (TooManyNodes n) bytes values, appends)
 
 -- ---- the outcomes of records
 

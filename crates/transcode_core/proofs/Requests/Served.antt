@@ -6,7 +6,7 @@ use Rattle.std.specs.Io.KnownBytes.{Appends, IsAtEnd}
 use Rattle.base_texts.specs.Faults.{HasRisen}
 use Rattle.base_texts.specs.Bytes.{AppendsFront, LacksRoom}
 use Rattle.schema_components.specs.SetParts.{SetParts}
-use Rattle.transcode_words.specs.Asked.{Root, Serve}
+use Rattle.transcode_words.specs.Asked.{Root, Asked, Show, ShowBack, Serve, Trial}
 use Rattle.transcode_words.specs.declared.asked.Task.{Task}
 use Rattle.transcode_words.specs.declared.asked.Task.TheVariants.{Check, Send, Receive, Each}
 use Rattle.transcode_words.specs.declared.outcome.Outcome.{Outcome}
@@ -51,14 +51,14 @@ back_whole (Send syntax stamped) entries root files opened left bytes is opens b
 back_whole (Receive syntax stamped) entries root files opened left bytes is opens back = (opened, opens, back)
 back_whole Each entries root files opened left bytes none opens back = absurd none
 
-may_write : (task : Task) (root : Root) (files : List (List ℕ)) (o : Outcome) → IsWhole (Serve task root files) → (o ≡ Done) ⊎ (o ≡ WriteFault) → MayWrite (Serve task root files) o
-may_write Check root files o is (inl e) = rw e tt
-may_write Check root files o is (inr e) = rw e tt
-may_write (Send syntax stamped) root files o is (inl e) = rw e tt
-may_write (Send syntax stamped) root files o is (inr e) = rw e tt
-may_write (Receive syntax stamped) root files o is (inl e) = rw e tt
-may_write (Receive syntax stamped) root files o is (inr e) = rw e tt
-may_write Each root files o none wrote = absurd none
+pub may_write : (asked : Asked) (o : Outcome) → IsWhole asked → (o ≡ Done) ⊎ (o ≡ WriteFault) → MayWrite asked o
+may_write (Show form files) o is wrote = wrote
+may_write (ShowBack file) o is wrote = wrote
+may_write (Serve Check root files) o is wrote = wrote
+may_write (Serve (Send syntax stamped) root files) o is wrote = wrote
+may_write (Serve (Receive syntax stamped) root files) o is wrote = wrote
+may_write (Serve Each root files) o none wrote = absurd none
+may_write (Trial lines) o is wrote = wrote
 
 -- the outcomes of a result that was written, or could not be
 abbrev pub IsDelivered : Streams → Streams → List ℕ → Outcome → Type 0
@@ -89,11 +89,11 @@ module _ (task : Task) (is_whole : (root : Root) (files : List (List ℕ)) → I
       → ((root : Root) (files : List (List ℕ)) → looks (Serve task root files) ≡ true → StepsFrom (LooksAt (Serve task root files) old.left) steps steps_now)
       → IsDelivered old new bytes o → Serves task opened old new steps steps_now same_input same_output o
   serves_ok bytes o made back end many wrote = record {
-    ends = λ entries entries_now root files is_sure sure_now loads loads_now more more_now opens.
-        delivered (Serve task root files) (around entries is_sure loads old more) (around entries_now sure_now loads_now new more_now) (same_input × same_output) (is_whole root files) bytes
+    ends = λ entries entries_now root files is_sure sure_now agenda agenda_now loads loads_now more more_now opens.
+        delivered (Serve task root files) (around entries is_sure agenda loads old more) (around entries_now sure_now agenda_now loads_now new more_now) (same_input × same_output) (is_whole root files) bytes
         (inr (opened, opens, served_ok task opened old.left bytes made)) (back_whole task entries root files opened old.left bytes (is_whole root files) opens back) (λ reads. end) o wrote;
     input = with_input o (of_input_delivered bytes o wrote) input;
-    output = inr (λ root files. may_write task root files o (is_whole root files) (outcome_delivered bytes o wrote));
+    output = inr (λ root files. may_write (Serve task root files) o (is_whole root files) (outcome_delivered bytes o wrote));
     at_end = λ done. end;
     reads = reads;
     writes = writes;
@@ -104,8 +104,8 @@ module _ (task : Task) (is_whole : (root : Root) (files : List (List ℕ)) → I
   pub serves_err : (o : Outcome) → (Made task opened old.left (Err o) × IsRefusal o) ⊎ OneRead old.read_faults new.read_faults o → IsOfInput o → same_output
       → Serves task opened old new steps steps_now same_input same_output o
   serves_err o (inl (made, is)) of_input same = record {
-    ends = λ entries entries_now root files is_sure sure_now loads loads_now more more_now opens.
-        refused (Serve task root files) (around entries is_sure loads old more) (around entries_now sure_now loads_now new more_now) (same_input × same_output) o is
+    ends = λ entries entries_now root files is_sure sure_now agenda agenda_now loads loads_now more more_now opens.
+        refused (Serve task root files) (around entries is_sure agenda loads old more) (around entries_now sure_now agenda_now loads_now new more_now) (same_input × same_output) o is
         (inr (opened, opens, served_err task opened old.left o made)) (kept same);
     input = with_input o of_input input;
     output = inl same;
@@ -119,8 +119,8 @@ module _ (task : Task) (is_whole : (root : Root) (files : List (List ℕ)) → I
       not_done_of : (o : Outcome) → IsRefusal o → o ≡ Done → ⊥
       not_done_of o is e = subst IsRefusal e is
   serves_err o (inr cause) of_input same = record {
-    ends = λ entries entries_now root files is_sure sure_now loads loads_now more more_now opens.
-        unread (Serve task root files) (around entries is_sure loads old more) (around entries_now sure_now loads_now new more_now) (same_input × same_output) (is_whole root files) opened opens o cause (kept same);
+    ends = λ entries entries_now root files is_sure sure_now agenda agenda_now loads loads_now more more_now opens.
+        unread (Serve task root files) (around entries is_sure agenda loads old more) (around entries_now sure_now agenda_now loads_now new more_now) (same_input × same_output) (is_whole root files) opened opens o cause (kept same);
     input = with_input o of_input input;
     output = inl same;
     at_end = λ done. absurd (not_read o cause done);
@@ -148,8 +148,8 @@ nothing_back (Err o) = tt
 pub serves_memory : (task : Task) (opened : SetParts × ℕ) (old new : Streams) (steps steps_now : ℕ) (same_input same_output : Type 0) (o : Outcome) → o ≡ OutOfMemory → same_input → same_output
     → old.read_faults ≤ new.read_faults → old.write_faults ≤ new.write_faults → steps_now ≡ steps → Serves task opened old new steps steps_now same_input same_output o
 serves_memory task opened old new steps steps_now same_input same_output o memory input output reads writes same = record {
-  ends = λ entries entries_now root files is_sure sure_now loads loads_now more more_now opens.
-      subst (Ends (Serve task root files) (around entries is_sure loads old more) (around entries_now sure_now loads_now new more_now) (same_input × same_output)) (sym memory) (inl (input, output));
+  ends = λ entries entries_now root files is_sure sure_now agenda agenda_now loads loads_now more more_now opens.
+      subst (Ends (Serve task root files) (around entries is_sure agenda loads old more) (around entries_now sure_now agenda_now loads_now new more_now) (same_input × same_output)) (sym memory) (inl (input, output));
   input = inl input;
   output = inl output;
   at_end = λ done. let clash : OutOfMemory ≡ Done = sym memory ∙ done in absurd (no_memory clash);

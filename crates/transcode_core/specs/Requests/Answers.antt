@@ -22,6 +22,7 @@ use Rattle.transcode_words.specs.declared.asked.Task.TheVariants.{Check, Send, R
 use Rattle.transcode_words.specs.declared.outcome.Outcome.{Outcome}
 use Rattle.transcode_words.specs.declared.outcome.Outcome.TheVariants.{Done, LoadFault, ReadFault, WriteFault, OutOfMemory}
 use Rattle.transcode_words.specs.declared.tasks.Syntax.{Syntax}
+use Rattle.transcode_core.specs.Agendas.{LoadsFirst}
 use Rattle.transcode_core.specs.Steps.{RootType, Typed, Decoded, Written}
 use Rattle.transcode_core.specs.ReadBack.{WrittenBack, IsValidText}
 use Rattle.transcode_core.specs.Due.{ItemsIn}
@@ -30,12 +31,13 @@ use Rattle.transcode_core.specs.Each.{each_limit, Documents}
 use Rattle.transcode_core.specs.Causes.{Fails, Reaches, TakesOctets, IsOfInput, StepsUpTo, StepsFrom}
 use Rattle.transcode_core.specs.Requests.Due.{Entries, stamp_of, AfterStamp, Unstamped, Opened, Due}
 
--- What definitions see of the environment of a call: the files of the library, and whether it fails at no file that it has; the bytes
--- that the input has left; the bytes that the output received, and the room that it states; how often each of the three has failed;
--- and the number of steps through content models. Library, input and output need not give what they contain.
+-- What definitions see of the environment of a call: the files of the library, whether it fails at no file that it has, and the names
+-- that may still be loaded; the bytes that the input has left; the bytes that the output received, and the room that it states; how often
+-- each of the three has failed; and the number of steps through content models. Library, input and output need not give what they contain.
 pub record Environment : Type 0 where
   pub entries : Entries
   pub is_sure : Bool
+  pub agenda : Option (List (List ℕ))
   pub left : Option (List ℕ)
   pub written : Option (List ℕ)
   pub room : Option ℕ
@@ -49,6 +51,7 @@ abbrev pub environment_of : {F S K : Type 0} → libraries.Ghosts F → sources.
 environment_of of_library of_input of_output library input output steps = record {
   entries = of_library.entries library;
   is_sure = of_library.is_sure library;
+  agenda = of_library.agenda library;
   left = of_input.left input;
   written = of_output.written output;
   room = of_output.free output;
@@ -76,8 +79,7 @@ module _ (type : RootType) where
       (taken : ℕ) × TakesFirst (Some left) now taken
       × ((values : List (Rose ValueLabel)) × (count : ℕ) × IsCut type.assignments type.number (take (min each_limit taken) left) values count × Documents type values before)
 
-  -- The next record is complete, and its document isn't written: the octets taken are exactly the encodings of the values whose
-  -- documents are `before` and of the next value.
+  -- The next record is complete, but not written: exactly the encodings of the values written as `before` and of the next were taken.
   pub record HoldsNext (left now : Option (List ℕ)) (before : List ℕ) (next : Rose ValueLabel) : Type 0 where
     pub values : List (Rose ValueLabel)
     pub in_type : AllOf (In type.assignments type.number) (values ++ next ∷ [])
@@ -85,8 +87,7 @@ module _ (type : RootType) where
     pub taken : (octets : List ℕ) → left ≡ Some octets
         → (count : ℕ) × BeginWith type.assignments type.number (take each_limit octets) (values ++ next ∷ []) count × TakesFirst left now count
 
-  -- Where the octets after the records have a first fault, no octet was taken after those that show it, except that one octet may be
-  -- taken to see that there is one.
+  -- Before a first fault after the records, no octet was taken after those that show it; one may be taken to see that there is one.
   abbrev pub TakesRecords : Option (List ℕ) → Option (List ℕ) → Type 0
   TakesRecords old now = (left : List ℕ) → old ≡ Some left → (values : List (Rose ValueLabel)) (count : ℕ) → IsCut type.assignments type.number (take each_limit left) values count
       → (stop : Stop) → StopsFirst type.assignments type.number (within type.assignments type.number (length values + 1) (each_limit - count) (drop count left)) stop
@@ -102,8 +103,8 @@ abbrev pub Making : Asked → SetParts × ℕ → Option (List ℕ) → Option (
 Making (Serve Each root files) opened left now before = (type : RootType) × Typed opened (Ok type) × ((next : Rose ValueLabel) × HoldsNext type left now before next)
 Making asked opened left now before = ⊥
 
--- While `next` is written, the output received `before`. Of records, `next` is the document of one of them, and no octet after it was
--- taken. Of any other request, it is the complete result, and the input that the request reads is at its end.
+-- While `next` is written, the output received `before`. Of records, `next` is the document of one, and no octet after it was taken.
+-- Of any other request, it is the complete result, and the input that the request reads is at its end.
 abbrev pub Writing : Asked → Entries → Option (List ℕ) → Option (List ℕ) → List ℕ → List ℕ → Type 0
 Writing (Serve Each root files) entries left now before next =
     (opened : SetParts × ℕ) × Opened entries root files (Ok opened)
@@ -127,8 +128,7 @@ abbrev pub ReceivedBack : Syntax → Bool → SetParts × ℕ → Option (List �
 ReceivedBack syntax stamped opened left text = (type : RootType) × Typed opened (Ok type) × ((rest : Option (List ℕ)) × Unstamped stamped type left (Ok rest)
     × ((v : Rose ValueLabel) × Decoded syntax type rest (Ok v) × IsBack opened type v text))
 
--- The text that is written for an encoding reads back as the value of this encoding; the texts that are written for records, if there are
--- any, read back as values of the root's type.
+-- The text written for an encoding reads back as its value; those written for records, if any, read back as values of the root's type.
 abbrev pub Back : Asked → Entries → Option (List ℕ) → Outcome → List ℕ → Type 0
 Back (Serve (Receive syntax stamped) root files) entries left Done text = (opened : SetParts × ℕ) × Opened entries root files (Ok opened) × ReceivedBack syntax stamped opened left text
 Back (Serve Each root files) entries left o text = (text ≡ []) ⊎ ((opened : SetParts × ℕ) × Opened entries root files (Ok opened)
@@ -193,16 +193,10 @@ looks (Serve (Send syntax stamped) root files) = true
 looks (Trial lines) = true
 looks asked = false
 
--- after these outcomes a complete result or a part of it was written
-abbrev pub WritesWhole : Outcome → Type 0
-WritesWhole Done = Unit {0}
-WritesWhole WriteFault = Unit {0}
-WritesWhole o = ⊥
-
 -- after these outcomes of the request something may be written; of records after each that can come while they are read
 abbrev pub MayWrite : Asked → Outcome → Type 0
 MayWrite (Serve Each root files) o = IsOfInput o
-MayWrite asked o = WritesWhole o
+MayWrite asked o = (o ≡ Done) ⊎ (o ≡ WriteFault)
 
 -- ---- THE PROMISE
 
@@ -218,6 +212,8 @@ pub record Answers (asked : Asked) (old new : Environment) (same_input same_outp
   pub at_end : result ≡ Done → reads_input asked ≡ true → IsAtEnd new.left
   -- The library has the files that it had.
   pub library : (new.entries ≡ old.entries) × (new.is_sure ≡ old.is_sure)
+  -- Only files that the request names are loaded, in its order and each as often as it is named.
+  pub named : LoadsFirst (files_of asked) old.agenda new.agenda
   -- No count of failures falls.
   pub loads : old.load_faults ≤ new.load_faults
   pub reads : old.read_faults ≤ new.read_faults

@@ -112,8 +112,7 @@ Documented syntax stamped opened left =
     Then (Decoded syntax type rest) (λ value.
     Written type value)))
 
--- What a task makes of the set with its root and the input. The documents of records are written one by one, so a rejection comes
--- after those of the records before it.
+-- What a task makes of the set with its root and the input. Documents of records are written one by one, also before a rejection.
 abbrev pub Served : Task → SetParts × ℕ → Option (List ℕ) → Answer
 Served Check opened left = Whole (Checked opened left)
 Served (Send syntax stamped) opened left = Whole (Encoded syntax stamped opened left)

@@ -1,5 +1,5 @@
 -- What holds after each outcome of a task, where the set and its root are given: what `Ends` says of every request that comes to them.
-use Rattle.std.specs.Prelude.{◌≡◌, ◌⊎◌, ℕ, ◌≤◌, Bool, true, List, Ok}
+use Rattle.std.specs.Prelude.{◌≡◌, ◌⊎◌, ℕ, ◌≤◌, Bool, true, List, Option, Ok}
 use Rattle.std.specs.Io.KnownBytes.{IsAtEnd}
 use Rattle.schema_components.specs.SetParts.{SetParts}
 use Rattle.transcode_words.specs.Asked.{Root, Serve}
@@ -12,10 +12,11 @@ use Rattle.transcode_core.specs.Requests.Answers.{Environment, Ends, Takes, Look
 use Rattle.transcode_core.specs.Requests.Records.{Streams}
 
 -- the environment with these files and these streams
-abbrev pub around : Entries → Bool → ℕ → Streams → ℕ → Environment
-around entries is_sure load_faults streams steps = record {
+abbrev pub around : Entries → Bool → Option (List (List ℕ)) → ℕ → Streams → ℕ → Environment
+around entries is_sure agenda load_faults streams steps = record {
   entries = entries;
   is_sure = is_sure;
+  agenda = agenda;
   left = streams.left;
   written = streams.written;
   room = streams.room;
@@ -28,8 +29,8 @@ around entries is_sure load_faults streams steps = record {
 -- of the streams before and after the task, and whether input and output are the objects that they were
 abbrev pub EndsServed : Task → SetParts × ℕ → Streams → Streams → Type 0 → Outcome → Type 0
 EndsServed task opened old new same o =
-    (entries entries_now : Entries) (root : Root) (files : List (List ℕ)) (is_sure sure_now : Bool) (loads loads_now steps steps_now : ℕ) → Opened entries root files (Ok opened)
-    → Ends (Serve task root files) (around entries is_sure loads old steps) (around entries_now sure_now loads_now new steps_now) same o
+    (entries entries_now : Entries) (root : Root) (files : List (List ℕ)) (is_sure sure_now : Bool) (agenda agenda_now : Option (List (List ℕ))) (loads loads_now steps steps_now : ℕ) → Opened entries root files (Ok opened)
+    → Ends (Serve task root files) (around entries is_sure agenda loads old steps) (around entries_now sure_now agenda_now loads_now new steps_now) same o
 
 -- WHAT A TASK PROMISES, where the set and its root are given: of the streams and the steps before and after it, and whether input and output
 -- are the objects that they were. The fields are those of `Answers`.

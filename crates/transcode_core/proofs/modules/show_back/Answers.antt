@@ -8,8 +8,18 @@ use Rattle.transcode_words.proofs.Joined.{passed}
 use Rattle.transcode_core.proofs.Exits.{refused_by}
 use Rattle.transcode_core.specs.Steps.{Loaded, ModuleIn}
 use Rattle.transcode_core.specs.Causes.{OneLoad, SomeLoad}
+use Rattle.transcode_core.proofs.Agendas.{begins_only, loads_only}
 use Rattle.transcode_core.proofs.Loading.{only_load}
 use Rattle.transcode_core.proofs.modules.show_back.Goals as goal
+
+pub load_file-requires : goal.load_file-requires
+load_file-requires g c = begins_only _ c.args.name.now c.requires
+
+pub returns-clause-named : goal.returns-clause-named
+returns-clause-named g c = loads_only _ _ c.args.name.now c.in_ok-bytes.ensures.rest
+
+pub returns-in_err-bytes-clause-named : goal.returns-in_err-bytes-clause-named
+returns-in_err-bytes-clause-named g c = loads_only _ _ c.args.name.now c.in_err-bytes.ensures.rest
 
 pub returns-clause-due : goal.returns-clause-due
 returns-clause-due g c =

@@ -28,7 +28,7 @@ link_files-requires-clause-few g c =
     let documents = c.in_ok-documents.documents.items in
     let many : length (map doc_of documents) ≡ length c.args.names.now = as_many (g.F.Library.entries c.args.files.now) 1 c.args.names.now (map doc_of documents) c.in_ok-documents.ensures.due in
     let same : length (map doc_of documents) ≡ length documents = length-map documents doc_of in
-    let few = c.requires in
+    let few = c.requires.few in
     rw c.deref.ensures.value (omega (arith, many, same, few))
 
 pub link_files-requires-clause-numbered : goal.link_files-requires-clause-numbered

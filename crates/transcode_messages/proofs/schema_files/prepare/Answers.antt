@@ -6,8 +6,8 @@ use Rattle.transcode_messages.specs.Messages.{names_of}
 use Rattle.transcode_messages.proofs.Named.{only_memory, length-names}
 use Rattle.transcode_messages.proofs.schema_files.prepare.Goals as goal
 
-pub open-requires : goal.open-requires
-open-requires c = omega (arith, ap length (c.deref.ensures.value ∙ c.in-Ok.ensures), length-names c.args.files.now, c.requires)
+pub open-requires-clause-few : goal.open-requires-clause-few
+open-requires-clause-few c = omega (arith, ap length (c.deref.ensures.value ∙ c.in-Ok.ensures), length-names c.args.files.now, c.requires)
 
 pub returns : goal.returns
 returns c =
