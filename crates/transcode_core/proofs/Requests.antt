@@ -5,6 +5,7 @@ pub mod Room
 pub mod Order
 pub mod Returning
 pub mod There
+pub mod RecordLaws
 pub mod Existing
 pub mod Streaming
 pub mod Looping

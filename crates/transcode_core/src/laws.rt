@@ -95,7 +95,7 @@ pub fn complete()
     laws_below();
 }
 
-/// What is written for a document is accepted again, unless it is too long for an input. The document that is written then is valid
+/// What is written for a document is accepted again, up to 16,777,216 octets with the stamp, if it has one. The document that is written then is valid
 /// with the treated items of the first document. Both hold of requests, and of a set with its root.
 pub fn there_and_back()
     ensures taken { law.ThereAndBack }
@@ -104,6 +104,23 @@ pub fn there_and_back()
         → (text : List ℕ) × Documented syntax opened (Some octets) (Ok text) }
     ensures same_in_set { (syntax : Syntax) (opened : SetParts × ℕ) (document octets text : List ℕ) → Encoded syntax opened (Some document) (Ok octets)
         → DocumentedBack syntax opened (Some octets) text → (treated : Rose Plain) × IsValidText opened document treated × IsValidText opened text treated }
+{
+    laws_below();
+}
+
+/// What is written for documents, one after another, is accepted as records, within the limits of records. The documents that are written
+/// then are valid with the treated items of the first documents, each with those of the one at its place.
+pub fn records_there_and_back()
+    ensures taken { law.RecordsThereAndBack }
+    ensures same { law.SameRecordsAgain }
+{
+    laws_below();
+}
+
+/// For each document that is written for records, exactly the octets of its record are required, unless it is too long for an input.
+/// The octets of all records, one after another, are those of the input.
+pub fn records_back_and_there()
+    ensures { law.RecordsBackAndThere }
 {
     laws_below();
 }

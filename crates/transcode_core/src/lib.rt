@@ -34,8 +34,8 @@ pub use asking::answer;
 pub use counting::run_in;
 pub use environments::Environment;
 pub use laws::{
-    back_and_there, complete, exactly_one_of_both, one_answer, order, some_answer, there_and_back,
-    trial_elements,
+    back_and_there, complete, exactly_one_of_both, one_answer, order, records_back_and_there,
+    records_there_and_back, some_answer, there_and_back, trial_elements,
 };
 pub use prepared::Prepared;
 pub use stamps::{STAMP_LENGTH, stamp_line, stamp_of};

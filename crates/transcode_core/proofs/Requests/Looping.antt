@@ -19,10 +19,16 @@ use Rattle.transcode_words.specs.declared.outcome.Outcome.{Outcome}
 use Rattle.transcode_words.specs.declared.outcome.Outcome.TheVariants.{Done, TooLong, WriteFault, OutOfMemory}
 use Rattle.transcode_core.specs.Steps.{RootType, IsTypeOf, Written}
 use Rattle.transcode_core.specs.Each.{each_limit, outcome_of}
-use Rattle.transcode_core.specs.Requests.Answers.{IsBack, AreBack, TakesRecords}
-use Rattle.transcode_core.specs.Requests.Records.{ReadsAsValues, EndsRecords}
+use Rattle.transcode_core.specs.Requests.Answers.{IsBack, AreBack, AreRecords, TakesRecords}
+use Rattle.transcode_core.specs.Requests.Records.{ReadsAsRecords, EndsRecords}
 use Rattle.transcode_core.proofs.Eaching.{appends_more, all_more, documents_more, Here, SoFar, next_here, due_done, due_stopped, due_over}
 use Rattle.transcode_core.proofs.Requests.Streaming.{stops, fails, takes_records, holds, front_written, leaves_more, lacks_more, back_more, no_room_taken}
+
+-- the values so far
+first_records : (type : RootType) (old : Option (List ℕ)) (octet : Option ℕ) (inner : Option (List ℕ)) (room records turn : ℕ) (wrote wrote_now : Option (List ℕ))
+    (h : SoFar type old octet inner room records turn wrote wrote_now) (o : Option (List ℕ)) → old ≡ o → AreRecords type o h.values
+first_records type old octet inner room records turn wrote wrote_now h None e = h.in_type
+first_records type old octet inner room records turn wrote wrote_now h (Some left) e = let n = h.told left e in (n.count, n.begin)
 
 module _ (opened : SetParts × ℕ) (type : RootType) where
   -- THE INVARIANT: the records so far, that their documents are read back, and the room that these took
@@ -54,8 +60,8 @@ module _ (opened : SetParts × ℕ) (type : RootType) where
     Ended wrote_new free_new o = EndsRecords opened type (record { left = old; written = wrote; room = free; read_faults = reads; write_faults = writes })
         (record { left = inner_new; written = wrote_new; room = free_new; read_faults = reads_now; write_faults = writes_now }) o
 
-    is_read : ReadsAsValues opened type h.text
-    is_read = (h.values, h.in_type, k.1)
+    is_read : ReadsAsRecords opened type old h.text
+    is_read = (h.values, first_records type old octet inner room records turn wrote wrote_now h old refl, k.1)
 
     -- one more record
     module _ (v : Rose ValueLabel) (ok : answer ≡ Ok (Some v)) (in_type : In type.assignments type.number v) (room_new records_new : ℕ) (counted : records_new ≡ one_more records)
@@ -77,6 +83,12 @@ module _ (opened : SetParts × ℕ) (type : RootType) where
         subst (LeavesRoom free free_new) (sym (length-append h.text doc)) (leaves_more free free_now free_new (length h.text) (length doc) k.2 leaves),
       )
 
+      records_more : (o : Option (List ℕ)) → old ≡ o → AreRecords type o (h.values ++ v ∷ [])
+      records_more None e = all_more type h.values v h.in_type in_type
+      records_more (Some left) e =
+          let n = next_here type old octet inner room records turn wrote wrote_now h octet_new inner_new answer answers v ok in_type room_new records_new counted octets_of alone left e in
+          (n.count, n.begin)
+
       -- its document was not written whole
       pub unwritten : (wrote_new : Option (List ℕ)) (free_new : Option ℕ) (o : Outcome)
           → ((o ≡ OutOfMemory) × (wrote_new ≡ wrote_now))
@@ -96,7 +108,7 @@ module _ (opened : SetParts × ℕ) (type : RootType) where
               v,
               held,
               written,
-              (h.values ++ v ∷ [], all_more type h.values v h.in_type in_type, back_more opened type h.values v h.text doc k.1 back),
+              (h.values ++ v ∷ [], records_more old refl, back_more opened type h.values v h.text doc k.1 back),
               lacks_more free free_now (length h.text) (length doc) k.2 lacks,
               front,
             ),
@@ -129,7 +141,7 @@ module _ (opened : SetParts × ℕ) (type : RootType) where
     pub over : (reads reads_now writes writes_now : ℕ) → EndsRecords opened type (record { left = old; written = wrote; room = free; read_faults = reads; write_faults = writes })
         (record { left = inner; written = wrote_now; room = free_now; read_faults = reads_now; write_faults = writes_now }) (TooLong 0)
     over reads reads_now writes writes_now = let h = k.0 in
-        (h.text, due_over type old octet inner room records turn wrote wrote_now h many, (h.values, h.in_type, k.1), h.appended)
+        (h.text, due_over type old octet inner room records turn wrote wrote_now h many, (h.values, first_records type old octet inner room records turn wrote wrote_now h old refl, k.1), h.appended)
 
     pub over_taken : TakesRecords type old inner
     over_taken left told vs n cut stop stops = let h = k.0 in

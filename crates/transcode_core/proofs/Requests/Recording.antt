@@ -13,7 +13,7 @@ use Rattle.transcode_core.specs.Each.{EachDue, IsOfRecords, outcome_of}
 use Rattle.transcode_core.specs.Causes.{IsOfInput}
 use Rattle.transcode_core.specs.Requests.Due.{Entries, Opened, Due}
 use Rattle.transcode_core.specs.Requests.Answers.{Back, TakesRecords}
-use Rattle.transcode_core.specs.Requests.Records.{Streams, ReadsAsValues, EndsRecords}
+use Rattle.transcode_core.specs.Requests.Records.{Streams, ReadsAsRecords, EndsRecords}
 use Rattle.transcode_core.specs.Requests.Serving.{EndsServed, Serves}
 use Rattle.transcode_core.proofs.EachLaws.{seen}
 
@@ -30,7 +30,7 @@ never_loads type (Some left) k bytes (values, count, cut, ends, documents) = no_
 
 module _ (opened : SetParts × ℕ) (type : RootType) (typed : Typed opened (Ok type)) (old new : Streams) (same : Type 0) where
   module _ (entries : Entries) (root : Root) (files : List (List ℕ)) (is : Opened entries root files (Ok opened)) where
-    back : (left : Option (List ℕ)) (o : Outcome) (text : List ℕ) → ReadsAsValues opened type text → Back (Serve Each root files) entries left o text
+    back : (left : Option (List ℕ)) (o : Outcome) (text : List ℕ) → ReadsAsRecords opened type left text → Back (Serve Each root files) entries left o text
     back left o text values = inr (opened, is, (type, typed, values))
 
     due : (left : Option (List ℕ)) (o : Outcome) (bytes : List ℕ) → EachDue type left o bytes → Due (Serve Each root files) entries left o bytes

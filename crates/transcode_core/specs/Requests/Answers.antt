@@ -123,16 +123,21 @@ abbrev pub AreBack : SetParts × ℕ → RootType → List (Rose ValueLabel) →
 AreBack opened type [] text = text ≡ []
 AreBack opened type (v ∷ vs) text = (first : List ℕ) × (rest : List ℕ) × IsBack opened type v first × AreBack opened type vs rest × (text ≡ first ++ rest)
 
+-- these are values of the root's type: where the input is known, those of the first records in it
+abbrev pub AreRecords : RootType → Option (List ℕ) → List (Rose ValueLabel) → Type 0
+AreRecords type None values = AllOf (In type.assignments type.number) values
+AreRecords type (Some left) values = (count : ℕ) × BeginWith type.assignments type.number left values count
+
 -- the text is a document of the value of which the input is the encoding, and reads back as this value
 abbrev pub ReceivedBack : Syntax → Bool → SetParts × ℕ → Option (List ℕ) → List ℕ → Type 0
 ReceivedBack syntax stamped opened left text = (type : RootType) × Typed opened (Ok type) × ((rest : Option (List ℕ)) × Unstamped stamped type left (Ok rest)
     × ((v : Rose ValueLabel) × Decoded syntax type rest (Ok v) × IsBack opened type v text))
 
--- The text written for an encoding reads back as its value; those written for records, if any, read back as values of the root's type.
+-- The text written for an encoding reads back as its value; those written for records, if any, read back as the values of the first records.
 abbrev pub Back : Asked → Entries → Option (List ℕ) → Outcome → List ℕ → Type 0
 Back (Serve (Receive syntax stamped) root files) entries left Done text = (opened : SetParts × ℕ) × Opened entries root files (Ok opened) × ReceivedBack syntax stamped opened left text
 Back (Serve Each root files) entries left o text = (text ≡ []) ⊎ ((opened : SetParts × ℕ) × Opened entries root files (Ok opened)
-    × ((type : RootType) × Typed opened (Ok type) × ((values : List (Rose ValueLabel)) × AllOf (In type.assignments type.number) values × AreBack opened type values text)))
+    × ((type : RootType) × Typed opened (Ok type) × ((values : List (Rose ValueLabel)) × AreRecords type left values × AreBack opened type values text)))
 Back asked entries left o text = Unit {0}
 
 -- ---- WHAT HOLDS AFTER EACH OUTCOME

@@ -1,5 +1,5 @@
 -- THE LAWS of what is required, and of what `answer` promises.
-use Rattle.std.specs.Prelude.{◌≡◌, ◌⊎◌, ℕ, ◌<◌, ◌≤◌, Bool, true, IsTrue, All, List, [], ◌++◌, length, Option, Some, None, Ok, Err}
+use Rattle.std.specs.Prelude.{◌≡◌, ◌⊎◌, ℕ, ◌<◌, ◌≤◌, Bool, true, false, IsTrue, All, List, [], ◌∷◌, ◌++◌, length, Option, Some, None, Ok, Err}
 use Rattle.std.specs.Io.KnownBytes.{Appends}
 use Rattle.base_trees.specs.Rose.{Rose}
 use Rattle.xml_items.specs.Plain.{Plain}
@@ -8,10 +8,11 @@ use Rattle.base_texts.specs.Entries.{Lacks}
 use Rattle.schema_components.specs.SetParts.{SetParts}
 use Rattle.transcode_words.specs.Asked.{Root, Only, Asked, Serve, files_of, reads_input}
 use Rattle.transcode_words.specs.declared.asked.Task.{Task}
-use Rattle.transcode_words.specs.declared.asked.Task.TheVariants.{Send, Receive}
+use Rattle.transcode_words.specs.declared.asked.Task.TheVariants.{Send, Receive, Each}
 use Rattle.transcode_words.specs.declared.outcome.Outcome.{Outcome}
 use Rattle.transcode_words.specs.declared.outcome.Outcome.TheVariants.{Done, UnknownRoot, Stamp, OutOfMemory}
 use Rattle.transcode_words.specs.declared.tasks.Syntax.{Syntax}
+use Rattle.transcode_words.specs.declared.tasks.Syntax.TheVariants.{Aligned}
 use Rattle.transcode_core.specs.Syntaxes.{AreOctetsOf}
 use Rattle.transcode_core.specs.Steps.{RootType, Typed}
 use Rattle.transcode_core.specs.Due.{SetIn}
@@ -98,3 +99,44 @@ BackAndThere = (syntax : Syntax) (stamped : Bool) (root : Root) (files : List (L
     → All (λ x. x < 256) octets → Due (Serve (Receive syntax stamped) root files) (Some entries) (Some octets) Done text
     → Back (Serve (Receive syntax stamped) root files) (Some entries) (Some octets) Done text → length text ≤ 16777216
     → Due (Serve (Send syntax stamped) root files) (Some entries) (Some text) Done octets
+
+-- ---- records
+
+-- texts, one after another
+abbrev pub joined : List (List ℕ) → List ℕ
+joined [] = []
+joined (first ∷ rest) = first ++ joined rest
+
+-- Two lists have one length, and this holds of each two of their elements at one place.
+abbrev pub ForBoth : (List ℕ → List ℕ → Type 0) → List (List ℕ) → List (List ℕ) → Type 0
+ForBoth P [] [] = Unit {0}
+ForBoth P (x ∷ xs) (y ∷ ys) = P x y × ForBoth P xs ys
+ForBoth P xs ys = ⊥
+
+-- These are the octets that are written for the documents, each no longer than an input may be.
+abbrev pub AreSent : Root → List (List ℕ) → List (List ℕ × List ℕ) → List (List ℕ) → List (List ℕ) → Type 0
+AreSent root files entries documents records =
+    ForBoth (λ document octets. Due (Serve (Send Aligned false) root files) (Some entries) (Some document) Done octets × (length octets ≤ 16777216)) documents records
+
+-- RECORDS THERE AND BACK: what is written for documents, one after another, is accepted again as records, up to 1,073,741,824 octets in
+-- all. A document is written for each.
+abbrev pub RecordsThereAndBack : Type 0
+RecordsThereAndBack = (root : Root) (files : List (List ℕ)) (entries : List (List ℕ × List ℕ)) (documents records : List (List ℕ)) → 0 < length documents
+    → AreSent root files entries documents records → length (joined records) ≤ 1073741824
+    → (texts : List (List ℕ)) × (length texts ≡ length documents) × Due (Serve Each root files) (Some entries) (Some (joined records)) Done (joined texts)
+
+-- And each document that is written then, which reads back, is valid with the treated items of the first document at its place.
+abbrev pub SameRecordsAgain : Type 0
+SameRecordsAgain = (root : Root) (files : List (List ℕ)) (entries : List (List ℕ × List ℕ)) (documents records : List (List ℕ)) (text : List ℕ)
+    → AreSent root files entries documents records → Due (Serve Each root files) (Some entries) (Some (joined records)) Done text
+    → Back (Serve Each root files) (Some entries) (Some (joined records)) Done text
+    → (opened : SetParts × ℕ) × Opened (Some entries) root files (Ok opened) × ((texts : List (List ℕ)) × (text ≡ joined texts)
+    × ForBoth (λ document text. (treated : Rose Plain) × IsValidText opened document treated × IsValidText opened text treated) documents texts)
+
+-- RECORDS BACK AND THERE: what is written for records is one document for each, and for each document that is no longer than an input may
+-- be, exactly the octets of its record are required.
+abbrev pub RecordsBackAndThere : Type 0
+RecordsBackAndThere = (root : Root) (files : List (List ℕ)) (entries : List (List ℕ × List ℕ)) (octets text : List ℕ) → All (λ x. x < 256) octets
+    → Due (Serve Each root files) (Some entries) (Some octets) Done text → Back (Serve Each root files) (Some entries) (Some octets) Done text
+    → (documents : List (List ℕ)) × (records : List (List ℕ)) × (text ≡ joined documents) × (octets ≡ joined records)
+    × ForBoth (λ document octets. length document ≤ 16777216 → Due (Serve (Send Aligned false) root files) (Some entries) (Some document) Done octets) documents records

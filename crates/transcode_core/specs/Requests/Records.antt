@@ -7,14 +7,12 @@ use Rattle.base_texts.specs.Faults.{HasRisen}
 use Rattle.base_texts.specs.Bytes.{LacksRoom}
 use Rattle.base_texts.specs.declared.sources.Source as sources
 use Rattle.base_texts.specs.declared.sinks.Sink as sinks
-use Rattle.asn_values.specs.Values.{In}
-use Rattle.per_fields.specs.Codec.{AllOf}
 use Rattle.schema_components.specs.SetParts.{SetParts}
 use Rattle.transcode_words.specs.declared.outcome.Outcome.{Outcome}
 use Rattle.transcode_words.specs.declared.outcome.Outcome.TheVariants.{ReadFault, WriteFault, OutOfMemory}
 use Rattle.transcode_core.specs.Steps.{RootType, Written}
 use Rattle.transcode_core.specs.Each.{EachDue}
-use Rattle.transcode_core.specs.Requests.Answers.{ReadsNext, HoldsNext, AreBack}
+use Rattle.transcode_core.specs.Requests.Answers.{ReadsNext, HoldsNext, AreBack, AreRecords}
 
 -- the bytes that the input has left, those that the output received, the room that it states, and how often each of the two has failed
 pub record Streams : Type 0 where
@@ -35,15 +33,15 @@ streams_of of_input of_output input output = record {
 }
 
 module _ (opened : SetParts × ℕ) (type : RootType) where
-  -- the text is documents of values of the root's type, and reads back as these
-  abbrev pub ReadsAsValues : List ℕ → Type 0
-  ReadsAsValues text = (values : List (Rose ValueLabel)) × AllOf (In type.assignments type.number) values × AreBack opened type values text
+  -- the text is the documents of the first records, and reads back as their values
+  abbrev pub ReadsAsRecords : Option (List ℕ) → List ℕ → Type 0
+  ReadsAsRecords left text = (values : List (Rose ValueLabel)) × AreRecords type left values × AreBack opened type values text
 
   abbrev pub EndsRecords : Streams → Streams → Outcome → Type 0
-  EndsRecords old new ReadFault = HasRisen old.read_faults new.read_faults × ((before : List ℕ) × ReadsNext type old.left new.left before × ReadsAsValues before × Appends old.written new.written before)
+  EndsRecords old new ReadFault = HasRisen old.read_faults new.read_faults × ((before : List ℕ) × ReadsNext type old.left new.left before × ReadsAsRecords old.left before × Appends old.written new.written before)
   EndsRecords old new WriteFault = HasRisen old.write_faults new.write_faults
-      × ((before : List ℕ) × (next : List ℕ) × (value : Rose ValueLabel) × HoldsNext type old.left new.left before value × Written type value (Ok next) × ReadsAsValues (before ++ next)
+      × ((before : List ℕ) × (next : List ℕ) × (value : Rose ValueLabel) × HoldsNext type old.left new.left before value × Written type value (Ok next) × ReadsAsRecords old.left (before ++ next)
       × LacksRoom old.room (length before + length next) × ((n : ℕ) × (n ≤ length next) × Appends old.written new.written (before ++ take n next)))
   EndsRecords old new OutOfMemory =
-      (before : List ℕ) × (ReadsNext type old.left new.left before ⊎ ((next : Rose ValueLabel) × HoldsNext type old.left new.left before next)) × ReadsAsValues before × Appends old.written new.written before
-  EndsRecords old new o = (bytes : List ℕ) × EachDue type old.left o bytes × ReadsAsValues bytes × Appends old.written new.written bytes
+      (before : List ℕ) × (ReadsNext type old.left new.left before ⊎ ((next : Rose ValueLabel) × HoldsNext type old.left new.left before next)) × ReadsAsRecords old.left before × Appends old.written new.written before
+  EndsRecords old new o = (bytes : List ℕ) × EachDue type old.left o bytes × ReadsAsRecords old.left bytes × Appends old.written new.written bytes
