@@ -21,9 +21,9 @@ NAME = "docs/internals/PROMISE.md"
 PAGE = os.path.join(HERE, NAME)
 START = [
     ("ruvkhiska", "Runs", "Runs"),
-    ("transcode_cmd", "Runs", "Ends"),
+    ("transcode_cmd", "Runs", "IsOfCommandLine"),
     ("transcode_core", "Runs", "Runs"),
-    ("transcode_core", "Requests/Answers", "Answers"),
+    ("transcode_core", "Requests/Answers", "Promise"),
     ("transcode_core", "Agendas", "Begins"),
     ("transcode_words", "Asked", "IsWithin"),
     ("transcode_words", "AskedSeen", "asked_seen"),

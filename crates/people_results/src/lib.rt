@@ -7,12 +7,13 @@ ghost use Rattle.std.specs.Prelude.{◌≡◌, ℕ, ◌<◌};
 ghost use Rattle.transcode_words.specs.Asked.{IsWithin, files_of};
 ghost use Rattle.transcode_words.specs.AskedSeen.{asked_seen};
 ghost use Rattle.transcode_core.specs.Agendas.{Begins};
-ghost use Rattle.transcode_core.specs.Requests.Answers.{Answers, environment_of};
+ghost use Rattle.transcode_core.specs.Environments.{PromiseIn};
 
 use base_texts::{Library, Sink, Source, Steps};
 use std::alloc::Global;
 use std::marker::Brand;
 use std::sync::ledger::{Blank, Ledger};
+pub use transcode_core::Streams;
 use transcode_core::answer;
 use transcode_words::Outcome;
 use transcode_words::asked::Asked;
@@ -22,8 +23,7 @@ fn answer_counted<F: Library, S: Source, K: Sink, L: Ledger>(
     alloc: Global,
     asked: Asked<'_>,
     library: &mut F,
-    input: &mut S,
-    output: &mut K,
+    streams: Streams<'_, S, K>,
     blank: Blank,
 ) -> Outcome
     requires within { IsWithin (asked_seen asked) }
@@ -31,13 +31,10 @@ fn answer_counted<F: Library, S: Source, K: Sink, L: Ledger>(
     requires name { blank.name ≡ L.name }
     requires parts { blank.parts ≡ L.parts }
     requires some { 0 < L.parts }
-    ensures { (steps : ℕ) × Answers (asked_seen asked.entry)
-        (environment_of F.Library S.Source K.Sink library.old input.old output.old 0)
-        (environment_of F.Library S.Source K.Sink library.new input.new output.new steps)
-        (input.new ≡ input.old) (output.new ≡ output.old) result }
+    ensures { (steps : ℕ) × PromiseIn F.Library S.Source K.Sink (asked_seen asked.entry) library.old library.new streams.entry streams.exit 0 steps result }
 {
     let mut steps = Steps::<L>::new(blank);
-    answer(alloc, asked, library, input, output, &mut steps)
+    answer(alloc, asked, library, streams, &mut steps)
 }
 
 /// Does what `answer` does. The steps are counted from 0, and the count is dropped.
@@ -45,15 +42,11 @@ pub fn answer_in<F: Library, S: Source, K: Sink>(
     alloc: Global,
     asked: Asked<'_>,
     library: &mut F,
-    input: &mut S,
-    output: &mut K,
+    streams: Streams<'_, S, K>,
 ) -> Outcome
     requires within { IsWithin (asked_seen asked) }
     requires named { Begins (F.agenda library.old) (files_of (asked_seen asked)) }
-    ensures { (steps : ℕ) × Answers (asked_seen asked.entry)
-        (environment_of F.Library S.Source K.Sink library.old input.old output.old 0)
-        (environment_of F.Library S.Source K.Sink library.new input.new output.new steps)
-        (input.new ≡ input.old) (output.new ≡ output.old) result }
+    ensures { (steps : ℕ) × PromiseIn F.Library S.Source K.Sink (asked_seen asked.entry) library.old library.new streams.entry streams.exit 0 steps result }
 {
-    answer_counted::<_, _, _, Brand>(alloc, asked, library, input, output, Blank::new(1))
+    answer_counted::<_, _, _, Brand>(alloc, asked, library, streams, Blank::new(1))
 }

@@ -19,7 +19,7 @@ use people_options::{
     Action, Call, Input, LoadedFiles, Output, Parsed, Progress, manual_page, no_request,
     parse_words,
 };
-use people_results::answer_in;
+use people_results::{Streams, answer_in};
 use std::env;
 use std::io::{self, IsTerminal};
 use std::process::ExitCode;
@@ -123,7 +123,11 @@ fn serve<'a>(
     };
     let mut files = LoadedFiles::new(alloc, rt, progress);
     let mut output = output_of(rt, call, progress);
-    let answered = answer_in(alloc, asked, &mut files, &mut input, &mut output);
+    let streams = Streams {
+        input: &mut input,
+        output: &mut output,
+    };
+    let answered = answer_in(alloc, asked, &mut files, streams);
     let outcome = output.finish(answered);
     progress.end();
     if !matches!(outcome, Outcome::Done) {

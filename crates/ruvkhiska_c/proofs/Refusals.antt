@@ -7,6 +7,7 @@ use Rattle.transcode_words.specs.declared.outcome.Outcome.{Outcome}
 use Rattle.transcode_words.specs.declared.outcome.Outcome.TheVariants.{Done, Usage, SchemaSyntax, SchemaFault, LinkFault, UnknownRoot, Stamp, DocSyntax, Invalid, PerFault, RecordFault, DerFault, ModuleFault, Trailing, TooLong, TooManyNodes, LoadFault, ReadFault, WriteFault, OutOfMemory}
 use Rattle.transcode_words.specs.Answers.{Answers, IsRefusal, NoMemory}
 use Rattle.transcode_words.specs.Status.{status}
+use Rattle.transcode_words.specs.Asked.{Named}
 use Rattle.transcode_core.specs.Due.{Opened}
 use Rattle.transcode_messages.specs.declared.converting.Message.{Message}
 use Rattle.transcode_messages.specs.Messages.{names_of, IsLine}
@@ -45,7 +46,7 @@ same_in_c o result is = subst (λ z. in_c z ≡ pos (status o)) (sym is) (status
 
 -- a root that is text, and no set with it
 pub no_set : (files : List (List ℕ × List ℕ)) (space local : List ℕ) (root : Name) (o : Outcome) → IsUtf8 space × IsUtf8 local × (root ≡ record { space = space; local = local })
-    → (Opened (Some files) root (names_of files) (Err o) × IsRefusal o) ⊎ NoMemory o → (PreparedOf files space local (Err o) × IsRefusal o) ⊎ NoMemory o
+    → (Opened (Some files) (Named root) (names_of files) (Err o) × IsRefusal o) ⊎ NoMemory o → (PreparedOf files space local (Err o) × IsRefusal o) ⊎ NoMemory o
 no_set files space local root o texts (inl (due, own)) = inl (inr (root, texts, due), own)
 no_set files space local root o texts (inr memory) = inr memory
 

@@ -9,6 +9,7 @@ use Rattle.transcode_words.specs.declared.tasks.Syntax.TheVariants.{Aligned, Una
 use Rattle.transcode_words.specs.Answers.{IsRefusal, NoMemory}
 use Rattle.transcode_words.specs.Order.{Found, Then}
 use Rattle.transcode_words.specs.Status.{status}
+use Rattle.transcode_words.specs.Asked.{Named}
 use Rattle.transcode_core.specs.Due.{Opened, Encoded, Documented}
 use Rattle.transcode_messages.specs.Messages.{names_of, IsLine}
 
@@ -28,7 +29,7 @@ Texts space local (Err o) = (IsUtf8 space → IsUtf8 local → ⊥) × (o ≡ Us
 
 -- the set that the files are, with the root in it
 abbrev pub PreparedOf : List (List ℕ × List ℕ) → List ℕ → List ℕ → Result (SetParts × ℕ) Outcome → Type 0
-PreparedOf files space local = Then (Texts space local) (λ root. Opened (Some files) root (names_of files))
+PreparedOf files space local = Then (Texts space local) (λ root. Opened (Some files) (Named root) (names_of files))
 
 -- the transfer syntaxes by their numbers in C
 abbrev pub syntax_numbered : ℕ → Option Syntax

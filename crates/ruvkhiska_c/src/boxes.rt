@@ -8,7 +8,7 @@ ghost use Rattle.ruvkhiska_c.specs.Statuses.{PreparedOf, syntax_numbered, Encode
 
 use std::alloc::Global;
 use std::str::from_utf8;
-use transcode_messages::{Message, Outcome, Prepared, Root, SchemaFiles, Syntax, decode, encode};
+use transcode_messages::{Message, Outcome, Prepared, RootName, SchemaFiles, Syntax, decode, encode};
 
 // Returns the syntax with this number.
 fn syntax_of(number: u32) -> Option<Syntax>
@@ -26,7 +26,7 @@ fn syntax_of(number: u32) -> Option<Syntax>
 }
 
 // Returns the root, if both are UTF-8.
-fn root_of<'a>(space: &'a [u8], local: &'a [u8]) -> Option<Root<'a>>
+fn root_of<'a>(space: &'a [u8], local: &'a [u8]) -> Option<RootName<'a>>
     ensures { MatchOption result (IsUtf8 space.now → IsUtf8 local.now → ⊥)
         (λ root. IsUtf8 space.now × IsUtf8 local.now × (root_seen root ≡ record { space = space.now; local = local.now })) }
 {
@@ -36,7 +36,7 @@ fn root_of<'a>(space: &'a [u8], local: &'a [u8]) -> Option<Root<'a>>
     let Ok(local) = from_utf8(local) else {
         return None;
     };
-    Some(Root { space, local })
+    Some(RootName { space, local })
 }
 
 /// Prepares the files and the root.

@@ -6,16 +6,12 @@ pub mod Agendas
 pub mod DerOctets
 pub mod Syntaxes
 pub mod Octets
-pub mod NeverDone
 pub mod Again
-pub mod Counted
 pub mod Unseen
 pub mod Trials
 pub mod Received
 pub mod Taken
 pub mod Valuing
-pub mod Answering
-pub mod SomeSets
 pub mod Eaching
 pub mod EachLaws
 pub mod Ready

@@ -15,14 +15,14 @@ use Rattle.transcode_core.specs.Preparing.{prepared_seen}
 use Rattle.transcode_core.specs.Steps.{RootType, IsTypeOf, Typed, ValueIn, Encoding}
 use Rattle.transcode_core.specs.Due.{ItemsIn, Encoded}
 use Rattle.transcode_core.proofs.Exits.{refused_by}
-use Rattle.transcode_core.specs.Requests.Records.{Streams, EndsRecords}
+use Rattle.transcode_core.specs.Requests.Records.{StreamState, EndsRecords}
 
 -- its type is that of its root
 pub typed_of : (s : Set) (n : ℕ) (p : Set × ℕ) (type : RootType) → (s, n) ≡ p → IsTypeOf s n type → Typed (prepared_seen p) (Ok type)
 typed_of s n p type is h = subst (λ q. Typed (prepared_seen q) (Ok type)) is (s, refl, h)
 
 -- what holds after an outcome of records
-pub ends_of : (s : Set) (n : ℕ) (p : Set × ℕ) (type : RootType) (old new : Streams) (o : Outcome) → (s, n) ≡ p → EndsRecords (prepared_seen (s, n)) type old new o → EndsRecords (prepared_seen p) type old new o
+pub ends_of : (s : Set) (n : ℕ) (p : Set × ℕ) (type : RootType) (old new : StreamState) (o : Outcome) → (s, n) ≡ p → EndsRecords (prepared_seen (s, n)) type old new o → EndsRecords (prepared_seen p) type old new o
 ends_of s n p type old new o is h = subst (λ q. EndsRecords (prepared_seen q) type old new o) is h
 
 -- a step that passes with a value, and an answer that is given of this value

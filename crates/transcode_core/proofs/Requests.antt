@@ -1,12 +1,4 @@
 pub mod Rooting
-pub mod Singles
-pub mod Ending
-pub mod Room
-pub mod Order
-pub mod Returning
-pub mod There
-pub mod RecordLaws
-pub mod Existing
 pub mod Streaming
 pub mod Looping
 pub mod Stamps

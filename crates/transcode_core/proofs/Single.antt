@@ -8,13 +8,14 @@ use Rattle.xml_items.specs.declared.label.ItemLabel.{ItemLabel}
 use Rattle.xml_read.specs.declared.error.DocWhy.{DocWhy}
 use Rattle.xml_read.proofs.OneTree.{one_tree, tree_or_fault, one_fault}
 use Rattle.xml_read.proofs.PieceLaws.{PieceLaws}
+use Rattle.transcode_words.specs.Asked.{Root, Named}
 use Rattle.transcode_words.specs.declared.outcome.Outcome.{Outcome}
 use Rattle.transcode_words.specs.declared.outcome.Outcome.TheVariants.{SchemaFault, LinkFault, ModuleFault, Invalid, TooManyNodes}
 use Rattle.transcode_words.specs.Order.{Give, Found, Then}
 use Rattle.schema_faults.specs.Faults.{first_fault, reasons}
 use Rattle.schema_faults.specs.declared.faults.DocumentFault.{DocumentFault}
 use Rattle.transcode_core.specs.Steps.{Loaded, Read, Faultless, Linked, ModuleIn, Schema, Schemas, Input, Judged, RootType, IsRootType, Typed, Valued, Encoding, Streamed, DecodedOf, Decoded, Written}
-use Rattle.transcode_core.specs.Due.{SetIn, Opened, ItemsIn, Checked, Encoded, Tried}
+use Rattle.transcode_core.specs.Due.{SetIn, root_in, Opened, ItemsIn, Checked, Encoded, Tried}
 use Rattle.transcode_words.specs.declared.tasks.Syntax.{Syntax}
 use Rattle.transcode_words.specs.declared.tasks.Syntax.TheVariants.{Aligned, Unaligned, Der}
 use Rattle.transcode_core.specs.Syntaxes.{AreOctetsOf, AllSyntaxes}
@@ -179,10 +180,10 @@ same_parts s t e =
 pub SetIn-single : PieceLaws → (entries : List (List ℕ × List ℕ)) (files : List (List ℕ)) → IsSingle (SetIn (Some entries) files)
 SetIn-single laws entries files = Then-single _ _ (Schemas-single laws entries 1 files) (λ documents. Linked-single documents)
 
-pub Opened-single : PieceLaws → (entries : List (List ℕ × List ℕ)) (root : Name) (files : List (List ℕ)) → IsSingle (Opened (Some entries) root files)
+pub Opened-single : PieceLaws → (entries : List (List ℕ × List ℕ)) (root : Root) (files : List (List ℕ)) → IsSingle (Opened (Some entries) root files)
 Opened-single laws entries root files =
     Then-single _ _ (SetIn-single laws entries files) (λ parts.
-    Then-single _ _ (Found-single _ _) (λ n. Give-single (parts, n)))
+    Then-single _ _ (Found-single (root_in parts root) UnknownRoot) (λ n. Give-single (parts, n)))
 
 pub ItemsIn-single : PieceLaws → (left : List ℕ) → IsSingle (ItemsIn (Some left))
 ItemsIn-single laws left = Then-single _ _ (Input-single left) (λ bytes. Read-single laws _ bytes)
@@ -302,5 +303,5 @@ Encoded-single laws syntax opened left =
 
 pub Tried-single : Laws → (lines : ℕ) → IsSingle (Tried lines)
 Tried-single laws lines =
-    Then-single _ _ (Then-single _ _ (Opened-single laws.pieces ((trial_name, trial_schema) ∷ []) trial_root (trial_name ∷ [])) (λ opened. Encoded-single laws Aligned opened (trial_document lines)))
+    Then-single _ _ (Then-single _ _ (Opened-single laws.pieces ((trial_name, trial_schema) ∷ []) (Named trial_root) (trial_name ∷ [])) (λ opened. Encoded-single laws Aligned opened (trial_document lines)))
     (λ octets. Give-single _)

@@ -3,6 +3,7 @@ use Rattle.std.proofs.Common.{◌≡◌, ◌⊎◌, ℕ, List, [], ◌∷◌, �
 use Rattle.std.specs.Prelude.{Vec, IsErrAnd, true}
 use Rattle.std.specs.declared.alloc.Global.{Global}
 use Rattle.base_texts.specs.Entries.{beside}
+use Rattle.transcode_words.specs.Asked.{Named}
 use Rattle.transcode_words.specs.declared.outcome.Outcome.{Outcome}
 use Rattle.transcode_words.specs.declared.tasks.Syntax.TheVariants.{Aligned}
 use Rattle.base_trees.specs.Rose.{Rose}
@@ -43,18 +44,18 @@ only_memory view due loads loads_now (Err o) (inr (inr (k, name, is, reaches, fa
 -- the same of the library and the name that the code made
 pub opened_trial : {C : Type 0} (view : C → SetParts × ℕ) (entries : List (List ℕ × List ℕ)) (name : List ℕ) (loads loads_now : ℕ) (v : Result C Outcome)
     → entries ≡ trial_files → name ≡ trial_name
-    → Answers view (Opened (Some entries) trial_root (name ∷ [])) (SomeLoad loads loads_now true (Some entries) (name ∷ [])) v
-    → Answers view (Opened (Some trial_files) trial_root (trial_name ∷ [])) NoMemory v
+    → Answers view (Opened (Some entries) (Named trial_root) (name ∷ [])) (SomeLoad loads loads_now true (Some entries) (name ∷ [])) v
+    → Answers view (Opened (Some trial_files) (Named trial_root) (trial_name ∷ [])) NoMemory v
 opened_trial view entries name loads loads_now v e f due =
-    let one = subst (λ es. Answers view (Opened (Some es) trial_root (name ∷ [])) (SomeLoad loads loads_now true (Some es) (name ∷ [])) v) e due in
-    let two = subst (λ n. Answers view (Opened (Some trial_files) trial_root (n ∷ [])) (SomeLoad loads loads_now true (Some trial_files) (n ∷ [])) v) f one in
-    only_memory view (Opened (Some trial_files) trial_root (trial_name ∷ [])) loads loads_now v two
+    let one = subst (λ es. Answers view (Opened (Some es) (Named trial_root) (name ∷ [])) (SomeLoad loads loads_now true (Some es) (name ∷ [])) v) e due in
+    let two = subst (λ n. Answers view (Opened (Some trial_files) (Named trial_root) (n ∷ [])) (SomeLoad loads loads_now true (Some trial_files) (n ∷ [])) v) f one in
+    only_memory view (Opened (Some trial_files) (Named trial_root) (trial_name ∷ [])) loads loads_now v two
 
 -- ---- the line of a trial
 
 -- the encoding of a document of the schema of the trial
 abbrev pub SentTrial : List ℕ → Result (List ℕ) Outcome → Type 0
-SentTrial document = Then (Opened (Some trial_files) trial_root (trial_name ∷ [])) (λ opened. Encoded Aligned opened (Some document))
+SentTrial document = Then (Opened (Some trial_files) (Named trial_root) (trial_name ∷ [])) (λ opened. Encoded Aligned opened (Some document))
 
 abbrev pub Line : ℕ → List ℕ → Result (List ℕ) Outcome → Type 0
 Line lines octets = Give (summary lines (length (trial_document lines)) (length octets))

@@ -4,10 +4,10 @@ use Rattle.transcode_words.specs.declared.outcome.Outcome.{Outcome}
 use Rattle.transcode_words.specs.declared.outcome.Outcome.TheVariants.{Done, Usage, SchemaSyntax, SchemaFault, LinkFault, UnknownRoot, Stamp, DocSyntax, Invalid, PerFault, RecordFault, DerFault, ModuleFault, Trailing, TooLong, TooManyNodes, LoadFault, ReadFault, WriteFault, OutOfMemory}
 use Rattle.transcode_words.specs.Asked.{Asked}
 use Rattle.transcode_words.specs.Commands.{asked_by}
-use Rattle.transcode_core.specs.Requests.Answers.{Environment, Ends, Answers}
-use Rattle.transcode_core.specs.Runs.{Complaints, AnswersIf, Runs}
+use Rattle.transcode_core.specs.Requests.Answers.{State, Ends, Promise}
+use Rattle.transcode_core.specs.Runs.{Complaints, PromiseIf, Runs}
 
-module _ (asked : Asked) (old new : Environment) {A B : Type 0} where
+module _ (asked : Asked) (old new : State) {A B : Type 0} where
   ends : (o : Outcome) → Ends asked old new A o → (A → B) → Ends asked old new B o
   ends (LoadFault k) (same, rest) f = (f same, rest)
   ends OutOfMemory (inl same) f = inl (f same)
@@ -31,8 +31,8 @@ module _ (asked : Asked) (old new : Environment) {A B : Type 0} where
   ends (TooLong k) e f = e
   ends (TooManyNodes count) e f = e
 
-module _ (old new : Environment) (A B : Type 0) (o : Outcome) where
-  pub answers_unseen : (asked : Asked) → Answers asked old new A B o → Answers asked old new (Unit {0}) (Unit {0}) o
+module _ (old new : State) (A B : Type 0) (o : Outcome) where
+  pub answers_unseen : (asked : Asked) → Promise asked old new A B o → Promise asked old new (Unit {0}) (Unit {0}) o
   answers_unseen asked a = record {
     ends = ends asked old new o a.ends (λ same. (tt, tt));
     input = inl tt;
@@ -47,7 +47,7 @@ module _ (old new : Environment) (A B : Type 0) (o : Outcome) where
     many = a.many;
   }
 
-  if_unseen : (asked : Option Asked) → AnswersIf asked old new A B o → AnswersIf asked old new (Unit {0}) (Unit {0}) o
+  if_unseen : (asked : Option Asked) → PromiseIf asked old new A B o → PromiseIf asked old new (Unit {0}) (Unit {0}) o
   if_unseen None (usage, same, input, output) = (usage, same, tt, tt)
   if_unseen (Some asked) a = answers_unseen asked a
 

@@ -1,28 +1,37 @@
 -- Results that are made of schema files and an input, or the first rejection in the order of the steps. What is required of a request
 -- (`Requests/Due`) is made of these.
-use Rattle.std.specs.Prelude.{ℕ, List, [], ◌∷◌, length, Option, Some, Result}
-use Rattle.base_texts.specs.declared.texts.Name.{Name}
+use Rattle.std.specs.Prelude.{ℕ, ◌==◌, List, [], ◌∷◌, length, take, Option, Some, None, Result, if◌then◌else◌}
 use Rattle.base_trees.specs.Rose.{Rose}
 use Rattle.xml_items.specs.declared.label.ItemLabel.{ItemLabel}
 use Rattle.schema_components.specs.SetParts.{SetParts}
 use Rattle.transcode_words.specs.declared.outcome.Outcome.{Outcome}
-use Rattle.transcode_words.specs.declared.outcome.Outcome.TheVariants.{DocSyntax}
+use Rattle.transcode_words.specs.declared.outcome.Outcome.TheVariants.{UnknownRoot, DocSyntax}
+use Rattle.transcode_words.specs.Asked.{Root, Named, Only}
 use Rattle.transcode_words.specs.declared.tasks.Syntax.{Syntax}
 use Rattle.transcode_words.specs.declared.tasks.Syntax.TheVariants.{Aligned}
 use Rattle.module_read.specs.Summary as back
-use Rattle.transcode_words.specs.Order.{Give, Then}
+use Rattle.transcode_words.specs.Order.{Give, Found, Then}
 use Rattle.transcode_core.specs.Trial.{trial_root, trial_name, trial_schema, trial_document, summary}
-use Rattle.transcode_core.specs.Steps.{Loaded, Schemas, Linked, ModuleIn, Rooted, Input, Read, Judged, Typed, ValueIn, Encoding, Decoded, Written}
+use Rattle.transcode_core.specs.Steps.{Loaded, Schemas, Linked, ModuleIn, number_named, Input, Read, Judged, Typed, ValueIn, Encoding, Decoded, Written}
 
 -- the set that the files are
 abbrev pub SetIn : Option (List (List ℕ × List ℕ)) → List (List ℕ) → Result SetParts Outcome → Type 0
 SetIn entries files = Then (Schemas entries 1 files) (λ documents. Linked documents)
 
--- this set, and the number of its global element with this name
-abbrev pub Opened : Option (List (List ℕ × List ℕ)) → Name → List (List ℕ) → Result (SetParts × ℕ) Outcome → Type 0
+-- the number of the only global element, if there is exactly one
+abbrev pub only_global : SetParts → Option ℕ
+only_global parts = if parts.globals == 1 then Some 0 else None
+
+-- the number of the global element that the request takes for the root, if there is one
+abbrev pub root_in : SetParts → Root → Option ℕ
+root_in parts (Named name) = number_named name (take parts.globals parts.elements)
+root_in parts Only = only_global parts
+
+-- the schema files are one set, and this element of it is the root (else `UnknownRoot`): the set, and the number of the root
+abbrev pub Opened : Option (List (List ℕ × List ℕ)) → Root → List (List ℕ) → Result (SetParts × ℕ) Outcome → Type 0
 Opened entries root files =
     Then (SetIn entries files) (λ parts.
-    Then (Rooted root parts) (λ n.
+    Then (Found (root_in parts root) UnknownRoot) (λ n.
     Give (parts, n)))
 
 -- the items of the document in the input
@@ -54,7 +63,7 @@ Documented syntax opened left =
 -- the encoding of the trial document of this number of lines, whose schema is the only file
 abbrev pub TrialSent : ℕ → Result (List ℕ) Outcome → Type 0
 TrialSent lines =
-    Then (Opened (Some ((trial_name, trial_schema) ∷ [])) trial_root (trial_name ∷ [])) (λ opened. Encoded Aligned opened (Some (trial_document lines)))
+    Then (Opened (Some ((trial_name, trial_schema) ∷ [])) (Named trial_root) (trial_name ∷ [])) (λ opened. Encoded Aligned opened (Some (trial_document lines)))
 
 -- the summary of this encoding
 abbrev pub Tried : ℕ → Result (List ℕ) Outcome → Type 0

@@ -91,10 +91,6 @@ abbrev pub number_named : Name → List ElementDecl → Option ℕ
 number_named name [] = None
 number_named name (e ∷ es) = if name_eq e.name name then Some 0 else option_map (λ n. suc n) (number_named name es)
 
--- the number of the global element with the name
-abbrev pub Rooted : Name → SetParts → Result ℕ Outcome → Type 0
-Rooted root parts = Found (number_named root (take parts.globals parts.elements)) UnknownRoot
-
 -- the module of which the bytes are the print, or their first fault
 abbrev pub ModuleIn : List ℕ → Result (List Assignment) Outcome → Type 0
 ModuleIn bytes (Ok M) = Tells bytes M

@@ -1,15 +1,15 @@
 //! The answer to a request.
-ghost use Rattle.std.specs.Prelude.{◌≡◌};
 ghost use Rattle.transcode_words.specs.Asked.{IsWithin, files_of};
 ghost use Rattle.transcode_words.specs.AskedSeen.{asked_seen};
 ghost use Rattle.transcode_core.specs.Agendas.{Begins};
-ghost use Rattle.transcode_core.specs.Requests.Answers.{Answers, environment_of};
+ghost use Rattle.transcode_core.specs.Environments.{PromiseIn};
 
 use crate::delivering::deliver;
 use crate::modules::show_back;
 use crate::opening::open_asked;
 use crate::serving::serve_task;
 use crate::showing::show_files;
+use crate::streams::Streams;
 use crate::trial::try_out;
 use base_texts::{Library, Sink, Source, Steps};
 use std::alloc::Global;
@@ -26,22 +26,19 @@ pub fn answer<F: Library, S: Source, K: Sink, L: Ledger>(
     alloc: Global,
     asked: Asked<'_>,
     library: &mut F,
-    input: &mut S,
-    output: &mut K,
+    streams: Streams<'_, S, K>,
     steps: &mut Steps<L>,
 ) -> Outcome
     requires within { IsWithin (asked_seen asked) }
     requires named { Begins (F.agenda library.old) (files_of (asked_seen asked)) }
-    ensures { Answers (asked_seen asked.entry)
-        (environment_of F.Library S.Source K.Sink library.old input.old output.old steps.old)
-        (environment_of F.Library S.Source K.Sink library.new input.new output.new steps.new)
-        (input.new ≡ input.old) (output.new ≡ output.old) result }
+    ensures { PromiseIn F.Library S.Source K.Sink (asked_seen asked.entry) library.old library.new streams.entry streams.exit steps.old steps.new result }
 {
+    let Streams { input, output } = streams;
     match asked {
         Asked::Show { form, files } => deliver(show_files(alloc, form, library, files), output),
         Asked::ShowBack { file } => deliver(show_back(alloc, library, file), output),
         Asked::Serve { task, root, files } => match open_asked(alloc, library, root, files) {
-            Ok(opened) => serve_task(alloc, task, opened, input, output, steps),
+            Ok(opened) => serve_task(alloc, task, opened, Streams { input, output }, steps),
             Err(outcome) => outcome,
         },
         Asked::Trial { lines } => deliver(try_out(alloc, lines, steps), output),

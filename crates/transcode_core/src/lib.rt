@@ -13,7 +13,6 @@ mod eight_bits;
 mod environments;
 mod files;
 mod judging;
-mod laws;
 mod linking;
 mod modules;
 mod opened;
@@ -26,6 +25,7 @@ mod serving;
 mod showing;
 mod stamped;
 mod stamps;
+mod streams;
 mod top;
 mod trial;
 mod typing;
@@ -33,12 +33,9 @@ mod typing;
 pub use asking::answer;
 pub use counting::run_in;
 pub use environments::Environment;
-pub use laws::{
-    back_and_there, complete, exactly_one_of_both, one_answer, order, records_back_and_there,
-    records_there_and_back, some_answer, there_and_back, trial_elements,
-};
 pub use prepared::Prepared;
 pub use stamps::{STAMP_LENGTH, stamp_line, stamp_of};
+pub use streams::Streams;
 pub use top::run;
 pub use transcode_words::{Outcome, write_line};
 pub use trial::trial_document;

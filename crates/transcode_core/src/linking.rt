@@ -2,11 +2,12 @@
 ghost use Rattle.std.specs.Prelude.{◌≡◌, ◌≤◌, length, IfOk, IfErr, map};
 ghost use Rattle.schema_components.specs.Documents.{doc_of};
 ghost use Rattle.schema_components.specs.SetParts.{parts_of};
+ghost use Rattle.transcode_words.specs.Asked.{Named};
 ghost use Rattle.transcode_words.specs.AskedSeen.{chosen_seen};
 ghost use Rattle.transcode_words.specs.Seen.{root_seen};
 ghost use Rattle.transcode_core.specs.Private.Seen.{opened_seen};
-ghost use Rattle.transcode_core.specs.Steps.{Linked, Rooted};
-ghost use Rattle.transcode_core.specs.Requests.Due.{only_global, root_in};
+ghost use Rattle.transcode_core.specs.Steps.{Linked};
+ghost use Rattle.transcode_core.specs.Due.{only_global, root_in};
 ghost use Rattle.transcode_words.specs.Order.{Give, Found, Then};
 ghost use Rattle.link_schemas.specs.Sets.{AreNumbered};
 ghost use Rattle.transcode_words.specs.Answers.{Answers, NoMemory};
@@ -16,8 +17,8 @@ use base_texts::{Name, Text};
 use link_schemas::{LinkError, link};
 use schema_components::{RawDoc, SchemaSet, find_root};
 use std::alloc::Global;
-use transcode_words::asked::Root as Chosen;
-use transcode_words::{Outcome, Root};
+use transcode_words::asked::Root;
+use transcode_words::{Outcome, RootName};
 
 /// Returns the documents as one set.
 pub fn link_files(alloc: Global, documents: &[RawDoc]) -> Result<SchemaSet, Outcome>
@@ -43,7 +44,7 @@ fn part_of(alloc: Global, part: &str) -> Result<Text, Outcome>
     }
 }
 
-fn name_of(alloc: Global, root: Root<'_>) -> Result<Name, Outcome>
+fn name_of(alloc: Global, root: RootName<'_>) -> Result<Name, Outcome>
     ensures ok { IfOk result (λ name. name ≡ root_seen root.entry) }
     ensures err { IfErr result NoMemory }
 {
@@ -53,8 +54,8 @@ fn name_of(alloc: Global, root: Root<'_>) -> Result<Name, Outcome>
 }
 
 // Returns the number of the global element with this name.
-fn root_number(alloc: Global, root: Root<'_>, set: &SchemaSet) -> Result<u32, Outcome>
-    ensures { Answers (λ n. n) (Rooted (root_seen root.entry) (parts_of set.now)) NoMemory result }
+fn root_number(alloc: Global, root: RootName<'_>, set: &SchemaSet) -> Result<u32, Outcome>
+    ensures { Answers (λ n. n) (Found (root_in (parts_of set.now) (Named (root_seen root.entry))) Outcome.UnknownRoot) NoMemory result }
 {
     let name = name_of(alloc, root)?;
     let _ = set.element_count();
@@ -76,17 +77,17 @@ fn only_root(set: &SchemaSet) -> Result<u32, Outcome>
 }
 
 // Returns the number of the global element that the request takes for the root.
-fn chosen_root(alloc: Global, root: Chosen<'_>, set: &SchemaSet) -> Result<u32, Outcome>
+fn chosen_root(alloc: Global, root: Root<'_>, set: &SchemaSet) -> Result<u32, Outcome>
     ensures { Answers (λ n. n) (Found (root_in (parts_of set.now) (chosen_seen root.entry)) Outcome.UnknownRoot) NoMemory result }
 {
     match root {
-        Chosen::Named(name) => root_number(alloc, name, set),
-        Chosen::Only => only_root(set),
+        Root::Named(name) => root_number(alloc, name, set),
+        Root::Only => only_root(set),
     }
 }
 
 /// Returns the set with the number of its root.
-pub fn open_chosen(alloc: Global, root: Chosen<'_>, set: SchemaSet) -> Result<Opened, Outcome>
+pub fn open_chosen(alloc: Global, root: Root<'_>, set: SchemaSet) -> Result<Opened, Outcome>
     ensures { Answers opened_seen (Then (Found (root_in (parts_of set) (chosen_seen root.entry)) Outcome.UnknownRoot) (λ n. Give (parts_of set, n))) NoMemory result }
 {
     let root = chosen_root(alloc, root, &set)?;

@@ -5,9 +5,8 @@ ghost use Rattle.transcode_words.specs.AskedSeen.{chosen_seen};
 ghost use Rattle.transcode_words.specs.Answers.{Answers};
 ghost use Rattle.transcode_core.specs.Agendas.{Begins, LoadsFirst};
 ghost use Rattle.transcode_core.specs.Private.Seen.{opened_seen};
-ghost use Rattle.transcode_core.specs.Due.{SetIn};
 ghost use Rattle.transcode_core.specs.Due as due;
-ghost use Rattle.transcode_core.specs.Requests.Due as requests;
+ghost use Rattle.transcode_core.specs.Due.{SetIn};
 ghost use Rattle.transcode_core.specs.Causes.{SomeLoad};
 
 use crate::linking::{link_files, open_chosen};
@@ -46,7 +45,7 @@ pub fn open_asked<F: Library>(
 ) -> Result<Opened, Outcome>
     requires few { length names.now ≤ 64 }
     requires named { Begins (F.agenda files.old) names.now }
-    ensures due { Answers opened_seen (requests.Opened (F.entries files.old) (chosen_seen root.entry) names.now)
+    ensures due { Answers opened_seen (due.Opened (F.entries files.old) (chosen_seen root.entry) names.now)
         (SomeLoad (F.faults files.old) (F.faults files.new) (F.is_sure files.old) (F.entries files.old) names.now) result }
     ensures files { (F.entries files.new ≡ F.entries files.old) × (F.is_sure files.new ≡ F.is_sure files.old) }
     ensures named { LoadsFirst names.now (F.agenda files.old) (F.agenda files.new) }

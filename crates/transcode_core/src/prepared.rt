@@ -3,6 +3,7 @@ ghost use Rattle.std.specs.Prelude.{◌≡◌, ℕ, ◌+◌, ◌*◌, ◌≤◌,
 ghost use Rattle.std.specs.Io.KnownBytes.{IsAtEnd};
 ghost use Rattle.schema_components.specs.SetParts.{parts_of};
 ghost use Rattle.xml_items.specs.Counts.{element_count};
+ghost use Rattle.transcode_words.specs.Asked.{Named};
 ghost use Rattle.transcode_words.specs.Seen.{root_seen};
 ghost use Rattle.transcode_words.specs.Order.{Give, Then};
 ghost use Rattle.transcode_words.specs.Answers.{Answers, NoMemory};
@@ -31,10 +32,17 @@ use base_texts::{Library, Sink, Source, Steps, Text};
 use std::alloc::Global;
 use std::marker::Model;
 use std::sync::ledger::Ledger;
-use transcode_words::asked::Root as Chosen;
-use transcode_words::{Outcome, Root, Syntax};
+use transcode_words::asked::Root;
+use transcode_words::{Outcome, RootName, Syntax};
 use value_laws::documents_of_values;
 use xml_read::Items;
+
+/// How an encoding is transferred: in this transfer syntax, and after the stamp of the set if `stamped` holds.
+#[derive(Clone, Copy)]
+pub struct Transfer {
+    pub syntax: Syntax,
+    pub stamped: bool,
+}
 
 /// Schemas that were read: a set with its root and its map, for any number of messages. Definitions see the set and the number of the root.
 /// No call changes it.
@@ -75,18 +83,18 @@ impl Prepared {
     pub fn open<F: Library>(
         alloc: Global,
         files: &mut F,
-        root: Root<'_>,
+        root: RootName<'_>,
         names: &[Text],
     ) -> Result<Prepared, Outcome>
         requires few { length names.now ≤ 64 }
         requires named { Begins (F.agenda files.old) names.now }
-        ensures due { Answers prepared_seen (due.Opened (F.entries files.old) (root_seen root.entry) names.now)
+        ensures due { Answers prepared_seen (due.Opened (F.entries files.old) (Named (root_seen root.entry)) names.now)
             (SomeLoad (F.faults files.old) (F.faults files.new) (F.is_sure files.old) (F.entries files.old) names.now) result }
         ensures files { (F.entries files.new ≡ F.entries files.old) × (F.is_sure files.new ≡ F.is_sure files.old) }
         ensures named { LoadsFirst names.now (F.agenda files.old) (F.agenda files.new) }
         ensures later { F.faults files.old ≤ F.faults files.new }
     {
-        let opened = open_asked(alloc, files, Chosen::Named(root), names)?;
+        let opened = open_asked(alloc, files, Root::Named(root), names)?;
         Prepared::of(alloc, opened)
     }
 
@@ -221,22 +229,22 @@ impl Prepared {
         write_input(alloc, syntax, &self.typed, input)
     }
 
-    /// Returns the encoding of the value of the document in the input, after the stamp of the set where `stamped` holds.
+    /// Returns the encoding of the value of the document in the input, after the stamp of the set if `transfer` has it.
     pub fn send<S: Source, L: Ledger>(
         &self,
         alloc: Global,
-        syntax: Syntax,
-        stamped: bool,
+        transfer: Transfer,
         input: &mut S,
         steps: &mut Steps<L>,
     ) -> Result<Vec<u8>, Outcome>
-        ensures due { Answers (λ bytes. bytes.items) (request.Encoded syntax stamped (prepared_seen self.now) (S.left input.old)) (OneRead (S.faults input.old) (S.faults input.new)) result }
+        ensures due { Answers (λ bytes. bytes.items) (request.Sent transfer.syntax transfer.stamped (prepared_seen self.now) (S.left input.old)) (OneRead (S.faults input.old) (S.faults input.new)) result }
         ensures end { OnOk result (IsAtEnd (S.left input.new)) }
         ensures stage { IfErr result IsOfInput }
         ensures later { S.faults input.old ≤ S.faults input.new }
         ensures few { StepsUpTo (λ items. ItemsIn (S.left input.old) (Ok items)) steps.old steps.new }
         ensures many { OnOk result (StepsFrom (λ items. ItemsIn (S.left input.old) (Ok items)) steps.old steps.new) }
     {
+        let Transfer { syntax, stamped } = transfer;
         let octets = self.encode_input(alloc, syntax, input, steps)?;
         with_stamp(alloc, stamped, &self.typed, octets)
     }
@@ -248,7 +256,7 @@ impl Prepared {
         syntax: Syntax,
         input: &mut S,
     ) -> Result<Vec<u8>, Outcome>
-        ensures due { Answers (λ bytes. bytes.items) (request.Documented syntax true (prepared_seen self.now) (S.left input.old)) (OneRead (S.faults input.old) (S.faults input.new)) result }
+        ensures due { Answers (λ bytes. bytes.items) (request.Received syntax true (prepared_seen self.now) (S.left input.old)) (OneRead (S.faults input.old) (S.faults input.new)) result }
         ensures back { IfOk result (λ bytes. ReceivedBack syntax true (prepared_seen self.now) (S.left input.old) bytes.items) }
         ensures end { OnOk result (IsAtEnd (S.left input.new)) }
         ensures stage { IfErr result IsOfInput }
@@ -259,21 +267,21 @@ impl Prepared {
         self.decode(alloc, syntax, input)
     }
 
-    /// Returns the document of the value of which the input is the encoding, after the stamp of the set where `stamped` holds.
+    /// Returns the document of the value of which the input is the encoding, after the stamp of the set if `transfer` has it.
     pub fn receive<S: Source>(
         &self,
         alloc: Global,
-        syntax: Syntax,
-        stamped: bool,
+        transfer: Transfer,
         input: &mut S,
     ) -> Result<Vec<u8>, Outcome>
-        ensures due { Answers (λ bytes. bytes.items) (request.Documented syntax stamped (prepared_seen self.now) (S.left input.old)) (OneRead (S.faults input.old) (S.faults input.new)) result }
-        ensures back { IfOk result (λ bytes. ReceivedBack syntax stamped (prepared_seen self.now) (S.left input.old) bytes.items) }
+        ensures due { Answers (λ bytes. bytes.items) (request.Received transfer.syntax transfer.stamped (prepared_seen self.now) (S.left input.old)) (OneRead (S.faults input.old) (S.faults input.new)) result }
+        ensures back { IfOk result (λ bytes. ReceivedBack transfer.syntax transfer.stamped (prepared_seen self.now) (S.left input.old) bytes.items) }
         ensures end { OnOk result (IsAtEnd (S.left input.new)) }
         ensures stage { IfErr result IsOfInput }
-        ensures taken { (type : RootType) × Typed (prepared_seen self.now) (Ok type) × TakesStamped stamped syntax type (S.left input.old) (S.left input.new) }
+        ensures taken { (type : RootType) × Typed (prepared_seen self.now) (Ok type) × TakesStamped transfer.stamped transfer.syntax type (S.left input.old) (S.left input.new) }
         ensures later { S.faults input.old ≤ S.faults input.new }
     {
+        let Transfer { syntax, stamped } = transfer;
         if stamped {
             self.receive_stamped(alloc, syntax, input)
         } else {

@@ -1,14 +1,13 @@
 //! What a task makes of a set with its root and the input, written to the output.
-ghost use Rattle.std.specs.Prelude.{◌≡◌};
 ghost use Rattle.transcode_core.specs.Preparing.{prepared_seen};
 ghost use Rattle.transcode_core.specs.Private.Seen.{opened_seen};
-ghost use Rattle.transcode_core.specs.Requests.Records.{streams_of};
-ghost use Rattle.transcode_core.specs.Requests.Serving.{Serves};
+ghost use Rattle.transcode_core.specs.Environments.{ServesIn};
 
 use crate::delivering::deliver;
 use crate::judging::check_input;
 use crate::opened::Opened;
-use crate::prepared::Prepared;
+use crate::prepared::{Prepared, Transfer};
+use crate::streams::Streams;
 use base_texts::{Sink, Source, Steps};
 use std::alloc::Global;
 use std::sync::ledger::Ledger;
@@ -20,21 +19,21 @@ fn serve_prepared<S: Source, K: Sink, L: Ledger>(
     alloc: Global,
     task: Task,
     prepared: &Prepared,
-    input: &mut S,
-    output: &mut K,
+    streams: Streams<'_, S, K>,
     steps: &mut Steps<L>,
 ) -> Outcome
-    ensures { Serves task (prepared_seen prepared.now)
-        (streams_of S.Source K.Sink input.old output.old) (streams_of S.Source K.Sink input.new output.new)
-        steps.old steps.new (input.new ≡ input.old) (output.new ≡ output.old) result }
+    ensures { ServesIn S.Source K.Sink task (prepared_seen prepared.now) streams.entry streams.exit steps.old steps.new result }
 {
+    let Streams { input, output } = streams;
     match task {
         Task::Check => deliver(prepared.check_input(alloc, input, steps), output),
         Task::Send { syntax, stamped } => {
-            deliver(prepared.send(alloc, syntax, stamped, input, steps), output)
+            let transfer = Transfer { syntax, stamped };
+            deliver(prepared.send(alloc, transfer, input, steps), output)
         }
         Task::Receive { syntax, stamped } => {
-            deliver(prepared.receive(alloc, syntax, stamped, input), output)
+            let transfer = Transfer { syntax, stamped };
+            deliver(prepared.receive(alloc, transfer, input), output)
         }
         Task::Each => prepared.write_each(alloc, input, output),
     }
@@ -45,16 +44,13 @@ fn serve_mapped<S: Source, K: Sink, L: Ledger>(
     alloc: Global,
     task: Task,
     opened: Opened,
-    input: &mut S,
-    output: &mut K,
+    streams: Streams<'_, S, K>,
     steps: &mut Steps<L>,
 ) -> Outcome
-    ensures { Serves task (opened_seen opened)
-        (streams_of S.Source K.Sink input.old output.old) (streams_of S.Source K.Sink input.new output.new)
-        steps.old steps.new (input.new ≡ input.old) (output.new ≡ output.old) result }
+    ensures { ServesIn S.Source K.Sink task (opened_seen opened) streams.entry streams.exit steps.old steps.new result }
 {
     match Prepared::of(alloc, opened) {
-        Ok(prepared) => serve_prepared(alloc, task, &prepared, input, output, steps),
+        Ok(prepared) => serve_prepared(alloc, task, &prepared, streams, steps),
         Err(outcome) => outcome,
     }
 }
@@ -64,16 +60,13 @@ pub fn serve_task<S: Source, K: Sink, L: Ledger>(
     alloc: Global,
     task: Task,
     opened: Opened,
-    input: &mut S,
-    output: &mut K,
+    streams: Streams<'_, S, K>,
     steps: &mut Steps<L>,
 ) -> Outcome
-    ensures { Serves task (opened_seen opened)
-        (streams_of S.Source K.Sink input.old output.old) (streams_of S.Source K.Sink input.new output.new)
-        steps.old steps.new (input.new ≡ input.old) (output.new ≡ output.old) result }
+    ensures { ServesIn S.Source K.Sink task (opened_seen opened) streams.entry streams.exit steps.old steps.new result }
 {
     match task {
-        Task::Check => deliver(check_input(alloc, &opened, input, steps), output),
-        _ => serve_mapped(alloc, task, opened, input, output, steps),
+        Task::Check => deliver(check_input(alloc, &opened, streams.input, steps), streams.output),
+        _ => serve_mapped(alloc, task, opened, streams, steps),
     }
 }

@@ -11,6 +11,7 @@ ghost use Rattle.transcode_core.specs.Runs.{files_named};
 
 use crate::asking::answer;
 use crate::environments::Environment;
+use crate::streams::Streams;
 use base_texts::{Library, Sink, Source, Steps, Text};
 use std::alloc::Global;
 use std::sync::ledger::Ledger;
@@ -49,7 +50,7 @@ pub fn run<F: Library, S: Source, K: Sink, E: Sink, L: Ledger>(
     } = environment;
     match read_asked(words) {
         Ok(asked) => complain(
-            answer(alloc, asked, files, input, output, steps),
+            answer(alloc, asked, files, Streams { input, output }, steps),
             complaints,
         ),
         Err(outcome) => complain(outcome, complaints),

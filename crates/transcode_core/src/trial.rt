@@ -1,5 +1,6 @@
 //! The trial: a document, its encoding, and the line that states how long they are.
 ghost use Rattle.std.specs.Prelude.{◌≡◌, ◌++◌, ◌+◌, ◌%◌, ◌<◌, ◌≤◌, [], ◌∷◌, decimal, length, OnOk, IfOk, Ok, Some};
+ghost use Rattle.transcode_words.specs.Asked.{Named};
 ghost use Rattle.transcode_words.specs.Order.{Give, Then};
 ghost use Rattle.transcode_words.specs.Answers.{Answers, NoMemory};
 ghost use Rattle.transcode_core.specs.Preparing.{prepared_seen};
@@ -13,13 +14,13 @@ use base_texts::{Entry, Memory, Steps, SureLibrary, Text};
 use itoa::Buffer;
 use std::alloc::Global;
 use std::sync::ledger::Ledger;
-use transcode_words::{Outcome, Root, Syntax};
+use transcode_words::{Outcome, RootName, Syntax};
 
 // The name of the schema file.
 const NAME: &str = "order.xsd";
 
 // The root of the trial document.
-const ROOT: Root<'static> = Root {
+const ROOT: RootName<'static> = RootName {
     space: "urn:po",
     local: "order",
 };
@@ -101,7 +102,7 @@ fn summary(alloc: Global, lines: u32, document: u64, encoding: u64) -> Result<Ve
 
 // Returns the set of the schema of the trial, with its root and its map.
 fn open_trial(alloc: Global) -> Result<Prepared, Outcome>
-    ensures { Answers prepared_seen (Opened (Some ((trial_name, trial_schema) ∷ [])) trial_root (trial_name ∷ [])) NoMemory result }
+    ensures { Answers prepared_seen (Opened (Some ((trial_name, trial_schema) ∷ [])) (Named trial_root) (trial_name ∷ [])) NoMemory result }
 {
     let (Ok(name), Ok(mut files)) = (schema_name(alloc), schema_files(alloc)) else {
         return Err(Outcome::OutOfMemory);
@@ -115,7 +116,7 @@ fn encode_trial<L: Ledger>(
     document: &[u8],
     steps: &mut Steps<L>,
 ) -> Result<Vec<u8>, Outcome>
-    ensures due { Answers (λ bytes. bytes.items) (Then (Opened (Some ((trial_name, trial_schema) ∷ [])) trial_root (trial_name ∷ [])) (λ opened. Encoded Syntax.Aligned opened (Some document.now))) NoMemory result }
+    ensures due { Answers (λ bytes. bytes.items) (Then (Opened (Some ((trial_name, trial_schema) ∷ [])) (Named trial_root) (trial_name ∷ [])) (λ opened. Encoded Syntax.Aligned opened (Some document.now))) NoMemory result }
     ensures few { StepsUpTo (λ items. ItemsIn (Some document.now) (Ok items)) steps.old steps.new }
     ensures many { OnOk result (StepsFrom (λ items. ItemsIn (Some document.now) (Ok items)) steps.old steps.new) }
 {

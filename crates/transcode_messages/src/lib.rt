@@ -11,4 +11,4 @@ mod schema_files;
 pub use converting::{Message, check, decode, encode};
 pub use schema_files::{AddError, SchemaFiles};
 pub use transcode_core::Prepared;
-pub use transcode_words::{Outcome, Root, Syntax, line_of};
+pub use transcode_words::{Outcome, RootName, Syntax, line_of};

@@ -1,6 +1,7 @@
 //! Schema files in memory.
 ghost use Rattle.std.specs.Prelude.{◌≡◌, ◌<◌, ◌≤◌, ◌++◌, [], ◌∷◌, true, Some, None, MatchOption, MatchResult, IfOk, length, bytes_eq};
 ghost use Rattle.base_texts.specs.Entries.{beside};
+ghost use Rattle.transcode_words.specs.Asked.{Named};
 ghost use Rattle.transcode_words.specs.Seen.{root_seen};
 ghost use Rattle.transcode_words.specs.Answers.{Answers, NoMemory};
 ghost use Rattle.transcode_core.specs.Due as due;
@@ -12,7 +13,7 @@ use std::alloc::Global;
 use std::marker::Model;
 use thiserror::Error;
 use transcode_core::Prepared;
-use transcode_words::{Outcome, Root};
+use transcode_words::{Outcome, RootName};
 
 /// How many files there may be.
 const MOST: usize = 64;
@@ -125,9 +126,9 @@ fn file_names(alloc: Global, files: &[SchemaFile]) -> Result<Vec<Text>, Memory>
 }
 
 // What is prepared of these files and a root.
-fn prepare(alloc: Global, files: &[SchemaFile], root: Root<'_>) -> Result<Prepared, Outcome>
+fn prepare(alloc: Global, files: &[SchemaFile], root: RootName<'_>) -> Result<Prepared, Outcome>
     requires { length files.now ≤ 64 }
-    ensures { Answers prepared_seen (due.Opened (Some files.now) (root_seen root.entry) (names_of files.now)) NoMemory result }
+    ensures { Answers prepared_seen (due.Opened (Some files.now) (Named (root_seen root.entry)) (names_of files.now)) NoMemory result }
 {
     let Ok(names) = file_names(alloc, files) else {
         return Err(Outcome::OutOfMemory);
@@ -183,8 +184,8 @@ impl SchemaFiles {
 
     /// The set that the files are, with the root in it and its map, ready for any number of messages; or the first fault. The
     /// files may be dropped then.
-    pub fn prepare(&self, alloc: Global, root: Root<'_>) -> Result<Prepared, Outcome>
-        ensures { Answers prepared_seen (due.Opened (Some self.now) (root_seen root.entry) (names_of self.now)) NoMemory result }
+    pub fn prepare(&self, alloc: Global, root: RootName<'_>) -> Result<Prepared, Outcome>
+        ensures { Answers prepared_seen (due.Opened (Some self.now) (Named (root_seen root.entry)) (names_of self.now)) NoMemory result }
     {
         prepare(alloc, &self.files, root)
     }

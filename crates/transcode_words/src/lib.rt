@@ -10,7 +10,7 @@ mod outcome;
 mod tasks;
 mod words;
 
-pub use asked::RootName as Root;
+pub use asked::RootName;
 pub use commands::read_asked;
 pub use lines::{line_of, write_line};
 pub use outcome::Outcome;

@@ -6,7 +6,7 @@ ghost use Rattle.base_texts.specs.Digits as decimal;
 ghost use Rattle.transcode_words.specs.Words as command;
 ghost use Rattle.transcode_words.specs.Seen.{root_seen};
 
-use crate::asked::RootName as Root;
+use crate::asked::RootName;
 use base_texts::{Text, are_digits, is_ncname, is_ncname_text, is_short_space, is_xml_char};
 
 /// Returns whether there are from 1 to 64 files.
@@ -35,12 +35,12 @@ fn is_space(space: &str) -> bool
 }
 
 // Returns the root that is written after `{`: a namespace, `}` and an NCName.
-fn braced(text: &str) -> Option<Root<'_>>
+fn braced(text: &str) -> Option<RootName<'_>>
     ensures { option_map root_seen result ≡ command.braced text.now }
 {
     let (space, local) = text.split_once('}')?;
     if is_space(space) && is_ncname_text(local) {
-        Some(Root { space, local })
+        Some(RootName { space, local })
     } else {
         None
     }
@@ -84,13 +84,13 @@ fn behind_brace(word: &str) -> Option<&str>
 }
 
 /// Returns the root that the word names: `name`, or `{namespace}name`.
-pub fn root_of(word: &Text) -> Option<Root<'_>>
+pub fn root_of(word: &Text) -> Option<RootName<'_>>
     ensures { option_map root_seen result ≡ command.root_of word.now }
 {
     let name = word.as_str();
     match behind_brace(name) {
         Some(text) => braced(text),
-        None if is_ncname(word) => Some(Root {
+        None if is_ncname(word) => Some(RootName {
             space: "",
             local: name,
         }),
@@ -99,7 +99,7 @@ pub fn root_of(word: &Text) -> Option<Root<'_>>
 }
 
 /// Returns the root and the files after it.
-pub(crate) fn rooted(words: &[Text]) -> Option<(Root<'_>, &[Text])>
+pub(crate) fn rooted(words: &[Text]) -> Option<(RootName<'_>, &[Text])>
     ensures { MatchOption result (command.rooted_parts words.now ≡ None) (λ found. command.rooted_parts words.now ≡ Some (root_seen found.0, found.1.now)) }
 {
     let (root, files) = words.split_first()?;

@@ -12,7 +12,7 @@ use Rattle.transcode_words.specs.declared.outcome.Outcome.TheVariants.{Done, Usa
 use Rattle.transcode_words.specs.Answers.{IsRefusal}
 use Rattle.transcode_core.specs.Causes.{SomeLoad, OneRead}
 use Rattle.transcode_core.specs.Requests.Due.{Entries, Due}
-use Rattle.transcode_core.specs.Requests.Answers.{Environment, ComesToInput, Reading, Writing, Back, Ends}
+use Rattle.transcode_core.specs.Requests.Answers.{State, ComesToInput, Reading, Writing, Back, Ends}
 
 pub appends_none : (bytes : Option (List ℕ)) → Appends bytes bytes []
 appends_none None = tt
@@ -71,7 +71,7 @@ back_none (Serve (Receive syntax stamped) root files) entries left ReadFault oth
 back_none (Serve (Receive syntax stamped) root files) entries left WriteFault other = tt
 back_none (Serve (Receive syntax stamped) root files) entries left OutOfMemory other = tt
 
-module _ (asked : Asked) (old new : Environment) (same : Type 0) where
+module _ (asked : Asked) (old new : State) (same : Type 0) where
   -- a rejection that is required
   refused_as : (o : Outcome) → IsRefusal o → Due asked old.entries old.left o [] → Back asked old.entries old.left o [] → Appends old.written new.written [] → Ends asked old new same o
   refused_as Done none due back appends = absurd none

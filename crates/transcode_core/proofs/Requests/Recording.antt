@@ -11,10 +11,11 @@ use Rattle.transcode_words.specs.declared.outcome.Outcome.TheVariants.{Done, Usa
 use Rattle.transcode_core.specs.Steps.{RootType, Typed}
 use Rattle.transcode_core.specs.Each.{EachDue, IsOfRecords, outcome_of}
 use Rattle.transcode_core.specs.Causes.{IsOfInput}
-use Rattle.transcode_core.specs.Requests.Due.{Entries, Opened, Due}
+use Rattle.transcode_core.specs.Due.{Opened}
+use Rattle.transcode_core.specs.Requests.Due.{Entries, Due}
 use Rattle.transcode_core.specs.Requests.Answers.{Back, TakesRecords}
-use Rattle.transcode_core.specs.Requests.Records.{Streams, ReadsAsRecords, EndsRecords}
-use Rattle.transcode_core.specs.Requests.Serving.{EndsServed, Serves}
+use Rattle.transcode_core.specs.Requests.Records.{StreamState, ReadsAsRecords, EndsRecords}
+use Rattle.transcode_core.specs.Requests.Serving.{EndsServed, ServesTask}
 use Rattle.transcode_core.proofs.EachLaws.{seen}
 
 -- a fault of records is none of a file
@@ -28,7 +29,7 @@ never_loads : (type : RootType) (left : Option (List ℕ)) (k : ℕ) (bytes : Li
 never_loads type None k bytes (values, in_type, documents, none) = none
 never_loads type (Some left) k bytes (values, count, cut, ends, documents) = no_load k _ ends.1.2
 
-module _ (opened : SetParts × ℕ) (type : RootType) (typed : Typed opened (Ok type)) (old new : Streams) (same : Type 0) where
+module _ (opened : SetParts × ℕ) (type : RootType) (typed : Typed opened (Ok type)) (old new : StreamState) (same : Type 0) where
   module _ (entries : Entries) (root : Root) (files : List (List ℕ)) (is : Opened entries root files (Ok opened)) where
     back : (left : Option (List ℕ)) (o : Outcome) (text : List ℕ) → ReadsAsRecords opened type left text → Back (Serve Each root files) entries left o text
     back left o text values = inr (opened, is, (type, typed, values))
@@ -101,7 +102,7 @@ each_of_input type (Some left) o bytes (values, count, cut, ends, documents) = e
   | inr stopped ↦ subst IsOfInput (sym stopped.1.2) (of_fault _)
 ]
 
-ends_of_input : (opened : SetParts × ℕ) (type : RootType) (old new : Streams) (o : Outcome) → EndsRecords opened type old new o → IsOfInput o
+ends_of_input : (opened : SetParts × ℕ) (type : RootType) (old new : StreamState) (o : Outcome) → EndsRecords opened type old new o → IsOfInput o
 ends_of_input opened type old new Usage (bytes, each, values, appends) = each_of_input type old.left Usage bytes each
 ends_of_input opened type old new (SchemaSyntax k at why) (bytes, each, values, appends) = each_of_input type old.left (SchemaSyntax k at why) bytes each
 ends_of_input opened type old new (SchemaFault k at why) (bytes, each, values, appends) = each_of_input type old.left (SchemaFault k at why) bytes each
@@ -126,9 +127,9 @@ ends_of_input opened type old new OutOfMemory ends = tt
 pub looks_at_none : false ≡ true → ⊥
 looks_at_none e = cc
 
-pub serves_each : (opened : SetParts × ℕ) (type : RootType) → Typed opened (Ok type) → (old new : Streams) (steps steps_now : ℕ) (same_input same_output : Type 0) (o : Outcome)
+pub serves_each : (opened : SetParts × ℕ) (type : RootType) → Typed opened (Ok type) → (old new : StreamState) (steps steps_now : ℕ) (same_input same_output : Type 0) (o : Outcome)
     → EndsRecords opened type old new o → TakesRecords type old.left new.left → (o ≡ Done → IsAtEnd new.left) → old.read_faults ≤ new.read_faults → old.write_faults ≤ new.write_faults → steps_now ≡ steps
-    → Serves Each opened old new steps steps_now same_input same_output o
+    → ServesTask Each opened old new steps steps_now same_input same_output o
 serves_each opened type typed old new steps steps_now same_input same_output o ends takes end reads writes same = record {
   ends = records_end opened type typed old new (same_input × same_output) o ends;
   input = inr ((type, typed, takes), ends_of_input opened type old new o ends);

@@ -4,7 +4,7 @@ use Rattle.std.specs.Prelude.{nat_eq}
 use Rattle.std.proofs.lemmas.Bool.{eqb-true}
 use Rattle.schema_components.specs.SetParts.{SetParts}
 use Rattle.transcode_words.specs.Asked.{Root, Named, Only}
-use Rattle.transcode_core.specs.Requests.Due.{only_global, root_in}
+use Rattle.transcode_core.specs.Due.{only_global, root_in}
 use Rattle.transcode_core.proofs.Roots.{number-within}
 
 only_within : (parts : SetParts) (n : ℕ) → only_global parts ≡ Some n → n < parts.globals

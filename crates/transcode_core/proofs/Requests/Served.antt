@@ -13,18 +13,18 @@ use Rattle.transcode_words.specs.declared.outcome.Outcome.{Outcome}
 use Rattle.transcode_words.specs.declared.outcome.Outcome.TheVariants.{Done, ReadFault, WriteFault, OutOfMemory}
 use Rattle.transcode_words.specs.Answers.{Answers, IsRefusal}
 use Rattle.transcode_core.specs.Causes.{OneRead, IsOfInput, StepsUpTo, StepsFrom}
-use Rattle.transcode_core.specs.Due.{Checked}
-use Rattle.transcode_core.specs.Requests.Due.{Entries, Opened, Encoded, Documented, Served}
+use Rattle.transcode_core.specs.Due.{Checked, Opened}
+use Rattle.transcode_core.specs.Requests.Due.{Entries, Sent, Received, Served}
 use Rattle.transcode_core.specs.Requests.Answers.{ReceivedBack, Back, Ends, Takes, LooksAt, looks, MayWrite}
-use Rattle.transcode_core.specs.Requests.Records.{Streams}
-use Rattle.transcode_core.specs.Requests.Serving.{around, Serves}
+use Rattle.transcode_core.specs.Requests.Records.{StreamState}
+use Rattle.transcode_core.specs.Requests.Serving.{around, ServesTask}
 use Rattle.transcode_core.proofs.Requests.Delivering.{IsWhole, refused, unread, delivered}
 
 -- what a task that writes one result makes
 abbrev pub Made : Task → SetParts × ℕ → Option (List ℕ) → Result (List ℕ) Outcome → Type 0
 Made Check opened left = Checked opened left
-Made (Send syntax stamped) opened left = Encoded syntax stamped opened left
-Made (Receive syntax stamped) opened left = Documented syntax stamped opened left
+Made (Send syntax stamped) opened left = Sent syntax stamped opened left
+Made (Receive syntax stamped) opened left = Received syntax stamped opened left
 Made Each opened left = λ v. ⊥
 
 -- what is read back of it
@@ -61,11 +61,11 @@ may_write (Serve Each root files) o none wrote = absurd none
 may_write (Trial lines) o is wrote = wrote
 
 -- the outcomes of a result that was written, or could not be
-abbrev pub IsDelivered : Streams → Streams → List ℕ → Outcome → Type 0
+abbrev pub IsDelivered : StreamState → StreamState → List ℕ → Outcome → Type 0
 IsDelivered old new bytes o = ((o ≡ Done) × Appends old.written new.written bytes)
     ⊎ ((o ≡ WriteFault) × HasRisen old.write_faults new.write_faults × AppendsFront old.written new.written bytes × LacksRoom old.room (length bytes))
 
-module _ (task : Task) (is_whole : (root : Root) (files : List (List ℕ)) → IsWhole (Serve task root files)) (opened : SetParts × ℕ) (old new : Streams) (steps steps_now : ℕ) (same_input same_output : Type 0)
+module _ (task : Task) (is_whole : (root : Root) (files : List (List ℕ)) → IsWhole (Serve task root files)) (opened : SetParts × ℕ) (old new : StreamState) (steps steps_now : ℕ) (same_input same_output : Type 0)
     (kept : same_output → new.written ≡ old.written) (input : same_input ⊎ Takes task opened old.left new.left) (reads : old.read_faults ≤ new.read_faults) (writes : old.write_faults ≤ new.write_faults)
     (few : (root : Root) (files : List (List ℕ)) → StepsUpTo (LooksAt (Serve task root files) old.left) steps steps_now) where
   -- a cause of the input isn't Done
@@ -87,7 +87,7 @@ module _ (task : Task) (is_whole : (root : Root) (files : List (List ℕ)) → I
 
   pub serves_ok : (bytes : List ℕ) (o : Outcome) → Made task opened old.left (Ok bytes) → MadeBack task opened old.left bytes → IsAtEnd new.left
       → ((root : Root) (files : List (List ℕ)) → looks (Serve task root files) ≡ true → StepsFrom (LooksAt (Serve task root files) old.left) steps steps_now)
-      → IsDelivered old new bytes o → Serves task opened old new steps steps_now same_input same_output o
+      → IsDelivered old new bytes o → ServesTask task opened old new steps steps_now same_input same_output o
   serves_ok bytes o made back end many wrote = record {
     ends = λ entries entries_now root files is_sure sure_now agenda agenda_now loads loads_now more more_now opens.
         delivered (Serve task root files) (around entries is_sure agenda loads old more) (around entries_now sure_now agenda_now loads_now new more_now) (same_input × same_output) (is_whole root files) bytes
@@ -102,7 +102,7 @@ module _ (task : Task) (is_whole : (root : Root) (files : List (List ℕ)) → I
   }
 
   pub serves_err : (o : Outcome) → (Made task opened old.left (Err o) × IsRefusal o) ⊎ OneRead old.read_faults new.read_faults o → IsOfInput o → same_output
-      → Serves task opened old new steps steps_now same_input same_output o
+      → ServesTask task opened old new steps steps_now same_input same_output o
   serves_err o (inl (made, is)) of_input same = record {
     ends = λ entries entries_now root files is_sure sure_now agenda agenda_now loads loads_now more more_now opens.
         refused (Serve task root files) (around entries is_sure agenda loads old more) (around entries_now sure_now agenda_now loads_now new more_now) (same_input × same_output) o is
@@ -134,9 +134,9 @@ module _ (task : Task) (is_whole : (root : Root) (files : List (List ℕ)) → I
   pub serves_made : (made : Result (Vec ℕ Global) Outcome) (o : Outcome) → Answers (λ (bytes : Vec ℕ Global). bytes.items) (Made task opened old.left) (OneRead old.read_faults new.read_faults) made
       → IfOk made (λ bytes. MadeBack task opened old.left bytes.items) → OnOk made (IsAtEnd new.left) → IfErr made IsOfInput
       → ((root : Root) (files : List (List ℕ)) → looks (Serve task root files) ≡ true → OnOk made (StepsFrom (LooksAt (Serve task root files) old.left) steps steps_now))
-      → MatchResult made (λ bytes. IsDelivered old new bytes.items o) (λ p. (o ≡ p) × same_output) → Serves task opened old new steps steps_now same_input same_output o
+      → MatchResult made (λ bytes. IsDelivered old new bytes.items o) (λ p. (o ≡ p) × same_output) → ServesTask task opened old new steps steps_now same_input same_output o
   serves_made (Ok bytes) o made back end stage many wrote = serves_ok bytes.items o made back end many wrote
-  serves_made (Err p) o made back end stage many (e, same) = subst (Serves task opened old new steps steps_now same_input same_output) (sym e) (serves_err p made stage same)
+  serves_made (Err p) o made back end stage many (e, same) = subst (ServesTask task opened old new steps steps_now same_input same_output) (sym e) (serves_err p made stage same)
 
 -- of a result of which nothing is read back
 pub nothing_back : {A : Type 0} (made : Result A Outcome) → IfOk made (λ _. Unit {0})
@@ -145,8 +145,8 @@ nothing_back (Err o) = tt
 
 -- ---- a set that is not mapped for want of memory
 
-pub serves_memory : (task : Task) (opened : SetParts × ℕ) (old new : Streams) (steps steps_now : ℕ) (same_input same_output : Type 0) (o : Outcome) → o ≡ OutOfMemory → same_input → same_output
-    → old.read_faults ≤ new.read_faults → old.write_faults ≤ new.write_faults → steps_now ≡ steps → Serves task opened old new steps steps_now same_input same_output o
+pub serves_memory : (task : Task) (opened : SetParts × ℕ) (old new : StreamState) (steps steps_now : ℕ) (same_input same_output : Type 0) (o : Outcome) → o ≡ OutOfMemory → same_input → same_output
+    → old.read_faults ≤ new.read_faults → old.write_faults ≤ new.write_faults → steps_now ≡ steps → ServesTask task opened old new steps steps_now same_input same_output o
 serves_memory task opened old new steps steps_now same_input same_output o memory input output reads writes same = record {
   ends = λ entries entries_now root files is_sure sure_now agenda agenda_now loads loads_now more more_now opens.
       subst (Ends (Serve task root files) (around entries is_sure agenda loads old more) (around entries_now sure_now agenda_now loads_now new more_now) (same_input × same_output)) (sym memory) (inl (input, output));
@@ -163,6 +163,6 @@ serves_memory task opened old new steps steps_now same_input same_output o memor
     no_memory e = cc
 
 -- the same set
-pub serves_same : (task : Task) (a b : SetParts × ℕ) (old new : Streams) (steps steps_now : ℕ) (same_input same_output : Type 0) (o : Outcome) → a ≡ b
-    → Serves task a old new steps steps_now same_input same_output o → Serves task b old new steps steps_now same_input same_output o
-serves_same task a b old new steps steps_now same_input same_output o e serves = subst (λ p. Serves task p old new steps steps_now same_input same_output o) e serves
+pub serves_same : (task : Task) (a b : SetParts × ℕ) (old new : StreamState) (steps steps_now : ℕ) (same_input same_output : Type 0) (o : Outcome) → a ≡ b
+    → ServesTask task a old new steps steps_now same_input same_output o → ServesTask task b old new steps steps_now same_input same_output o
+serves_same task a b old new steps steps_now same_input same_output o e serves = subst (λ p. ServesTask task p old new steps steps_now same_input same_output o) e serves

@@ -1,4 +1,4 @@
--- WHAT `answer` PROMISES of every request: what holds after each outcome (`Ends`), and what holds after all of them (`Answers`).
+-- WHAT `answer` PROMISES of every request: what holds after each outcome (`Ends`), and what holds after all of them (`Promise`).
 use Rattle.std.specs.Prelude.{◌≡◌, ◌⊎◌, ℕ, ◌+◌, ◌-◌, ◌*◌, ◌≤◌, Bool, true, false, List, [], ◌∷◌, ◌++◌, length, min, take, drop, Option, Some, None, Ok}
 use Rattle.std.specs.Io.KnownBytes.{Appends, IsAtEnd}
 use Rattle.base_trees.specs.Rose.{Rose}
@@ -25,16 +25,16 @@ use Rattle.transcode_words.specs.declared.tasks.Syntax.{Syntax}
 use Rattle.transcode_core.specs.Agendas.{LoadsFirst}
 use Rattle.transcode_core.specs.Steps.{RootType, Typed, Decoded, Written}
 use Rattle.transcode_core.specs.ReadBack.{WrittenBack, IsValidText}
-use Rattle.transcode_core.specs.Due.{ItemsIn}
+use Rattle.transcode_core.specs.Due.{ItemsIn, Opened}
 use Rattle.transcode_core.specs.Trial.{trial_document}
 use Rattle.transcode_core.specs.Each.{each_limit, Documents}
 use Rattle.transcode_core.specs.Causes.{Fails, Reaches, TakesOctets, IsOfInput, StepsUpTo, StepsFrom}
-use Rattle.transcode_core.specs.Requests.Due.{Entries, stamp_of, AfterStamp, Unstamped, Opened, Due}
+use Rattle.transcode_core.specs.Requests.Due.{Entries, stamp_of, AfterStamp, Unstamped, Due}
 
 -- What definitions see of the environment of a call: the files of the library, whether it fails at no file that it has, and the names
 -- that may still be loaded; the bytes that the input has left; the bytes that the output received, and the room that it states; how often
 -- each of the three has failed; and the number of steps through content models. Library, input and output need not give what they contain.
-pub record Environment : Type 0 where
+pub record State : Type 0 where
   pub entries : Entries
   pub is_sure : Bool
   pub agenda : Option (List (List ℕ))
@@ -47,8 +47,8 @@ pub record Environment : Type 0 where
   pub steps : ℕ
 
 -- the environment that these objects are, at this number of steps
-abbrev pub environment_of : {F S K : Type 0} → libraries.Ghosts F → sources.Ghosts S → sinks.Ghosts K → F → S → K → ℕ → Environment
-environment_of of_library of_input of_output library input output steps = record {
+abbrev pub state_of : {F S K : Type 0} → libraries.Ghosts F → sources.Ghosts S → sinks.Ghosts K → F → S → K → ℕ → State
+state_of of_library of_input of_output library input output steps = record {
   entries = of_library.entries library;
   is_sure = of_library.is_sure library;
   agenda = of_library.agenda library;
@@ -143,7 +143,7 @@ Back asked entries left o text = Unit {0}
 -- ---- WHAT HOLDS AFTER EACH OUTCOME
 
 -- of a request, the environment before and after the call, and whether input and output are the objects that they were
-module _ (asked : Asked) (old new : Environment) (same : Type 0) where
+module _ (asked : Asked) (old new : State) (same : Type 0) where
   abbrev pub Ends : Outcome → Type 0
   -- The library failed at file k, which the request comes to; input and output weren't touched.
   Ends (LoadFault k) = same × ((name : List ℕ) × Reaches old.entries (files_of asked) k name × Fails old.load_faults new.load_faults old.is_sure old.entries name)
@@ -206,7 +206,7 @@ MayWrite asked o = (o ≡ Done) ⊎ (o ≡ WriteFault)
 -- ---- THE PROMISE
 
 -- Of a request, the environment before and after the call, whether input and output are the objects that they were, and the outcome.
-pub record Answers (asked : Asked) (old new : Environment) (same_input same_output : Type 0) (result : Outcome) : Type 0 where
+pub record Promise (asked : Asked) (old new : State) (same_input same_output : Type 0) (result : Outcome) : Type 0 where
   -- What holds after the outcome.
   pub ends : Ends asked old new (same_input × same_output) result
   -- The input is touched only where the request comes to it, and no more is taken than its task needs.

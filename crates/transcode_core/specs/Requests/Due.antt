@@ -20,7 +20,7 @@ use Rattle.transcode_words.specs.declared.tasks.Syntax.{Syntax}
 use Rattle.transcode_words.specs.Order.{Give, Found, Then}
 use Rattle.transcode_core.specs.Digits.{both_digits}
 use Rattle.transcode_core.specs.Steps.{number_named, RootType, Typed, ValueIn, Encoding, Decoded, Written}
-use Rattle.transcode_core.specs.Due.{SetIn, ItemsIn, Checked, ShownBack, Tried}
+use Rattle.transcode_core.specs.Due.{SetIn, Opened, ItemsIn, Checked, ShownBack, Tried}
 use Rattle.transcode_core.specs.Each.{EachDue}
 
 -- the files of the library, as names with contents, where it gives them
@@ -40,24 +40,6 @@ Whole step o bytes = ((o ≡ Done) × step (Ok bytes)) ⊎ (step (Err o) × (byt
 -- the answer of a step and what follows it: the step rejects and nothing is written, or it passes and the rest answers
 abbrev pub Upon : {A : Type 0} → (Result A Outcome → Type 0) → (A → Answer) → Answer
 Upon {A} step rest o bytes = (step (Err o) × (bytes ≡ [])) ⊎ ((a : A) × step (Ok a) × rest a o bytes)
-
--- ---- the set and its root
-
--- the number of the only global element, if there is exactly one
-abbrev pub only_global : SetParts → Option ℕ
-only_global parts = if parts.globals == 1 then Some 0 else None
-
--- the number of the global element that the request takes for the root, if there is one
-abbrev pub root_in : SetParts → Root → Option ℕ
-root_in parts (Named name) = number_named name (take parts.globals parts.elements)
-root_in parts Only = only_global parts
-
--- the schema files are one set, and this element of it is the root (else `UnknownRoot`)
-abbrev pub Opened : Entries → Root → List (List ℕ) → Result (SetParts × ℕ) Outcome → Type 0
-Opened entries root files =
-    Then (SetIn entries files) (λ parts.
-    Then (Found (root_in parts root) UnknownRoot) (λ n.
-    Give (parts, n)))
 
 -- ---- its module
 
@@ -96,8 +78,8 @@ Unstamped false type left = Give left
 -- ---- the input
 
 -- the encoding of the one value whose items are those of the valid document in the input
-abbrev pub Encoded : Syntax → Bool → SetParts × ℕ → Option (List ℕ) → Result (List ℕ) Outcome → Type 0
-Encoded syntax stamped opened left =
+abbrev pub Sent : Syntax → Bool → SetParts × ℕ → Option (List ℕ) → Result (List ℕ) Outcome → Type 0
+Sent syntax stamped opened left =
     Then (Typed opened) (λ type.
     Then (ItemsIn left) (λ items.
     Then (ValueIn opened type items) (λ value.
@@ -105,8 +87,8 @@ Encoded syntax stamped opened left =
     Give (stamp_if stamped type ++ octets)))))
 
 -- the document of the one value of which the input is the encoding
-abbrev pub Documented : Syntax → Bool → SetParts × ℕ → Option (List ℕ) → Result (List ℕ) Outcome → Type 0
-Documented syntax stamped opened left =
+abbrev pub Received : Syntax → Bool → SetParts × ℕ → Option (List ℕ) → Result (List ℕ) Outcome → Type 0
+Received syntax stamped opened left =
     Then (Typed opened) (λ type.
     Then (Unstamped stamped type left) (λ rest.
     Then (Decoded syntax type rest) (λ value.
@@ -115,8 +97,8 @@ Documented syntax stamped opened left =
 -- What a task makes of the set with its root and the input. Documents of records are written one by one, also before a rejection.
 abbrev pub Served : Task → SetParts × ℕ → Option (List ℕ) → Answer
 Served Check opened left = Whole (Checked opened left)
-Served (Send syntax stamped) opened left = Whole (Encoded syntax stamped opened left)
-Served (Receive syntax stamped) opened left = Whole (Documented syntax stamped opened left)
+Served (Send syntax stamped) opened left = Whole (Sent syntax stamped opened left)
+Served (Receive syntax stamped) opened left = Whole (Received syntax stamped opened left)
 Served Each opened left = Upon (Typed opened) (λ type. EachDue type left)
 
 -- ---- WHAT IS REQUIRED

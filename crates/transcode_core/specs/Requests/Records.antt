@@ -15,7 +15,7 @@ use Rattle.transcode_core.specs.Each.{EachDue}
 use Rattle.transcode_core.specs.Requests.Answers.{ReadsNext, HoldsNext, AreBack, AreRecords}
 
 -- the bytes that the input has left, those that the output received, the room that it states, and how often each of the two has failed
-pub record Streams : Type 0 where
+pub record StreamState : Type 0 where
   pub left : Option (List ℕ)
   pub written : Option (List ℕ)
   pub room : Option ℕ
@@ -23,7 +23,7 @@ pub record Streams : Type 0 where
   pub write_faults : ℕ
 
 -- what is seen of an input and an output
-abbrev pub streams_of : {S K : Type 0} → sources.Ghosts S → sinks.Ghosts K → S → K → Streams
+abbrev pub streams_of : {S K : Type 0} → sources.Ghosts S → sinks.Ghosts K → S → K → StreamState
 streams_of of_input of_output input output = record {
   left = of_input.left input;
   written = of_output.written output;
@@ -37,7 +37,7 @@ module _ (opened : SetParts × ℕ) (type : RootType) where
   abbrev pub ReadsAsRecords : Option (List ℕ) → List ℕ → Type 0
   ReadsAsRecords left text = (values : List (Rose ValueLabel)) × AreRecords type left values × AreBack opened type values text
 
-  abbrev pub EndsRecords : Streams → Streams → Outcome → Type 0
+  abbrev pub EndsRecords : StreamState → StreamState → Outcome → Type 0
   EndsRecords old new ReadFault = HasRisen old.read_faults new.read_faults × ((before : List ℕ) × ReadsNext type old.left new.left before × ReadsAsRecords old.left before × Appends old.written new.written before)
   EndsRecords old new WriteFault = HasRisen old.write_faults new.write_faults
       × ((before : List ℕ) × (next : List ℕ) × (value : Rose ValueLabel) × HoldsNext type old.left new.left before value × Written type value (Ok next) × ReadsAsRecords old.left (before ++ next)

@@ -4,9 +4,9 @@ use Rattle.transcode_words.specs.declared.outcome.Outcome.TheVariants.{UnknownRo
 use Rattle.transcode_words.specs.AskedSeen.{chosen_seen}
 use Rattle.transcode_words.specs.Answers.{NoMemory}
 use Rattle.transcode_words.specs.Order.{Give, Found}
+use Rattle.transcode_core.specs.Due.{root_in}
 use Rattle.transcode_core.proofs.Exits.{refused_by}
 use Rattle.transcode_core.specs.Private.Seen.{opened_seen}
-use Rattle.transcode_core.specs.Requests.Due.{root_in}
 use Rattle.transcode_core.proofs.Requests.Rooting.{root_within}
 use Rattle.transcode_core.proofs.linking.open_chosen.Goals as goal
 

@@ -7,9 +7,8 @@ use Rattle.transcode_words.specs.Order.{Give, Found, Then}
 use Rattle.transcode_words.proofs.Joined.{passed}
 use Rattle.transcode_core.proofs.Exits.{refused_by}
 use Rattle.transcode_core.specs.Private.Seen.{opened_seen}
-use Rattle.transcode_core.specs.Due.{SetIn}
+use Rattle.transcode_core.specs.Due.{SetIn, root_in}
 use Rattle.transcode_core.specs.Causes.{SomeLoad}
-use Rattle.transcode_core.specs.Requests.Due.{root_in}
 use Rattle.transcode_core.proofs.opening.open_asked.Goals as goal
 
 pub returns-clause-due : goal.returns-clause-due

@@ -15,12 +15,12 @@ returns-then-stamped-clause-taken g c = rw c.if-stamped.true c.receive_stamped.e
 
 pub returns-else-stamped-clause-due : goal.returns-else-stamped-clause-due
 returns-else-stamped-clause-due g c =
-    rw c.if-stamped.false (received_plain c.args.syntax (prepared_seen c.args.self.now) (g.S.Source.left c.args.input.now)
+    rw c.if-stamped.false (received_plain c.args.transfer.syntax (prepared_seen c.args.self.now) (g.S.Source.left c.args.input.now)
     (OneRead (g.S.Source.faults c.args.input.now) (g.S.Source.faults c.decode.new.input)) c.decode.result c.decode.ensures.due)
 
 pub returns-else-stamped-clause-back : goal.returns-else-stamped-clause-back
 returns-else-stamped-clause-back g c =
-    rw c.if-stamped.false (IfOk-weaker c.decode.result _ _ (λ text back. back_plain c.args.syntax (prepared_seen c.args.self.now) (g.S.Source.left c.args.input.now) text.items back) c.decode.ensures.back)
+    rw c.if-stamped.false (IfOk-weaker c.decode.result _ _ (λ text back. back_plain c.args.transfer.syntax (prepared_seen c.args.self.now) (g.S.Source.left c.args.input.now) text.items back) c.decode.ensures.back)
 
 pub returns-else-stamped-clause-taken : goal.returns-else-stamped-clause-taken
 returns-else-stamped-clause-taken g c = rw c.if-stamped.false c.decode.ensures.taken

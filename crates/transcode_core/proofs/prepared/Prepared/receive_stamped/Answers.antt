@@ -5,7 +5,7 @@ use Rattle.std.specs.declared.alloc.Global.{Global}
 use Rattle.transcode_core.specs.Private.Seen.{type_seen}
 use Rattle.transcode_core.specs.Preparing.{prepared_seen}
 use Rattle.transcode_core.specs.Causes.{OneRead}
-use Rattle.transcode_core.specs.Requests.Due.{Documented}
+use Rattle.transcode_core.specs.Requests.Due.{Received}
 use Rattle.transcode_core.proofs.Exits.{returned}
 use Rattle.transcode_core.proofs.Ready.{typed_of}
 use Rattle.transcode_core.proofs.Requests.Stamping.{received_after, back_after, takes_after, refused_stamp}
@@ -40,7 +40,7 @@ returns-in_err-pass_stamp-clause-due g c =
     let left = g.S.Source.left c.args.input.now in
     let before = g.S.Source.faults c.args.input.now in
     let now = g.S.Source.faults c.pass_stamp.new.input in
-    returned (λ (bytes : Vec ℕ Global). bytes.items) (Documented c.args.syntax true (prepared_seen c.args.self.now) left) (OneRead before now) c.from_residual.result c.in_err-pass_stamp.field-0.0 c.from_residual.ensures.1
+    returned (λ (bytes : Vec ℕ Global). bytes.items) (Received c.args.syntax true (prepared_seen c.args.self.now) left) (OneRead before now) c.from_residual.result c.in_err-pass_stamp.field-0.0 c.from_residual.ensures.1
     (refused_stamp c.args.syntax (prepared_seen c.args.self.now) type typed left before now c.in_err-pass_stamp.field-0.0 c.in_err-pass_stamp.ensures.stopped)
 
 pub returns-in_err-pass_stamp-clause-taken : goal.returns-in_err-pass_stamp-clause-taken

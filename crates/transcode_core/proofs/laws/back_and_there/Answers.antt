@@ -1,5 +1,0 @@
-use Rattle.transcode_core.proofs.Requests.Returning.{back_and_there}
-use Rattle.transcode_core.proofs.laws.back_and_there.Goals as goal
-
-pub returns : goal.returns
-returns c = back_and_there

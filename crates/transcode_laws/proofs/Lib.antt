@@ -1,0 +1,12 @@
+mod NeverDone
+mod Singles
+mod Ending
+mod Room
+mod Order
+mod Returning
+mod There
+mod Records
+mod Answering
+mod SomeSets
+mod Existing
+mod Counted
