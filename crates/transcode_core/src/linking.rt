@@ -18,6 +18,7 @@ use schema_components::{RawDoc, SchemaSet, find_root};
 use std::alloc::Global;
 use transcode_words::asked::Root as Chosen;
 use transcode_words::{Outcome, Root};
+use validity_check::PlannedSet;
 
 /// Returns the documents as one set.
 pub fn link_files(alloc: Global, documents: &[RawDoc]) -> Result<SchemaSet, Outcome>
@@ -85,10 +86,13 @@ fn chosen_root(alloc: Global, root: Chosen<'_>, set: &SchemaSet) -> Result<u32, 
     }
 }
 
-/// Returns the set with the number of its root.
+/// Returns the set, with its plans, and the number of its root.
 pub fn open_chosen(alloc: Global, root: Chosen<'_>, set: SchemaSet) -> Result<Opened, Outcome>
     ensures { Answers opened_seen (Then (Found (root_in (parts_of set) (chosen_seen root.entry)) Outcome.UnknownRoot) (λ n. Give (parts_of set, n))) NoMemory result }
 {
     let root = chosen_root(alloc, root, &set)?;
-    Ok(Opened { set, root })
+    match PlannedSet::of(alloc, set) {
+        Ok(set) => Ok(Opened { set, root }),
+        Err(_) => Err(Outcome::OutOfMemory),
+    }
 }

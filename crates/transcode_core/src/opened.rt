@@ -2,12 +2,12 @@
 ghost use Rattle.std.specs.Prelude.{◌<◌};
 
 use asn_types::Module;
-use schema_components::SchemaSet;
+use validity_check::PlannedSet;
 
-/// A linked set, and the number of a global element in it.
+/// A linked set with the plans of its content models, and the number of a global element in it.
 #[derive(Drop)]
 pub struct Opened {
-    pub set: SchemaSet,
+    pub set: PlannedSet,
     pub root: u32,
     ghost global: { root < set.globals },
 }

@@ -8,7 +8,6 @@ use crate::opened::{Opened, RootModule};
 use map_assignments::{map_set, root_type};
 use std::alloc::Global;
 use transcode_words::Outcome;
-use xer_read::see_simples;
 
 /// The map of the set, and the type of its root.
 pub fn map_root(alloc: Global, opened: &Opened) -> Result<RootModule, Outcome>
@@ -17,11 +16,11 @@ pub fn map_root(alloc: Global, opened: &Opened) -> Result<RootModule, Outcome>
 {
     // What each linked set and each module keeps is known once one of its readers was called.
     let _ = opened.set.element_count();
-    see_simples(&opened.set);
-    let Ok(module) = map_set(alloc, &opened.set) else {
+    let set = opened.set.set();
+    let Ok(module) = map_set(alloc, set) else {
         return Err(Outcome::OutOfMemory);
     };
-    let number = root_type(&opened.set, opened.root);
+    let number = root_type(set, opened.root);
     let _ = module.count();
     Ok(RootModule { module, number })
 }

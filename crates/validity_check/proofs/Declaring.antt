@@ -46,7 +46,7 @@ module _ (s : Set) where
     pub content_model : (n : ℕ) (c : ComplexDef) → slice_get s.complexes n ≡ Some c → model_at s n ≡ model_of c.content
     content_model n c h = rw h refl
 
-    model_in_content : (c : Content) (m : Rose ParticleLabel) → model_of c ≡ Some m → IsContent s c → IsModel s m
+    pub model_in_content : (c : Content) (m : Rose ParticleLabel) → model_of c ≡ Some m → IsContent s c → IsModel s m
     model_in_content content.Empty m e h = absurd (cc)
     model_in_content (content.Simple n) m e h = absurd (cc)
     model_in_content (content.ElementOnly x) m e h = let same : x ≡ m = cc in subst (λ y. IsModel s y) same h

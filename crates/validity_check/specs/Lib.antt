@@ -1,5 +1,5 @@
 pub mod Told
-pub mod Kept
+pub mod Planned
 pub mod Answers
 pub mod Walked
 pub mod Ascending

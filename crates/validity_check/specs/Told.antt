@@ -19,12 +19,12 @@ use Rattle.validity_check.specs.declared.declarations.Inside.TheVariants.{Nothin
 abbrev pub inside_told : Inside → asked.Inside
 inside_told Nothing = asked.nothing
 inside_told (Simple simple) = asked.simple (space_of simple.now)
-inside_told (Children mixed complex model) = asked.children mixed (seen model.now)
+inside_told (Children mixed model plan) = asked.children mixed (seen model.now)
 
 abbrev pub told : SetParts → Declared → asked.Asked
 told s d = asked.asked d.nillable (map (asked.attribute_in s) d.uses.list.now) (inside_told d.inside)
 
-abbrev model_in : Option ComplexDef → Option (Rose ParticleLabel)
+abbrev pub model_in : Option ComplexDef → Option (Rose ParticleLabel)
 model_in None = None
 model_in (Some c) = model_of c.content
 
@@ -35,7 +35,7 @@ model_at s n = model_in (slice_get s.complexes n)
 abbrev pub IsFittingInside : Set → Inside → Type 0
 IsFittingInside s Nothing = Unit {0}
 IsFittingInside s (Simple simple) = Sound (space_of simple.now)
-IsFittingInside s (Children mixed complex model) = (model_at s complex ≡ Some model.now) × IsModel s model.now
+IsFittingInside s (Children mixed model plan) = IsModel s model.now × (plan.now ≡ seen model.now)
 
 -- each list of the content model has leaves of elements that are declared
 abbrev pub AreNamed : Set → Particle → Type 0

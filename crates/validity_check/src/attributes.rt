@@ -15,9 +15,10 @@ ghost use Rattle.validity_check.specs.Uses.{IsPlace, IsRun};
 ghost use Rattle.validity_check.specs.Texts.{told, AreTexts};
 
 use crate::places::{Run, is_same, place_of};
+use crate::planned_sets::PlannedSet;
 use crate::standards::fixed_fault;
 use base_texts::{Memory, Name, Text, XSI_SPACE};
-use schema_components::{AttributeUse, SchemaSet};
+use schema_components::AttributeUse;
 use simple_types::{Simple, SimpleError};
 use std::alloc::Global;
 use validity_rules::InvalidWhy;
@@ -80,7 +81,7 @@ pub fn text_fault(
 /// Returns why an attribute is wrong, if it is. The place is the number of its use, or `None` without a use.
 pub(crate) fn fault_at(
     alloc: Global,
-    set: &SchemaSet,
+    set: &PlannedSet,
     uses: &[AttributeUse],
     place: Option<usize>,
     found: &(Name, Text),
@@ -109,7 +110,7 @@ pub(crate) fn fault_at(
 // Why an attribute is wrong, if it is.
 fn attribute_fault(
     alloc: Global,
-    set: &SchemaSet,
+    set: &PlannedSet,
     uses: &[AttributeUse],
     found: &(Name, Text),
     run: &mut Run,
@@ -130,7 +131,7 @@ fn attribute_fault(
 /// Why the first attribute that is wrong is so, if there is one.
 pub(crate) fn first_wrong(
     alloc: Global,
-    set: &SchemaSet,
+    set: &PlannedSet,
     uses: &[AttributeUse],
     attributes: &[(Name, Text)],
 ) -> Result<Option<InvalidWhy>, Memory>

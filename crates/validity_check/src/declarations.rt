@@ -1,14 +1,18 @@
 //! What a set of schemas declares of an element.
-ghost use Rattle.std.specs.Prelude.{◌≡◌, ◌<◌, length, slice_get};
+ghost use Rattle.std.specs.Prelude.{◌≡◌, ◌<◌, Some, length, slice_get};
+ghost use Rattle.content_models.specs.Seen.{seen};
 ghost use Rattle.schema_components.specs.Components.{model_of};
-ghost use Rattle.schema_components.specs.Linked.{IsContent, IsLinked};
+ghost use Rattle.schema_components.specs.Linked.{IsModel, IsContent, IsLinked};
 ghost use Rattle.schema_components.specs.SetParts.{parts_of};
+ghost use Rattle.validity_rules.specs.Asked as asked;
 ghost use Rattle.validity_rules.specs.Asked.{inside_of, asked_by_complex, asked_at};
 ghost use Rattle.validity_check.specs.Told.{inside_told, told, model_at, IsFittingInside, IsFitting};
 
+use crate::planned_sets::PlannedSet;
 use crate::uses::Uses;
+use content_match::Plan;
 use content_models::Particle;
-use schema_components::{Content, SchemaSet, TypeOf};
+use schema_components::{Content, TypeOf};
 use simple_types::Simple;
 
 /// What an element may contain.
@@ -17,11 +21,11 @@ pub enum Inside<'a> {
     Nothing,
     /// A text of the simple type, and no child element.
     Simple(&'a Simple),
-    /// Child elements by the content model of the complex type with this number, and whether texts may appear between them.
+    /// Child elements by this content model, its plan, and whether texts may appear between them.
     Children {
         mixed: bool,
-        complex: u32,
         model: &'a Particle,
+        plan: &'a Plan,
     },
 }
 
@@ -33,8 +37,24 @@ pub struct Declared<'a> {
     pub inside: Inside<'a>,
 }
 
+// Child elements by the content model of the complex type with this number.
+fn children_of<'a>(
+    set: &'a PlannedSet,
+    complex: u32,
+    mixed: bool,
+    model: &'a Particle,
+) -> Inside<'a>
+    requires there { model_at set.now complex ≡ Some model.now }
+    requires model { IsModel set.now model.now }
+    ensures told { inside_told result ≡ asked.children mixed (seen model.now) }
+    ensures fits { IsFittingInside set.now result }
+{
+    let plan = set.plan(complex);
+    Inside::Children { mixed, model, plan }
+}
+
 // What an element may contain whose complex type has this content and this number.
-fn inside_of<'a>(set: &'a SchemaSet, complex: u32, content: &'a Content) -> Inside<'a>
+fn inside_of<'a>(set: &'a PlannedSet, complex: u32, content: &'a Content) -> Inside<'a>
     requires linked { IsLinked set.now }
     requires content { IsContent set.now content.now }
     requires model { model_at set.now complex ≡ model_of content.now }
@@ -44,21 +64,13 @@ fn inside_of<'a>(set: &'a SchemaSet, complex: u32, content: &'a Content) -> Insi
     match content {
         Content::Empty => Inside::Nothing,
         Content::Simple(simple) => Inside::Simple(&set.simple(*simple).space),
-        Content::ElementOnly(model) => Inside::Children {
-            mixed: false,
-            complex,
-            model,
-        },
-        Content::Mixed(model) => Inside::Children {
-            mixed: true,
-            complex,
-            model,
-        },
+        Content::ElementOnly(model) => children_of(set, complex, false, model),
+        Content::Mixed(model) => children_of(set, complex, true, model),
     }
 }
 
 // What is declared of an element with this complex type.
-fn of_complex<'a>(set: &'a SchemaSet, complex: u32, nillable: bool) -> Declared<'a>
+fn of_complex<'a>(set: &'a PlannedSet, complex: u32, nillable: bool) -> Declared<'a>
     requires linked { IsLinked set.now }
     requires complex { complex < length set.now.complexes }
     ensures asked { told (parts_of set.now) result ≡ asked_by_complex (parts_of set.now) nillable (slice_get set.now.complexes complex) }
@@ -75,7 +87,8 @@ fn of_complex<'a>(set: &'a SchemaSet, complex: u32, nillable: bool) -> Declared<
 }
 
 /// What the declaration with this number asks of an element.
-pub fn declared_of<'a>(set: &'a SchemaSet, decl: u32) -> Declared<'a>
+#[inline(always)]
+pub fn declared_of<'a>(set: &'a PlannedSet, decl: u32) -> Declared<'a>
     requires linked { IsLinked set.now }
     requires decl { decl < length set.now.elements }
     ensures asked { told (parts_of set.now) result ≡ asked_at (parts_of set.now) decl }

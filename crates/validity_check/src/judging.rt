@@ -13,9 +13,10 @@ ghost use Rattle.validity_check.specs.First.{IsFirst};
 
 use crate::attributes::{fault_at, first_wrong, is_special, lacks_among, lacks_among_few};
 use crate::places::{Run, place_of};
+use crate::planned_sets::PlannedSet;
 use crate::texts::{are_few, no_texts};
 use base_texts::{Memory, Name, Text};
-use schema_components::{AttributeUse, SchemaSet};
+use schema_components::AttributeUse;
 use std::alloc::Global;
 use validity_rules::InvalidWhy;
 
@@ -31,7 +32,7 @@ pub struct Judged {
 // Why an attribute is wrong, if it is. Those of XML Schema for documents are never wrong.
 fn wrong_at(
     alloc: Global,
-    set: &SchemaSet,
+    set: &PlannedSet,
     uses: &[AttributeUse],
     place: Option<usize>,
     found: &(Name, Text),
@@ -52,7 +53,7 @@ fn wrong_at(
 /// What is wrong with the attributes of an element of a type with these uses. The time is linear in both.
 pub(crate) fn judge(
     alloc: Global,
-    set: &SchemaSet,
+    set: &PlannedSet,
     uses: &[AttributeUse],
     attributes: &[(Name, Text)],
 ) -> Result<Judged, Memory>

@@ -12,8 +12,8 @@ ghost use Rattle.validity_check.specs.Answers.{Tells, TagFault, IsGoodTag};
 
 use crate::declarations::Declared;
 use crate::error::CheckError;
+use crate::planned_sets::PlannedSet;
 use base_texts::{Memory, Name, Text, WhiteSpace, XSI_SPACE};
-use schema_components::SchemaSet;
 use simple_types::{Simple, SimpleError, ValueLabel, accept};
 use std::alloc::Global;
 use validity_rules::InvalidWhy;
@@ -90,7 +90,7 @@ fn is_bare(declared: &Declared, attributes: &[(Name, Text)]) -> bool
 /// Returns whether an element with this declaration is nil, or the first fault of its start tag, which is at this place.
 pub fn check_tag(
     alloc: Global,
-    set: &SchemaSet,
+    set: &PlannedSet,
     declared: &Declared,
     attributes: &[(Name, Text)],
     at: u64,

@@ -10,9 +10,10 @@ ghost use Rattle.validity_check.specs.Ascending.{Ascend};
 ghost use Rattle.validity_check.specs.Texts.{AreTexts};
 
 use crate::judging::{Judged, judge};
+use crate::planned_sets::PlannedSet;
 use crate::texts::texts_of;
 use base_texts::{Memory, Name, Text};
-use schema_components::{AttributeUse, SchemaSet};
+use schema_components::AttributeUse;
 use std::alloc::Global;
 
 /// The attribute uses of a type. They ascend by their names, as a linked set keeps them, so that each is found by halves.
@@ -27,7 +28,7 @@ impl<'a> Uses<'a> {
     pub fn judge(
         &self,
         alloc: Global,
-        set: &SchemaSet,
+        set: &PlannedSet,
         attributes: &[(Name, Text)],
     ) -> Result<Judged, Memory>
         requires linked { IsLinked set.now }

@@ -41,10 +41,10 @@ begins-alone p no_all texts old new h =
     begins-put (alone p) [] texts [] old new new new new h (no-parts (TextsMade (children false p) (node value.SequenceOf (roses_of texts))) new (refl, refl))
     (no-parts (OrderMade (is_all p) []) new (subst (λ b. OrderMade b [] [] []) (sym (no-order (children false p) no_all)) (refl, refl))) (no-parts (AttributesMade [] (left [])) new (refl, refl))
 
-pub alone-read : (s : Set) → IsLinked s → (d complex : ℕ) (model : Rose ParticleLabel) → IsPlainModel s d complex model → (n : Name) (xs : List (Name × List ℕ)) (declares : List (List ℕ × List ℕ)) (place : ℕ) (t : Rose ItemLabel)
+pub alone-read : (s : Set) → IsLinked s → (d : ℕ) (model : Rose ParticleLabel) (plan : Particle) → IsPlainModel s d model plan → (n : Name) (xs : List (Name × List ℕ)) (declares : List (List ℕ × List ℕ)) (place : ℕ) (t : Rose ItemLabel)
     → label_of t ≡ Element n xs declares place → is_sound t ≡ true → xs ≡ [] → (kids : List (Rose ItemLabel)) → kids ≡ kids_of t → (new : Built) (z : Zip ValueLabel) → (r : Result (Unit {0}) CheckError)
     → MatchResult r (λ _. ComplexPut s (alone (seen model)) [] (roses_of kids) z new) (Tells (InsideFault (asked_at (parts_of s)) (children false (seen model)) (roses_of kids) place))
     → MatchResult r (λ _. ValuePut (IsRead s d t) z new) (Tells (FaultBy (asked_at (parts_of s)) d t))
-alone-read s linked d complex model plain n xs declares place t is sound empty kids are new z r judged =
+alone-read s linked d model plan plain n xs declares place t is sound empty kids are new z r judged =
     filled-read s linked d n xs declares place t is sound (alone (seen model)) [] (sym plain.asked_is) (sym empty) kids are new z (bare (alone (seen model)) refl [] refl) r
     (complex-judged s d (alone (seen model)) [] (roses_of kids) z new (Tells (InsideFault (asked_at (parts_of s)) (children false (seen model)) (roses_of kids) place)) (λ space e. absurd (cc)) r judged)

@@ -98,8 +98,8 @@ no-order asked.nothing h = refl
 no-order (asked.simple space) h = refl
 no-order (asked.children mixed p) h = plain-particle p h
 
-pub has-order : (inside : Inside) (mixed : Bool) (complex : ℕ) (model : _) → inside ≡ Children mixed complex model → is_all (seen model.now) ≡ true → in_any_order (inside_told inside) ≡ true
-has-order inside mixed complex model e any = ap (λ x. in_any_order (inside_told x)) e ∙ any
+pub has-order : (inside : Inside) (mixed : Bool) (model plan : _) → inside ≡ Children mixed model plan → is_all (seen model.now) ≡ true → in_any_order (inside_told inside) ≡ true
+has-order inside mixed model plan e any = ap (λ x. in_any_order (inside_told x)) e ∙ any
 
 -- ---- the numbers
 
@@ -144,7 +144,7 @@ one-part-put flags vs a b c d h k m =
 pub gathered-keeps : (s : Set) (inside : Inside) (ts : Roses ItemLabel) (g : Gathered) → IsGathered s (inside_told inside) ts g → (numbers : List ℕ) × (children : List (Option Child)) × Keeps g numbers children
 gathered-keeps s Nothing ts g h = absurd h
 gathered-keeps s (Simple simple) ts g h = absurd h
-gathered-keeps s (Children mixed complex model) ts g h = (h.2.numbers, h.2.children, h.2.kept_are)
+gathered-keeps s (Children mixed model plan) ts g h = (h.2.numbers, h.2.children, h.2.kept_are)
 
 pub ordered-put : (s : Set) (a : Asked) (inside : Inside) → a.inside ≡ inside_told inside → (xs : List (Name × List ℕ)) (ts : Roses ItemLabel) (z : Zip ValueLabel) (old mid before after : Built) → are_sound ts ≡ true
     → (g : Gathered) → g.most ≡ old.most → IsGathered s (inside_told inside) ts g → Begins a xs (strings_put false ts) g.numbers.items old mid → Stands old z
@@ -152,7 +152,7 @@ pub ordered-put : (s : Set) (a : Asked) (inside : Inside) → a.inside ≡ insid
     → ComplexPut s a xs ts z after
 ordered-put s a Nothing inside_is xs ts z old mid before after sound g same h begins stands puts closes = absurd h
 ordered-put s a (Simple simple) inside_is xs ts z old mid before after sound g same h begins stands puts closes = absurd h
-ordered-put s a (Children mixed complex model) inside_is xs ts z old mid before after sound g same (any, named, h) begins stands puts closes =
+ordered-put s a (Children mixed model plan) inside_is xs ts z old mid before after sound g same (any, named, h) begins stands puts closes =
     gathered-put s a mixed model.now inside_is xs ts z old mid before after sound g named any h
     (begins-with a xs (strings_put false ts) g.numbers.items h.numbers old mid begins (λ some. h.kept_are.numbers_are (subst (λ n. 1 ≤ n) (sym same) some))) stands (puts h.numbers h.children h.kept_are) closes
 

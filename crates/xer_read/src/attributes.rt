@@ -11,17 +11,17 @@ ghost use Rattle.xer_read.specs.Private.Contents.{IsTaken, IsTextOf, AreTaken, A
 ghost use Rattle.xer_read.specs.Private.Putting.{PartsPut};
 
 use base_texts::{Memory, Name, Text};
-use schema_components::{AttributeUse, SchemaSet};
+use schema_components::AttributeUse;
 use simple_types::SimpleError;
 use std::alloc::Global;
-use validity_check::{Uses, are_few, says_nothing, text_of};
+use validity_check::{PlannedSet, Uses, are_few, says_nothing, text_of};
 use value_builder::ValueBuilder;
 
 // Appends the part for an attribute use with this text, if it is present. An optional attribute with its default or fixed value
 // has no part.
 fn put_attribute(
     alloc: Global,
-    set: &SchemaSet,
+    set: &PlannedSet,
     declared: &AttributeUse,
     text: Option<&Text>,
     values: &mut ValueBuilder,
@@ -53,7 +53,7 @@ fn put_attribute(
 // Appends the parts for few attribute uses, and searches for the attribute of each one by one.
 fn put_few(
     alloc: Global,
-    set: &SchemaSet,
+    set: &PlannedSet,
     uses: &[AttributeUse],
     attributes: &[(Name, Text)],
     values: &mut ValueBuilder,
@@ -73,7 +73,7 @@ fn put_few(
 // Appends the parts for attribute uses, whose texts are given in their order.
 fn put_each(
     alloc: Global,
-    set: &SchemaSet,
+    set: &PlannedSet,
     uses: &[AttributeUse],
     texts: &[Option<&Text>],
     values: &mut ValueBuilder,
@@ -96,7 +96,7 @@ fn put_each(
 /// optional attribute that has its default or fixed value.
 pub(crate) fn put_attributes(
     alloc: Global,
-    set: &SchemaSet,
+    set: &PlannedSet,
     uses: &Uses<'_>,
     attributes: &[(Name, Text)],
     values: &mut ValueBuilder,

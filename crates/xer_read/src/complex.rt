@@ -28,16 +28,16 @@ use crate::strings::put_texts;
 use crate::texts::put_text;
 use crate::walk::Element;
 use base_texts::Memory;
-use schema_components::{SchemaSet, TypeOf};
+use schema_components::TypeOf;
 use simple_types::{Flags, Simple, ValueLabel};
 use std::alloc::Global;
-use validity_check::{CheckError, Inside, check_empty, check_no_content};
+use validity_check::{CheckError, Inside, PlannedSet, check_empty, check_no_content};
 use validity_rules::InvalidWhy;
 use value_builder::ValueBuilder;
 use xml_items::ItemKids;
 
 /// Returns the type whose value is the element's, if the element has a simple type and can't be nil.
-pub(crate) fn plain_type<'a>(set: &SchemaSet, decl: u32, inside: Inside<'a>) -> Option<&'a Simple>
+pub(crate) fn plain_type<'a>(set: &PlannedSet, decl: u32, inside: Inside<'a>) -> Option<&'a Simple>
     requires { decl < length set.now.elements }
     ensures { MatchOption result
         ((space : Space) → inside_told inside.entry ≡ asked.simple space → is_plain_at set.now decl ≡ false)

@@ -1,14 +1,13 @@
 //! Traverses an element and its children, and appends its value.
 ghost use Rattle.std.specs.Prelude.{◌≡◌, ◌⊎◌, ℕ, ◌+◌, ◌-◌, ◌*◌, ◌^◌, ◌<◌, ◌≤◌, true, false, List, [], length, slice_index_or, All, Some, MatchResult, OnOk, IfOk};
-ghost use Rattle.base_trees.specs.Rose.{Rose, label_of, roses_of, node_count, count_all};
+ghost use Rattle.base_trees.specs.Rose.{Rose, label_of, roses_of};
 ghost use Rattle.base_texts.specs.WhiteSpace.{is_blank};
 ghost use Rattle.xml_items.specs.declared.label.ItemLabel.{ItemLabel};
-ghost use Rattle.xml_read.specs.Sound.{is_text, is_sound, are_sound};
+ghost use Rattle.xml_read.specs.Sound.{is_text};
 ghost use Rattle.base_flat_trees.specs.Zips.{Zip, added};
 ghost use Rattle.simple_types.specs.declared.labels.ValueLabel.{ValueLabel};
 ghost use Rattle.content_models.specs.Particle.{Particle, Particles, occurs, all};
 ghost use Rattle.content_models.specs.Clear.{IsNoAll};
-ghost use Rattle.content_models.specs.declared.particles.ParticleLabel.{ParticleLabel};
 ghost use Rattle.map_assignments.specs.Planning.{is_all};
 ghost use Rattle.content_models.specs.Seen.{seen};
 ghost use Rattle.content_match.specs.Taking.{levels};
@@ -19,12 +18,12 @@ ghost use Rattle.validity_rules.specs.Asked.{asked_at};
 ghost use Rattle.validity_rules.specs.Faults.{At, FaultBy};
 ghost use Rattle.validity_check.specs.Answers.{Tells, KidsFault, InsideFault};
 ghost use Rattle.xml_items.specs.Counts.{element_count, elements_in};
-ghost use Rattle.validity_check.specs.Told.{inside_told, told, model_at};
+ghost use Rattle.validity_check.specs.Told.{inside_told, told};
 ghost use Rattle.value_builder.specs.Built.{Stands};
 ghost use Rattle.xer_read.specs.Private.Given.{IsRead};
 ghost use Rattle.xer_read.specs.Private.Keeping.{Reached, Gathers};
 ghost use Rattle.xer_read.specs.Private.Contents.{HasNoAll, IsFilled, ChildrenPut, KidsGathered, InsidePut, ComplexPut};
-ghost use Rattle.xer_read.specs.Private.Opened.{IsOpened};
+ghost use Rattle.xer_read.specs.Private.Opened.{IsItem, AreItems, IsOpened, IsInOrder, IsInAnyOrder};
 ghost use Rattle.xer_read.specs.Private.Putting.{IsWay, ValuePut};
 
 use crate::complex::{
@@ -40,10 +39,9 @@ use crate::ways::{Going, ModelPath, finish, open_way};
 use base_texts::{Text, is_blank};
 use content_match::Matcher;
 use content_models::Particle;
-use schema_components::SchemaSet;
 use std::iter::Iterator;
 use std::sync::ledger::Ledger;
-use validity_check::{CheckError, Inside, check_tag, declared_of};
+use validity_check::{CheckError, Inside, PlannedSet, check_tag, declared_of};
 use validity_rules::InvalidWhy;
 use value_builder::ValueBuilder;
 use value_contents::{Path, put_end};
@@ -77,17 +75,12 @@ fn walk_kid<L: Ledger>(
     kid: &ItemNode,
     values: &mut ValueBuilder,
 ) -> Result<(), CheckError>
-    requires linked { IsLinked content.now.set.now }
-    requires plans { walk.old.plans ≡ content.now.set.now }
-    requires model { IsModel content.now.set.now content.now.model.now }
-    requires no_all { IsNoAll (seen content.now.model.now) }
+    requires content { IsInOrder content.now }
     requires way { IsWay going.old.way going.old.matcher values.old.most }
     requires taken { going.old.matcher.taken < 2 ^ 32 - 1 }
     requires reached { (kids : List (Rose ItemLabel)) × (i : ℕ) × (z : Zip ValueLabel) × Reached content.now.set.now content.now.mixed (seen content.now.model.now) kids i going.old.matcher z values.old }
-    requires sound { is_sound kid.now ≡ true }
-    requires few { node_count kid.now < 2 ^ 31 }
+    requires kid { IsItem kid.now }
     ensures same_reference { walk.new.steps.ghost_name ≡ walk.old.steps.ghost_name }
-    ensures same { walk.new.plans ≡ content.now.set.now }
     ensures way { OnOk result (IsWay going.new.way going.new.matcher values.old.most) }
     ensures limit { OnOk result (values.new.most ≡ values.old.most) }
     ensures judged { (kids : List (Rose ItemLabel)) (place i : ℕ) (z : Zip ValueLabel) → i < length kids → kid.now ≡ slice_index_or kids i kid.now
@@ -138,16 +131,10 @@ fn walk_kids<L: Ledger>(
     parent: &Parent,
     values: &mut ValueBuilder,
 ) -> Result<(), CheckError>
-    requires linked { IsLinked content.now.set.now }
-    requires plans { walk.old.plans ≡ content.now.set.now }
-    requires model { IsModel content.now.set.now content.now.model.now }
-    requires no_all { IsNoAll (seen content.now.model.now) }
-    requires plan { content.now.plan.now ≡ seen content.now.model.now }
-    requires sound { are_sound (roses_of parent.now.kids) ≡ true }
-    requires few { count_all (roses_of parent.now.kids) < 2 ^ 31 }
+    requires content { IsInOrder content.now }
+    requires items { AreItems (roses_of parent.now.kids) }
     requires stands { (z : Zip ValueLabel) × Stands values.old z }
     ensures same_reference { walk.new.steps.ghost_name ≡ walk.old.steps.ghost_name }
-    ensures same { walk.new.plans ≡ content.now.set.now }
     ensures limit { OnOk result (values.new.most ≡ values.old.most) }
     ensures judged { (z : Zip ValueLabel) → Stands values.old z → MatchResult result
         (λ _. ChildrenPut content.now.set.now false content.now.mixed (seen content.now.model.now) (roses_of parent.now.kids) z values.new)
@@ -156,11 +143,11 @@ fn walk_kids<L: Ledger>(
     ensures least { OnOk result (walk.old.steps.now + elements_in (roses_of parent.now.kids) ≤ walk.new.steps.now) }
     ensures later { walk.old.steps.now ≤ walk.new.steps.now }
 {
-    let mut lists = walk.plans.lists();
+    let mut lists = walk.spare.lists();
     content.plan.make_ready(&mut lists)?;
     let mut going = Going {
         matcher: Matcher::begin(content.plan, lists),
-        way: ModelPath::start(&mut walk.plans, values),
+        way: ModelPath::start(&mut walk.spare, values),
     };
     for kid in parent.kids.again() {
         walk_kid(walk, content, &mut going, &kid, values)?;
@@ -172,30 +159,27 @@ fn walk_kids<L: Ledger>(
         kids: matcher.kids(),
     };
     put_end(content.model, path, values)?;
-    way.end(&mut walk.plans, values);
-    walk.plans.give_back(matcher.into_lists());
+    way.end(&mut walk.spare, values);
+    walk.spare.give_back(matcher.into_lists());
     Ok(())
 }
 
 // Reads an element that has only child elements, in the order of the content model.
 #[cycle(walking)]
 fn walk_plain<L: Ledger>(
-    set: &SchemaSet,
+    set: &PlannedSet,
     walk: &mut Walk<L>,
     inside: PlainModel,
     parent: &Parent,
     values: &mut ValueBuilder,
 ) -> Result<(), CheckError>
     requires linked { IsLinked set.now }
-    requires plans { walk.old.plans ≡ set.now }
-    requires there { model_at set.now inside.complex ≡ Some inside.model.now }
     requires model { IsModel set.now inside.model.now }
+    requires plan { inside.plan.now ≡ seen inside.model.now }
     requires no_all { IsNoAll (seen inside.model.now) }
-    requires sound { are_sound (roses_of parent.now.kids) ≡ true }
-    requires few { count_all (roses_of parent.now.kids) < 2 ^ 31 }
+    requires items { AreItems (roses_of parent.now.kids) }
     requires stands { (z : Zip ValueLabel) × Stands values.old z }
     ensures same_reference { walk.new.steps.ghost_name ≡ walk.old.steps.ghost_name }
-    ensures same { walk.new.plans ≡ set.now }
     ensures limit { OnOk result (values.new.most ≡ values.old.most) }
     ensures judged { (z : Zip ValueLabel) → Stands values.old z → MatchResult result
         (λ _. ComplexPut set.now (asked.asked false [] (asked.children false (seen inside.entry.model.now))) [] (roses_of parent.now.kids) z values.new)
@@ -204,12 +188,11 @@ fn walk_plain<L: Ledger>(
     ensures least { OnOk result (walk.old.steps.now + elements_in (roses_of parent.now.kids) ≤ walk.new.steps.now) }
     ensures later { walk.old.steps.now ≤ walk.new.steps.now }
 {
-    let plan = walk.plans.plan(inside.complex, inside.model)?;
     let content = ChildModel {
         set,
         mixed: false,
         model: inside.model,
-        plan: plan.as_ref(),
+        plan: inside.plan,
     };
     values.open(no_components())?;
     walk_kids(walk, &content, parent, values)?;
@@ -226,11 +209,9 @@ fn walk_inside<L: Ledger>(
     values: &mut ValueBuilder,
 ) -> Result<(), CheckError>
     requires opened { IsOpened element.now }
-    requires plans { walk.old.plans ≡ element.now.set.now }
     requires no_all { HasNoAll (inside_told element.now.declared.inside) }
     requires stands { (z : Zip ValueLabel) × Stands values.old z }
     ensures same_reference { walk.new.steps.ghost_name ≡ walk.old.steps.ghost_name }
-    ensures same { walk.new.plans ≡ element.now.set.now }
     ensures limit { OnOk result (values.new.most ≡ values.old.most) }
     ensures judged { (z : Zip ValueLabel) → Stands values.old z → MatchResult result
         (λ _. InsidePut element.now.set.now element.now.declared.nillable (inside_told element.now.declared.inside) (roses_of element.now.parent.kids) z values.new)
@@ -244,17 +225,12 @@ fn walk_inside<L: Ledger>(
     match element.declared.inside {
         Inside::Nothing => walk_nothing(nillable, &parent.kids, values),
         Inside::Simple(simple) => walk_text(simple, parent.at, &parent.kids, values),
-        Inside::Children {
-            mixed,
-            complex,
-            model,
-        } => {
-            let plan = walk.plans.plan(complex, model)?;
+        Inside::Children { mixed, model, plan } => {
             let content = ChildModel {
                 set: element.set,
                 mixed,
                 model,
-                plan: plan.as_ref(),
+                plan,
             };
             if !nillable {
                 return walk_kids(walk, &content, parent, values);
@@ -275,16 +251,12 @@ fn gather_kid<L: Ledger>(
     gathering: &mut Gathering,
     kid: &ItemNode,
 ) -> Result<(), CheckError>
-    requires linked { IsLinked content.now.set.now }
-    requires plans { walk.old.plans ≡ content.now.set.now }
-    requires model { (model : Rose ParticleLabel) × IsModel content.now.set.now model × (gathering.old.matcher.particle ≡ seen model) }
+    requires content { IsInAnyOrder content.now }
     requires taken { gathering.old.matcher.taken < 2 ^ 32 - 1 }
-    requires gathers { (ps : Particles) × (kids : List (Rose ItemLabel)) × (i : ℕ) × (gathering.old.matcher.particle ≡ occurs (all ps) 1 (Some 1))
-        × Gathers content.now.set.now content.now.mixed ps kids i gathering.old.matcher gathering.old.gathered }
-    requires sound { is_sound kid.now ≡ true }
-    requires few { node_count kid.now < 2 ^ 31 }
+    requires gathers { (gathering.old.matcher.particle ≡ seen content.now.model.now) × (ps : Particles) × (kids : List (Rose ItemLabel)) × (i : ℕ)
+        × (gathering.old.matcher.particle ≡ occurs (all ps) 1 (Some 1)) × Gathers content.now.set.now content.now.mixed ps kids i gathering.old.matcher gathering.old.gathered }
+    requires kid { IsItem kid.now }
     ensures same_reference { walk.new.steps.ghost_name ≡ walk.old.steps.ghost_name }
-    ensures same { walk.new.plans ≡ content.now.set.now }
     ensures particle { OnOk result (gathering.new.matcher.particle ≡ gathering.old.matcher.particle) }
     ensures limit { OnOk result (gathering.new.gathered.most ≡ gathering.old.gathered.most) }
     ensures outside { OnOk result (gathering.new.gathered.outside ≡ gathering.old.gathered.outside) }
@@ -302,7 +274,7 @@ fn gather_kid<L: Ledger>(
         ItemRef::Element { name, at, .. } => {
             let leaf = take_name(&mut gathering.matcher, name, at, walk.steps)?;
             let left = gathering.gathered.left();
-            let mut value = ValueBuilder::new(walk.plans.alloc(), left);
+            let mut value = ValueBuilder::new(walk.spare.alloc(), left);
             walk_element(content.set, walk, leaf.decl, kid, &mut value)?;
             let number = last_number(&gathering.matcher);
             gathering.gathered.keep(number, value)?;
@@ -319,15 +291,9 @@ fn gather_kids<L: Ledger>(
     parent: &Parent,
     values: &ValueBuilder,
 ) -> Result<Gathered, CheckError>
-    requires linked { IsLinked content.now.set.now }
-    requires plans { walk.old.plans ≡ content.now.set.now }
-    requires model { IsModel content.now.set.now content.now.model.now }
-    requires any_order { is_all (seen content.now.model.now) ≡ true }
-    requires plan { content.now.plan.now ≡ seen content.now.model.now }
-    requires sound { are_sound (roses_of parent.now.kids) ≡ true }
-    requires few { count_all (roses_of parent.now.kids) < 2 ^ 31 }
+    requires content { IsInAnyOrder content.now }
+    requires items { AreItems (roses_of parent.now.kids) }
     ensures same_reference { walk.new.steps.ghost_name ≡ walk.old.steps.ghost_name }
-    ensures same { walk.new.plans ≡ content.now.set.now }
     ensures limit { IfOk result (λ gathered. gathered.most ≡ values.now.most) }
     ensures outside { IfOk result (λ gathered. gathered.outside ≡ values.now.nodes) }
     ensures judged { MatchResult result
@@ -337,15 +303,15 @@ fn gather_kids<L: Ledger>(
     ensures least { OnOk result (walk.old.steps.now + elements_in (roses_of parent.now.kids) ≤ walk.new.steps.now) }
     ensures later { walk.old.steps.now ≤ walk.new.steps.now }
 {
-    let matcher = Matcher::start(content.plan, walk.plans.lists())?;
-    let gathered = Gathered::new(walk.plans.alloc(), content.model, values)?;
+    let matcher = Matcher::start(content.plan, walk.spare.lists())?;
+    let gathered = Gathered::new(walk.spare.alloc(), content.model, values)?;
     let mut gathering = Gathering { matcher, gathered };
     for kid in parent.kids.again() {
         gather_kid(walk, content, &mut gathering, &kid)?;
     }
     finish(&gathering.matcher, parent.at, walk.steps)?;
     let Gathering { matcher, gathered } = gathering;
-    walk.plans.give_back(matcher.into_lists());
+    walk.spare.give_back(matcher.into_lists());
     Ok(gathered)
 }
 
@@ -359,12 +325,10 @@ fn walk_any_order<L: Ledger>(
     values: &mut ValueBuilder,
 ) -> Result<(), CheckError>
     requires opened { IsOpened element.now }
-    requires plans { walk.old.plans ≡ element.now.set.now }
-    requires inside { element.now.declared.inside ≡ Inside.Children inside.mixed inside.complex inside.model }
+    requires inside { element.now.declared.inside ≡ Inside.Children inside.mixed inside.model inside.plan }
     requires any_order { is_all (seen inside.model.now) ≡ true }
     requires stands { (z : Zip ValueLabel) × Stands values.old z }
     ensures same_reference { walk.new.steps.ghost_name ≡ walk.old.steps.ghost_name }
-    ensures same { walk.new.plans ≡ element.now.set.now }
     ensures limit { OnOk result (values.new.most ≡ values.old.most) }
     ensures judged { (z : Zip ValueLabel) → Stands values.old z → MatchResult result
         (λ _. ComplexPut element.now.set.now (told (parts_of element.now.set.now) element.now.declared) element.now.attributes.now (roses_of element.now.parent.kids) z values.new)
@@ -373,15 +337,14 @@ fn walk_any_order<L: Ledger>(
     ensures least { OnOk result (walk.old.steps.now + elements_in (roses_of element.now.parent.kids) ≤ walk.new.steps.now) }
     ensures later { walk.old.steps.now ≤ walk.new.steps.now }
 {
-    let plan = walk.plans.plan(inside.complex, inside.model)?;
     let content = ChildModel {
         set: element.set,
         mixed: inside.mixed,
         model: inside.model,
-        plan: plan.as_ref(),
+        plan: inside.plan,
     };
     let gathered = gather_kids(walk, &content, &element.parent, values)?;
-    put_any_order(walk.plans.alloc(), element, gathered, values)?;
+    put_any_order(walk.spare.alloc(), element, gathered, values)?;
     Ok(())
 }
 
@@ -394,11 +357,9 @@ fn walk_filled<L: Ledger>(
     values: &mut ValueBuilder,
 ) -> Result<(), CheckError>
     requires opened { IsOpened element.now }
-    requires plans { walk.old.plans ≡ element.now.set.now }
     requires decl { decl < length element.now.set.now.elements }
     requires stands { (z : Zip ValueLabel) × Stands values.old z }
     ensures same_reference { walk.new.steps.ghost_name ≡ walk.old.steps.ghost_name }
-    ensures same { walk.new.plans ≡ element.now.set.now }
     ensures limit { OnOk result (values.new.most ≡ values.old.most) }
     ensures judged { (z : Zip ValueLabel) → Stands values.old z → MatchResult result
         (λ _. ValuePut (IsFilled element.now.set.now decl (told (parts_of element.now.set.now) element.now.declared) element.now.attributes.now (roses_of element.now.parent.kids)) z values.new)
@@ -412,7 +373,7 @@ fn walk_filled<L: Ledger>(
         None => match any_order(element.declared.inside) {
             Some(inside) => walk_any_order(walk, element, inside, values),
             None => {
-                begin_complex(walk.plans.alloc(), element, false, &[], values)?;
+                begin_complex(walk.spare.alloc(), element, false, &[], values)?;
                 walk_inside(walk, element, values)?;
                 values.close();
                 Ok(())
@@ -424,21 +385,18 @@ fn walk_filled<L: Ledger>(
 /// Checks that the element is valid under the declaration with this number, and appends its value.
 #[cycle(walking)]
 pub(crate) fn walk_element<L: Ledger>(
-    set: &SchemaSet,
+    set: &PlannedSet,
     walk: &mut Walk<L>,
     decl: u32,
     item: &ItemNode,
     values: &mut ValueBuilder,
 ) -> Result<(), CheckError>
     requires linked { IsLinked set.now }
-    requires plans { walk.old.plans ≡ set.now }
     requires decl { decl < length set.now.elements }
     requires element { is_text (label_of item.now) ≡ false }
-    requires sound { is_sound item.now ≡ true }
-    requires few { node_count item.now < 2 ^ 31 }
+    requires item { IsItem item.now }
     requires stands { (z : Zip ValueLabel) × Stands values.old z }
     ensures same_reference { walk.new.steps.ghost_name ≡ walk.old.steps.ghost_name }
-    ensures same { walk.new.plans ≡ set.now }
     ensures limit { OnOk result (values.new.most ≡ values.old.most) }
     ensures judged { (z : Zip ValueLabel) → Stands values.old z → MatchResult result
         (λ _. ValuePut (IsRead set.now decl item.now) z values.new)
@@ -451,7 +409,7 @@ pub(crate) fn walk_element<L: Ledger>(
         ItemRef::Text { .. } => unreachable!(),
         ItemRef::Element { attributes, at, .. } => {
             let declared = declared_of(set, decl);
-            let nil = check_tag(walk.plans.alloc(), set, &declared, attributes, at)?;
+            let nil = check_tag(walk.spare.alloc(), set, &declared, attributes, at)?;
             let element = Element {
                 set,
                 declared,
@@ -462,7 +420,7 @@ pub(crate) fn walk_element<L: Ledger>(
                 },
             };
             if nil {
-                walk_nil(walk.plans.alloc(), &element, values)
+                walk_nil(walk.spare.alloc(), &element, values)
             } else {
                 walk_filled(walk, decl, &element, values)
             }

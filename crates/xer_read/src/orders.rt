@@ -17,7 +17,7 @@ ghost use Rattle.validity_check.specs.Told.{inside_told};
 ghost use Rattle.xer_read.specs.Private.Contents.{HasNoAll};
 
 use base_texts::{Name, Steps};
-use content_match::{Leaf, Matcher};
+use content_match::{Leaf, Matcher, Plan};
 use content_models::{Particle, ParticleKind};
 use std::sync::ledger::Ledger;
 use validity_check::{CheckError, Inside};
@@ -27,8 +27,8 @@ use validity_rules::InvalidWhy;
 #[derive(Clone, Copy)]
 pub(crate) struct AnyOrder<'a> {
     pub mixed: bool,
-    pub complex: u32,
     pub model: &'a Particle,
+    pub plan: &'a Plan,
 }
 
 // Whether the content model is an all.
@@ -46,22 +46,14 @@ fn is_any_order(model: &Particle) -> bool
 pub(crate) fn any_order<'a>(inside: Inside<'a>) -> Option<AnyOrder<'a>>
     ensures { MatchOption result
         (HasNoAll (inside_told inside.entry))
-        (λ found. (inside.entry ≡ Inside.Children found.mixed found.complex found.model) × (is_all (seen found.model.now) ≡ true)) }
+        (λ found. (inside.entry ≡ Inside.Children found.mixed found.model found.plan) × (is_all (seen found.model.now) ≡ true)) }
 {
     match inside {
         Inside::Nothing => None,
         Inside::Simple(_) => None,
-        Inside::Children {
-            mixed,
-            complex,
-            model,
-        } => {
+        Inside::Children { mixed, model, plan } => {
             if is_any_order(model) {
-                Some(AnyOrder {
-                    mixed,
-                    complex,
-                    model,
-                })
+                Some(AnyOrder { mixed, model, plan })
             } else {
                 None
             }

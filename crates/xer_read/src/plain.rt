@@ -9,23 +9,24 @@ ghost use Rattle.xer_read.specs.Private.Contents.{IsPlainType, IsPlainModel};
 
 use crate::orders::any_order;
 use base_texts::{Name, Text};
+use content_match::Plan;
 use content_models::Particle;
-use schema_components::{SchemaSet, TypeOf};
+use schema_components::TypeOf;
 use simple_types::Simple;
 use std::iter::Iterator;
-use validity_check::{Inside, declared_of};
+use validity_check::{Inside, PlannedSet, declared_of};
 use xml_items::{Characters, ItemNode, ItemRef};
 
-/// Child elements by the content model of the complex type with this number, and nothing else.
+/// Child elements by this content model, with its plan, and nothing else.
 #[derive(Clone, Copy)]
 pub(crate) struct PlainModel<'a> {
-    pub complex: u32,
     pub model: &'a Particle,
+    pub plan: &'a Plan,
 }
 
 // Returns the type of the elements of this declaration, if it is simple and they can't be nil.
 #[inline(always)]
-fn simple_of<'a>(set: &'a SchemaSet, decl: u32) -> Option<&'a Simple>
+fn simple_of<'a>(set: &'a PlannedSet, decl: u32) -> Option<&'a Simple>
     requires linked { IsLinked set.now }
     requires decl { decl < length set.now.elements }
     ensures { IfSome result (λ simple. IsPlainType set.now decl (space_of simple.now)) }
@@ -62,7 +63,7 @@ fn lone_text<'a>(item: &ItemNode<'a>) -> Option<Characters<'a>>
 /// Returns the type and the characters of an element of this declaration, if it contains nothing else and its value is theirs.
 #[inline(always)]
 pub(crate) fn plain_text<'a, 'b>(
-    set: &'a SchemaSet,
+    set: &'a PlannedSet,
     decl: u32,
     attributes: &[(Name, Text)],
     item: &ItemNode<'b>,
@@ -87,13 +88,13 @@ pub(crate) fn plain_text<'a, 'b>(
 /// Returns the content model of an element of this declaration, if it has only child elements.
 #[inline(always)]
 pub(crate) fn plain_model<'a>(
-    set: &'a SchemaSet,
+    set: &'a PlannedSet,
     decl: u32,
     attributes: &[(Name, Text)],
 ) -> Option<PlainModel<'a>>
     requires linked { IsLinked set.now }
     requires decl { decl < length set.now.elements }
-    ensures { IfSome result (λ found. (attributes.now ≡ []) × IsPlainModel set.now decl found.complex found.model.now) }
+    ensures { IfSome result (λ found. (attributes.now ≡ []) × IsPlainModel set.now decl found.model.now found.plan.now) }
 {
     let bare = attributes.is_empty();
     if !bare {
@@ -111,15 +112,11 @@ pub(crate) fn plain_model<'a>(
         None => match declared.inside {
             Inside::Nothing => None,
             Inside::Simple(_) => None,
-            Inside::Children {
-                mixed,
-                complex,
-                model,
-            } => {
+            Inside::Children { mixed, model, plan } => {
                 if mixed {
                     None
                 } else {
-                    Some(PlainModel { complex, model })
+                    Some(PlainModel { model, plan })
                 }
             }
         },

@@ -15,15 +15,13 @@ ghost use Rattle.xer_read.specs.Answers.{IsValueOf, IsTooLarge, IsOnlyValue, Rea
 
 use crate::error::ReadError;
 use crate::root::walk_root;
-use crate::small::see_simples;
-use crate::walk::Walk;
+use crate::walk::{Spare, Walk};
 use base_flat_trees::Whole;
 use base_texts::Steps;
-use schema_components::SchemaSet;
 use simple_types::Value;
 use std::alloc::Global;
 use std::sync::ledger::Ledger;
-use validity_check::{CheckError, Plans};
+use validity_check::{CheckError, PlannedSet};
 use value_builder::ValueBuilder;
 use xml_read::Items;
 
@@ -34,7 +32,7 @@ const MOST_NODES: u32 = 1_048_576;
 /// error reports the first fault, or an allocation failure. The steps are those through content models.
 pub fn check_items<L: Ledger>(
     alloc: Global,
-    set: &SchemaSet,
+    set: &PlannedSet,
     root: u32,
     items: &Items,
     steps: &mut Steps<L>,
@@ -48,12 +46,14 @@ pub fn check_items<L: Ledger>(
     ensures later { steps.old ≤ steps.new }
 {
     let mut values = ValueBuilder::new(alloc, 0);
-    let plans = Plans::new(alloc, set)?;
-    let mut walk = Walk { plans, steps };
+    let mut walk = Walk {
+        spare: Spare::new(alloc),
+        steps,
+    };
     let judged = walk_root(set, &mut walk, root, items, &mut values);
     // The traversal ends here and gives the steps back.
     let Walk {
-        plans: _plans,
+        spare: _spare,
         steps: _steps,
     } = walk;
     judged
@@ -96,7 +96,7 @@ fn room_for(alloc: Global, items: &Items) -> ValueBuilder
 /// nodes. The count 2^64 - 1 means that number or a greater one.
 pub fn read_value<L: Ledger>(
     alloc: Global,
-    set: &SchemaSet,
+    set: &PlannedSet,
     root: u32,
     items: &Items,
     steps: &mut Steps<L>,
@@ -112,14 +112,15 @@ pub fn read_value<L: Ledger>(
         (ReadTells (λ at why. Unit {0}) (λ count. steps.old + element_count items.now ≤ steps.new + 1)) }
     ensures later { steps.old ≤ steps.new }
 {
-    see_simples(set);
     let mut values = room_for(alloc, items);
-    let plans = Plans::new(alloc, set)?;
-    let mut walk = Walk { plans, steps };
+    let mut walk = Walk {
+        spare: Spare::new(alloc),
+        steps,
+    };
     let judged = walk_root(set, &mut walk, root, items, &mut values);
     // The traversal ends here and gives the steps back.
     let Walk {
-        plans: _plans,
+        spare: _spare,
         steps: _steps,
     } = walk;
     match judged {

@@ -6,6 +6,7 @@ ghost use Rattle.simple_types.specs.declared.labels.ValueLabel.{ValueLabel};
 ghost use Rattle.xml_items.specs.Labels.{item_place};
 ghost use Rattle.xml_items.specs.Seen.{item_seen};
 ghost use Rattle.schema_components.specs.Linked.{IsLinked};
+ghost use Rattle.schema_components.specs.Small.{AreSmall};
 ghost use Rattle.schema_components.specs.SetParts.{parts_of};
 ghost use Rattle.validity_rules.specs.Valid.{HasName};
 ghost use Rattle.validity_rules.specs.Faults.{At, FirstFault};
@@ -18,9 +19,8 @@ ghost use Rattle.xer_read.specs.Private.Putting.{ValuePut};
 use crate::elements::walk_element;
 use crate::walk::Walk;
 use base_texts::Name;
-use schema_components::SchemaSet;
 use std::sync::ledger::Ledger;
-use validity_check::CheckError;
+use validity_check::{CheckError, PlannedSet};
 use validity_rules::InvalidWhy;
 use value_builder::ValueBuilder;
 use xml_items::ItemRef;
@@ -57,16 +57,16 @@ fn check_name(label: ItemRef<'_>, name: &Name) -> Result<(), CheckError>
 /// Checks that the document is valid against the global element with this number, and appends its value. The steps are those
 /// through content models.
 pub(crate) fn walk_root<L: Ledger>(
-    set: &SchemaSet,
+    set: &PlannedSet,
     walk: &mut Walk<L>,
     root: u32,
     items: &Items,
     values: &mut ValueBuilder,
 ) -> Result<(), CheckError>
     requires root { root < set.now.globals }
-    requires plans { walk.old.plans ≡ set.now }
     requires stands { (z : Zip ValueLabel) × Stands values.old z }
     ensures linked { IsLinked set.now }
+    ensures small { AreSmall set.now }
     ensures same_reference { walk.new.steps.ghost_name ≡ walk.old.steps.ghost_name }
     ensures limit { OnOk result (values.new.most ≡ values.old.most) }
     ensures judged { (z : Zip ValueLabel) → Stands values.old z → MatchResult result
@@ -76,6 +76,7 @@ pub(crate) fn walk_root<L: Ledger>(
     ensures least { OnOk result (walk.old.steps.now + element_count items.now ≤ walk.new.steps.now + 1) }
     ensures later { walk.old.steps.now ≤ walk.new.steps.now }
 {
+    // What each set keeps is known once one of its readers was called.
     let _ = set.element_count();
     let item = items.root();
     check_name(item.label(), &set.element(root).name)?;

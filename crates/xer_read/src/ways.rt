@@ -1,26 +1,23 @@
 //! The way to the last leaf of a content model, and from there to the next.
-ghost use Rattle.std.specs.Prelude.{◌≡◌, [], ◌∷◌, ◌++◌, ◌+◌, ◌-◌, ◌*◌, ◌^◌, ◌<◌, ◌≤◌, ℕ, List, Some, true, false, length, IsTrue, OnOk, MatchOption, MatchResult, IfOk, IfSome};
+ghost use Rattle.std.specs.Prelude.{◌≡◌, [], ◌∷◌, ◌++◌, ◌+◌, ◌-◌, ◌*◌, ◌^◌, ◌<◌, ◌≤◌, List, Some, true, false, length, IsTrue, OnOk, MatchOption, MatchResult, IfOk, IfSome};
 ghost use Rattle.base_trees.specs.Rose.{node_count};
-ghost use Rattle.simple_types.specs.declared.labels.ValueLabel.{ValueLabel};
 ghost use Rattle.content_models.specs.Clear.{IsNoAll};
 ghost use Rattle.content_models.specs.Seen.{seen};
 ghost use Rattle.content_models.specs.Language as language;
 ghost use Rattle.content_models.specs.Language.{names, Lang, Viable};
 ghost use Rattle.content_models.specs.SpotLaws.{IsNamed, may_end};
 ghost use Rattle.content_match.specs.Taking.{levels, Took, TookMore, spot_of};
-ghost use Rattle.base_flat_trees.specs.Zips.{Zip};
 ghost use Rattle.validity_rules.specs.Faults.{At};
 ghost use Rattle.validity_check.specs.Answers.{Tells};
-ghost use Rattle.value_builder.specs.Built.{Stands};
-ghost use Rattle.value_contents.specs.Made.{Child};
-ghost use Rattle.value_contents.specs.Reached.{IsFillable, Put};
-ghost use Rattle.xer_read.specs.Private.Putting.{way_turns, way_kids, LeadsTo, IsWay, Opens};
+ghost use Rattle.value_contents.specs.Reached.{IsFillable};
+ghost use Rattle.xer_read.specs.Private.Putting.{way_turns, way_kids, LeadsTo, IsWay, IsGoing, Opens};
 
+use crate::walk::Spare;
 use base_texts::{Memory, Name, Steps};
 use content_match::{Leaf, Lists, Matcher, Turn};
 use content_models::Particle;
 use std::sync::ledger::Ledger;
-use validity_check::{CheckError, Plans};
+use validity_check::CheckError;
 use validity_rules::InvalidWhy;
 use value_builder::ValueBuilder;
 use value_contents::{Path, put_step};
@@ -36,19 +33,18 @@ pub(crate) struct ModelPath {
 
 impl ModelPath {
     /// Before the first leaf. Where no value is kept the way isn't followed, and has no lists.
-    pub(crate) fn start(plans: &mut Plans, values: &ValueBuilder) -> ModelPath
-        ensures plans { plans.new ≡ plans.old }
-        ensures begun { result.begun ≡ false }
+    pub(crate) fn start(spare: &mut Spare, values: &ValueBuilder) -> ModelPath
+        ensures { result.begun ≡ false }
     {
         if values.keeps_nothing() {
-            let lists = Lists::new(plans.alloc());
+            let lists = Lists::new(spare.alloc());
             return ModelPath {
                 begun: false,
                 turns: lists.turns,
                 kids: lists.kids,
             };
         }
-        let lists = plans.lists();
+        let lists = spare.lists();
         ModelPath {
             begun: false,
             turns: lists.turns,
@@ -57,13 +53,11 @@ impl ModelPath {
     }
 
     /// Ends the way, and keeps its lists for another.
-    pub(crate) fn end(self, plans: &mut Plans, values: &ValueBuilder)
-        ensures { plans.new ≡ plans.old }
-    {
+    pub(crate) fn end(self, spare: &mut Spare, values: &ValueBuilder) {
         if values.keeps_nothing() {
             return;
         }
-        plans.give_back(Lists {
+        spare.give_back(Lists {
             turns: self.turns,
             kids: self.kids,
         });
@@ -157,11 +151,7 @@ pub(crate) fn open_way<L: Ledger>(
 ) -> Result<Option<Leaf>, Memory>
     requires fillable { IsFillable (seen model.now) }
     requires few { node_count model.now < 2 ^ 31 }
-    requires particle { going.old.matcher.particle ≡ seen model.now }
-    requires taken { going.old.matcher.taken < 2 ^ 32 - 1 }
-    requires took { (us : List language.Leaf) × Took going.old.matcher us }
-    requires way { IsWay going.old.way going.old.matcher values.old.most }
-    requires put { (gs : List Child) × (z : Zip ValueLabel) × (now : Zip ValueLabel) × Put (seen model.now) (spot_of going.old.matcher) gs z now × Stands values.old now }
+    requires going { IsGoing (seen model.now) going.old values.old }
     ensures ticks { steps.new ≤ steps.old + (4 * levels going.old.matcher.particle + 4) }
     ensures least { IfOk result (λ found. IfSome found (λ _. steps.old + 1 ≤ steps.new)) }
     ensures later { steps.old ≤ steps.new }

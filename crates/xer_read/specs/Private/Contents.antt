@@ -32,7 +32,6 @@ use Rattle.schema_components.specs.SetParts.{parts_of}
 use Rattle.validity_rules.specs.Asked.{Asked, Attribute, Inside, nothing, simple, children, asked, attribute_in, asked_at}
 use Rattle.validity_rules.specs.Attributes.{text_of, left, IsFixedTo, Takes, treated_attribute}
 use Rattle.validity_rules.specs.Valid.{only_text, text_kids, KidsValid}
-use Rattle.validity_check.specs.Told.{model_at}
 use Rattle.value_builder.specs.Built.{Built, Stands, Puts, with_parts}
 use Rattle.value_contents.specs.Made.{Child, TopMade}
 use Rattle.xer_read.specs.Private.Held.{Beside, Held, texts_of}
@@ -213,10 +212,10 @@ pub record IsPlainType (s : Set) (d : ℕ) (space : Space) : Type 0 where
   pub plain : is_plain_at s d ≡ true
   pub sound : Sound space
 
--- the elements of the declaration have child elements alone, by this content model of a complex type, in its order
-pub record IsPlainModel (s : Set) (d complex : ℕ) (model : Rose ParticleLabel) : Type 0 where
+-- the elements of the declaration have child elements alone, by this content model with this plan, in its order
+pub record IsPlainModel (s : Set) (d : ℕ) (model : Rose ParticleLabel) (plan : Particle) : Type 0 where
   pub asked_is : asked_at (parts_of s) d ≡ asked false [] (children false (seen model))
-  pub there : model_at s complex ≡ Some model
+  pub plan_is : plan ≡ seen model
   pub is_model : IsModel s model
   pub no_all : IsNoAll (seen model)
 

@@ -41,5 +41,5 @@ returns-clause-put c = λ z stands.
     let a = told (parts_of c.args.element.now.set.now) c.args.element.now.declared in
     let ts = roses_of c.args.element.now.parent.kids in
     let begins = subst (λ ns. Begins a c.args.element.now.attributes.now (strings_put false ts) ns c.args.values.now c.begin_complex.new.values) c.numbers-numbers.ensures c.in_ok-begin_complex.ensures in
-    ordered-put c.args.element.now.set.now a c.args.element.now.declared.inside refl c.args.element.now.attributes.now ts z c.args.values.now c.begin_complex.new.values c.put_gathered.new.values c.close.new.self c.requires.opened.sound c.args.gathered
+    ordered-put c.args.element.now.set.now a c.args.element.now.declared.inside refl c.args.element.now.attributes.now ts z c.args.values.now c.begin_complex.new.values c.put_gathered.new.values c.close.new.self c.requires.opened.items.sound c.args.gathered
     c.requires.most c.requires.gathered begins stands c.in_ok-put_gathered.ensures c.close.ensures

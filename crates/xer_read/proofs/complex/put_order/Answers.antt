@@ -20,7 +20,7 @@ pub returns-in_ok-part-in-Some : goal.returns-in_ok-part-in-Some
 returns-in_ok-part-in-Some c =
     let numbers = c.args.numbers.now in
     let b = in_any_order (inside_told c.args.inside) in
-    let is = has-order c.args.inside c.in-Some.field-0.mixed c.in-Some.field-0.complex c.in-Some.field-0.model c.in-Some.ensures.0 c.in-Some.ensures.1 in
+    let is = has-order c.args.inside c.in-Some.field-0.mixed c.in-Some.field-0.model c.in-Some.field-0.plan c.in-Some.ensures.0 c.in-Some.ensures.1 in
     on-ok c.put_numbers.result (Puts (added (order_value numbers)) c.part.new.self c.put_numbers.new.values) (PartsPut (OrderMade b numbers) c.args.values.now c.put_numbers.new.values)
     (λ put. one-part (OrderMade b numbers) (order_value numbers) c.args.values.now c.part.new.self c.put_numbers.new.values c.in_ok-part-in-Some.ensures put
     (subst (λ x. OrderMade x numbers (true ∷ []) (order_value numbers ∷ [])) (sym is) (refl, refl)))

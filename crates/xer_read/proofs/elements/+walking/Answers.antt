@@ -1,5 +1,5 @@
-use Rattle.std.proofs.Common.{◌≡◌, ◌+◌, ◌≤◌, ◌++◌, [], ◌∷◌, true, false, cond, refl, sym, ◌∙◌, ap, subst, arith, add-one, length}
-use Rattle.std.specs.Prelude.{All, Some, None, slice_get}
+use Rattle.std.proofs.Common.{◌≡◌, ℕ, List, ◌<◌, ◌+◌, ◌≤◌, ◌++◌, [], ◌∷◌, true, false, cond, refl, sym, ◌∙◌, ap, subst, arith, add-one, length}
+use Rattle.std.specs.Prelude.{All, Some, None, slice_get, slice_index_or}
 use Rattle.std.proofs.lemmas.Result.{err_from_is_err_and}
 use Rattle.base_trees.specs.Rose.{Rose, roses_of, kids_of, none, count_all}
 use Rattle.base_flat_trees.specs.Zips.{opened, added}
@@ -7,8 +7,9 @@ use Rattle.base_flat_trees.proofs.Cursors as cursor
 use Rattle.simple_types.specs.declared.labels.ValueLabel.{ValueLabel}
 use Rattle.simple_types.specs.declared.labels.ValueLabel.TheVariants as value
 use Rattle.simple_types.specs.Seen.{space_of}
+use Rattle.xml_items.specs.declared.label.ItemLabel.{ItemLabel}
 use Rattle.xml_items.specs.Seen.{item_seen}
-use Rattle.xml_read.specs.Sound.{is_text, are_sound}
+use Rattle.xml_read.specs.Sound.{is_text}
 use Rattle.content_models.specs.Seen.{seen}
 use Rattle.content_models.specs.Clear.{IsNoAll}
 use Rattle.content_models.specs.Occurring.{MayOccur}
@@ -37,6 +38,7 @@ use Rattle.value_builder.specs.Built.{nothing_of, Puts, flagged, with_parts}
 use Rattle.value_contents.specs.Reached.{Put}
 use Rattle.xer_read.specs.Private.Given.{IsReadAs}
 use Rattle.xer_read.specs.Private.Keeping.{strings_put, Reached, Gathers}
+use Rattle.xer_read.specs.Private.Opened.{IsItem, AreItems}
 use Rattle.xer_read.specs.Private.Slots.{no_slots, filled_at, Keeps}
 use Rattle.xer_read.specs.Private.Contents.{HasNoAll, IsNilFilled, KidsGathered, IsGathered}
 use Rattle.xer_read.proofs.Leading.{clear-rule1}
@@ -49,13 +51,31 @@ use Rattle.xer_read.proofs.Alone.{alone, begins-alone, alone-read}
 use Rattle.xer_read.proofs.Whole.{children-inside, inner-children, begun_at, complex-put, nothing-judged, children-judged, complex-judged, plain-judged, plain-read, nil-read, filled-read}
 use Rattle.xer_read.proofs.elements.+walking.Goals as goal
 
+-- ---- items
+
+-- the children of an item
+kids-items : (t : Rose ItemLabel) → IsItem t → (kids : List (Rose ItemLabel)) → kids ≡ kids_of t → AreItems (roses_of kids)
+kids-items t h kids e =
+    let k = count-kids t in
+    let few = h.few in
+    subst (λ ks. AreItems (roses_of ks)) (sym e) (record { sound = kids_sound t h.sound; few = omega (arith, k, few) })
+
+-- one of some children
+kid-item : (kids : List (Rose ItemLabel)) → AreItems (roses_of kids) → (i : ℕ) (kid : Rose ItemLabel) → i < length kids → kid ≡ slice_index_or kids i kid → IsItem kid
+kid-item kids h i kid below read =
+    let k = kid_count kids i kid below read in
+    let few = h.few in
+    record { sound = kid_sound (roses_of kids) i kid h.sound (kid_here kids i kid below read); few = omega (arith, k, few) }
+
 -- ---- one kid
 
 pub walk_kid-open_way-requires-clause-fillable : goal.walk_kid-open_way-requires-clause-fillable
-walk_kid-open_way-requires-clause-fillable g t c = (c.requires.model.occurring, clear-rule1 (seen c.args.content.now.model.now) [] c.requires.model.clear c.requires.no_all)
+walk_kid-open_way-requires-clause-fillable g t c = (c.requires.content.model.occurring, clear-rule1 (seen c.args.content.now.model.now) [] c.requires.content.model.clear c.requires.content.no_all)
 
-pub walk_kid-open_way-requires-clause-put : goal.walk_kid-open_way-requires-clause-put
-walk_kid-open_way-requires-clause-put g t c = let (kids, i, z, r) = c.requires.reached in (r.gs, z, r.all, r.put, r.stands)
+pub walk_kid-open_way-requires-clause-going : goal.walk_kid-open_way-requires-clause-going
+walk_kid-open_way-requires-clause-going g t c =
+    let (kids, i, z, r) = c.requires.reached in
+    record { particle = r.particle; taken = c.requires.taken; us = r.us; took = r.took; way = c.requires.way; gs = r.gs; before = z; all = r.all; put = r.put; stands = r.stands }
 
 pub walk_kid-returns-in-Text-clause-judged : goal.walk_kid-returns-in-Text-clause-judged
 walk_kid-returns-in-Text-clause-judged g t c = λ kids place i z below here r.
@@ -75,7 +95,7 @@ walk_kid-returns-in_default-clause-most g t c =
     let (kids, i, z, r) = c.requires.reached in
     let n = element_counts c.args.kid.now c.in-Element.name.now c.in-Element.attributes.now c.in-Element.declares.now c.in-Element.at (sym c.label.ensures ∙ ap item_seen c.in-Element.is) in
     let s = c.in_ok-leaf-in-Element.ensures.ticks in
-    let l : levels c.args.going.now.matcher.particle ≤ 17 = subst (λ q. levels q ≤ 17) (sym r.particle) (model_levels c.args.content.now.set.now c.args.content.now.model.now c.requires.model) in
+    let l : levels c.args.going.now.matcher.particle ≤ 17 = subst (λ q. levels q ≤ 17) (sym r.particle) (model_levels c.args.content.now.set.now c.args.content.now.model.now c.requires.content.model) in
     omega (arith, n, s, l)
 
 pub walk_kid-returns-in_err-leaf-in-Element-clause-most : goal.walk_kid-returns-in_err-leaf-in-Element-clause-most
@@ -83,7 +103,7 @@ walk_kid-returns-in_err-leaf-in-Element-clause-most g t c =
     let (kids, i, z, r) = c.requires.reached in
     let n = element_counts c.args.kid.now c.in-Element.name.now c.in-Element.attributes.now c.in-Element.declares.now c.in-Element.at (sym c.label.ensures ∙ ap item_seen c.in-Element.is) in
     let s = c.in_err-leaf-in-Element.ensures.ticks in
-    let l : levels c.args.going.now.matcher.particle ≤ 17 = subst (λ q. levels q ≤ 17) (sym r.particle) (model_levels c.args.content.now.set.now c.args.content.now.model.now c.requires.model) in
+    let l : levels c.args.going.now.matcher.particle ≤ 17 = subst (λ q. levels q ≤ 17) (sym r.particle) (model_levels c.args.content.now.set.now c.args.content.now.model.now c.requires.content.model) in
     omega (arith, n, s, l)
 
 -- where the element has nothing but a text
@@ -93,7 +113,7 @@ walk_kid-plain_text-requires-clause-decl g t c =
     let (kids, i, z, r) = c.requires.reached in
     let e = c.in_ok-leaf-in-Element.ensures in
     leaf_declared c.args.content.now.set.now c.args.going.now.matcher c.open_way.new.going.matcher r.us c.in-Element.name.now c.in-Some.leaf e.particle (rw c.in-Some.is at e.took r.us r.took)
-    (names_declared c.args.content.now.set.now c.args.going.now.matcher.particle (subst (λ q. All (IsNamed c.args.content.now.set.now) (leaves q)) (sym r.particle) c.requires.model.named))
+    (names_declared c.args.content.now.set.now c.args.going.now.matcher.particle (subst (λ q. All (IsNamed c.args.content.now.set.now) (leaves q)) (sym r.particle) c.requires.content.model.named))
 
 pub walk_kid-put_words-requires : goal.walk_kid-put_words-requires
 walk_kid-put_words-requires g t c = record { simple = c.in-Some-plain_text.ensures.1.sound }
@@ -106,9 +126,9 @@ walk_kid-returns-in-Some-plain_text-clause-judged g t c = λ kids place i z belo
     let is = sym c.label.ensures ∙ ap item_seen c.in-Element.is in
     kid-judged c.args.content.now.set.now c.args.content.now.mixed (seen c.args.content.now.model.now) kids place i c.args.going.now.matcher z c.args.values.now r c.args.kid.now below here
     c.in-Element.name.now c.in-Element.attributes.now c.in-Element.declares.now c.in-Element.at is c.open_way.new.going.matcher c.in-Some.leaf e.particle (rw c.in-Some.is at e.took r.us r.took)
-    (subst (λ q. All (IsNamed c.args.content.now.set.now) (leaves q)) (sym r.particle) c.requires.model.named) c.open_way.new.values c.put_words.new.values way c.put_words.result
-    (plain-read c.args.content.now.set.now c.requires.linked c.in-Some.leaf.decl (space_of c.in-Some-plain_text.simple.now) plain.1 c.in-Element.name.now c.in-Element.attributes.now c.in-Element.declares.now c.in-Element.at
-    c.args.kid.now is c.requires.sound plain.0 c.in-Some-plain_text.text plain.2 c.open_way.new.values c.put_words.new.values way.way way.stands c.put_words.result c.put_words.ensures)
+    (subst (λ q. All (IsNamed c.args.content.now.set.now) (leaves q)) (sym r.particle) c.requires.content.model.named) c.open_way.new.values c.put_words.new.values way c.put_words.result
+    (plain-read c.args.content.now.set.now c.requires.content.linked c.in-Some.leaf.decl (space_of c.in-Some-plain_text.simple.now) plain.1 c.in-Element.name.now c.in-Element.attributes.now c.in-Element.declares.now c.in-Element.at
+    c.args.kid.now is c.requires.kid.sound plain.0 c.in-Some-plain_text.text plain.2 c.open_way.new.values c.put_words.new.values way.way way.stands c.put_words.result c.put_words.ensures)
 
 pub walk_kid-returns-in-Some-plain_text-clause-limit : goal.walk_kid-returns-in-Some-plain_text-clause-limit
 walk_kid-returns-in-Some-plain_text-clause-limit g t c =
@@ -122,7 +142,7 @@ walk_kid-returns-in-Some-plain_text-clause-most g t c =
     let (kids, i, z, r) = c.requires.reached in
     let n = element_counts c.args.kid.now c.in-Element.name.now c.in-Element.attributes.now c.in-Element.declares.now c.in-Element.at (sym c.label.ensures ∙ ap item_seen c.in-Element.is) in
     let s = c.in_ok-leaf-in-Element.ensures.ticks in
-    let l : levels c.args.going.now.matcher.particle ≤ 17 = subst (λ q. levels q ≤ 17) (sym r.particle) (model_levels c.args.content.now.set.now c.args.content.now.model.now c.requires.model) in
+    let l : levels c.args.going.now.matcher.particle ≤ 17 = subst (λ q. levels q ≤ 17) (sym r.particle) (model_levels c.args.content.now.set.now c.args.content.now.model.now c.requires.content.model) in
     omega (arith, n, s, l)
 
 pub walk_kid-returns-in-Some-plain_text-clause-least : goal.walk_kid-returns-in-Some-plain_text-clause-least
@@ -142,7 +162,7 @@ walk_kid-plain_model-requires-clause-decl g t c =
     let (kids, i, z, r) = c.requires.reached in
     let e = c.in_ok-leaf-in-Element.ensures in
     leaf_declared c.args.content.now.set.now c.args.going.now.matcher c.open_way.new.going.matcher r.us c.in-Element.name.now c.in-Some.leaf e.particle (rw c.in-Some.is at e.took r.us r.took)
-    (names_declared c.args.content.now.set.now c.args.going.now.matcher.particle (subst (λ q. All (IsNamed c.args.content.now.set.now) (leaves q)) (sym r.particle) c.requires.model.named))
+    (names_declared c.args.content.now.set.now c.args.going.now.matcher.particle (subst (λ q. All (IsNamed c.args.content.now.set.now) (leaves q)) (sym r.particle) c.requires.content.model.named))
 
 pub walk_kid-walk_plain-requires : goal.walk_kid-walk_plain-requires
 walk_kid-walk_plain-requires g t c κs within =
@@ -153,28 +173,7 @@ walk_kid-walk_plain-requires g t c κs within =
     let plain = c.in-Some-plain_model.ensures.1 in
     let k = count-kids c.args.kid.now in
     let same = ap (λ ks. count_all (roses_of ks)) c.kids.ensures in
-    let few = c.requires.few in (
-      omega (arith, d, k, same),
-      (
-        within,
-        (
-          c.requires.linked,
-          (
-            c.requires.plans,
-            (
-              plain.there,
-              (
-                plain.is_model,
-                (
-                  plain.no_all,
-                  (subst (λ ks. are_sound (roses_of ks) ≡ true) (sym c.kids.ensures) (kids_sound c.args.kid.now c.requires.sound), (omega (arith, k, same, few), (way.way, way.stands))),
-                ),
-              ),
-            ),
-          ),
-        ),
-      ),
-    )
+    (omega (arith, d, k, same), (within, (c.requires.content.linked, (plain.is_model, (plain.plan_is, (plain.no_all, (kids-items c.args.kid.now c.requires.kid c.kids.result c.kids.ensures, (way.way, way.stands))))))))
 
 pub walk_kid-returns-in-Some-plain_model-clause-judged : goal.walk_kid-returns-in-Some-plain_model-clause-judged
 walk_kid-returns-in-Some-plain_model-clause-judged g t c = λ kids place i z below here r.
@@ -185,9 +184,9 @@ walk_kid-returns-in-Some-plain_model-clause-judged g t c = λ kids place i z bel
     let is = sym c.label.ensures ∙ ap item_seen c.in-Element.is in
     kid-judged c.args.content.now.set.now c.args.content.now.mixed (seen c.args.content.now.model.now) kids place i c.args.going.now.matcher z c.args.values.now r c.args.kid.now below here
     c.in-Element.name.now c.in-Element.attributes.now c.in-Element.declares.now c.in-Element.at is c.open_way.new.going.matcher c.in-Some.leaf e.particle (rw c.in-Some.is at e.took r.us r.took)
-    (subst (λ q. All (IsNamed c.args.content.now.set.now) (leaves q)) (sym r.particle) c.requires.model.named) c.open_way.new.values c.walk_plain.new.values way c.walk_plain.result
-    (alone-read c.args.content.now.set.now c.requires.linked c.in-Some.leaf.decl inside.complex inside.model.now plain.1 c.in-Element.name.now c.in-Element.attributes.now c.in-Element.declares.now c.in-Element.at
-    c.args.kid.now is c.requires.sound plain.0 c.kids.result c.kids.ensures c.walk_plain.new.values way.way c.walk_plain.result (c.walk_plain.ensures.judged way.way way.stands))
+    (subst (λ q. All (IsNamed c.args.content.now.set.now) (leaves q)) (sym r.particle) c.requires.content.model.named) c.open_way.new.values c.walk_plain.new.values way c.walk_plain.result
+    (alone-read c.args.content.now.set.now c.requires.content.linked c.in-Some.leaf.decl inside.model.now inside.plan.now plain.1 c.in-Element.name.now c.in-Element.attributes.now c.in-Element.declares.now c.in-Element.at
+    c.args.kid.now is c.requires.kid.sound plain.0 c.kids.result c.kids.ensures c.walk_plain.new.values way.way c.walk_plain.result (c.walk_plain.ensures.judged way.way way.stands))
 
 pub walk_kid-returns-in-Some-plain_model-clause-most : goal.walk_kid-returns-in-Some-plain_model-clause-most
 walk_kid-returns-in-Some-plain_model-clause-most g t c =
@@ -196,7 +195,7 @@ walk_kid-returns-in-Some-plain_model-clause-most g t c =
     let same = ap (λ ks. elements_in (roses_of ks)) c.kids.ensures in
     let s = c.in_ok-leaf-in-Element.ensures.ticks in
     let m = c.walk_plain.ensures.most in
-    let l : levels c.args.going.now.matcher.particle ≤ 17 = subst (λ q. levels q ≤ 17) (sym r.particle) (model_levels c.args.content.now.set.now c.args.content.now.model.now c.requires.model) in
+    let l : levels c.args.going.now.matcher.particle ≤ 17 = subst (λ q. levels q ≤ 17) (sym r.particle) (model_levels c.args.content.now.set.now c.args.content.now.model.now c.requires.content.model) in
     omega (arith, n, same, s, m, l)
 
 pub walk_kid-returns-in-Some-plain_model-clause-least : goal.walk_kid-returns-in-Some-plain_model-clause-least
@@ -214,23 +213,11 @@ walk_kid-walk_element-requires g t c κs within =
     let d = c.decreases in
     let (kids, i, z, r) = c.requires.reached in
     let e = c.in_ok-leaf-in-Element.ensures in
-    let way = (rw c.in-Some.is at e.opens) r.gs z r.all r.put r.stands in (
-      omega (arith, d),
-      (
-        within,
-        (
-          c.requires.linked,
-          (
-            c.requires.plans,
-            (
-              leaf_declared c.args.content.now.set.now c.args.going.now.matcher c.open_way.new.going.matcher r.us c.in-Element.name.now c.in-Some.leaf e.particle (rw c.in-Some.is at e.took r.us r.took)
-                  (names_declared c.args.content.now.set.now c.args.going.now.matcher.particle (subst (λ q. All (IsNamed c.args.content.now.set.now) (leaves q)) (sym r.particle) c.requires.model.named)),
-              (ap is_text (sym c.label.ensures ∙ ap item_seen c.in-Element.is), (c.requires.sound, (c.requires.few, (way.way, way.stands)))),
-            ),
-          ),
-        ),
-      ),
-    )
+    let way = (rw c.in-Some.is at e.opens) r.gs z r.all r.put r.stands in
+    let declared =
+    leaf_declared c.args.content.now.set.now c.args.going.now.matcher c.open_way.new.going.matcher r.us c.in-Element.name.now c.in-Some.leaf e.particle (rw c.in-Some.is at e.took r.us r.took)
+    (names_declared c.args.content.now.set.now c.args.going.now.matcher.particle (subst (λ q. All (IsNamed c.args.content.now.set.now) (leaves q)) (sym r.particle) c.requires.content.model.named)) in
+    (omega (arith, d), (within, (c.requires.content.linked, (declared, (ap is_text (sym c.label.ensures ∙ ap item_seen c.in-Element.is), (c.requires.kid, (way.way, way.stands)))))))
 
 pub walk_kid-returns-in-None-plain_model-clause-judged : goal.walk_kid-returns-in-None-plain_model-clause-judged
 walk_kid-returns-in-None-plain_model-clause-judged g t c = λ kids place i z below here r.
@@ -238,7 +225,7 @@ walk_kid-returns-in-None-plain_model-clause-judged g t c = λ kids place i z bel
     let way = (rw c.in-Some.is at e.opens) r.gs z r.all r.put r.stands in
     kid-judged c.args.content.now.set.now c.args.content.now.mixed (seen c.args.content.now.model.now) kids place i c.args.going.now.matcher z c.args.values.now r c.args.kid.now below here
     c.in-Element.name.now c.in-Element.attributes.now c.in-Element.declares.now c.in-Element.at (sym c.label.ensures ∙ ap item_seen c.in-Element.is) c.open_way.new.going.matcher c.in-Some.leaf e.particle (rw c.in-Some.is at e.took r.us r.took)
-    (subst (λ q. All (IsNamed c.args.content.now.set.now) (leaves q)) (sym r.particle) c.requires.model.named) c.open_way.new.values c.walk_element.new.values way c.walk_element.result
+    (subst (λ q. All (IsNamed c.args.content.now.set.now) (leaves q)) (sym r.particle) c.requires.content.model.named) c.open_way.new.values c.walk_element.new.values way c.walk_element.result
     (c.walk_element.ensures.judged way.way way.stands)
 
 pub walk_kid-returns-in-None-plain_model-clause-most : goal.walk_kid-returns-in-None-plain_model-clause-most
@@ -246,13 +233,13 @@ walk_kid-returns-in-None-plain_model-clause-most g t c =
     let (kids, i, z, r) = c.requires.reached in
     let s = c.in_ok-leaf-in-Element.ensures.ticks in
     let m = c.walk_element.ensures.most in
-    let l : levels c.args.going.now.matcher.particle ≤ 17 = subst (λ q. levels q ≤ 17) (sym r.particle) (model_levels c.args.content.now.set.now c.args.content.now.model.now c.requires.model) in
+    let l : levels c.args.going.now.matcher.particle ≤ 17 = subst (λ q. levels q ≤ 17) (sym r.particle) (model_levels c.args.content.now.set.now c.args.content.now.model.now c.requires.content.model) in
     omega (arith, s, m, l)
 
 -- ---- all kids
 
 pub walk_kids-begin-requires-clause-no_all : goal.walk_kids-begin-requires-clause-no_all
-walk_kids-begin-requires-clause-no_all g t c = subst IsNoAll (sym c.requires.plan) c.requires.no_all
+walk_kids-begin-requires-clause-no_all g t c = subst IsNoAll (sym c.requires.content.plan) c.requires.content.no_all
 
 pub walk_kids-loop-kid-init : goal.walk_kids-loop-kid-init
 walk_kids-loop-kid-init g t c =
@@ -262,12 +249,11 @@ walk_kids-loop-kid-init g t c =
     record {
       all = cc (c.into_iter-kid-iterator.ensures.into_iter_gives, c.again-kid-items.ensures);
       same_reference = refl;
-      plans = c.start.ensures.plans ∙ c.lists-lists.ensures ∙ c.requires.plans;
-      way = λ _. ap (λ b. spot_now (cond b way.turns.items []) (cond b way.kids.items [])) c.start.ensures.begun ∙ ap (λ ts. spot_now ts k.kids) (sym took.turns)
-          ∙ sym (spot_matched k (subst IsNoAll (sym (c.begin.ensures.plan ∙ c.requires.plan)) c.requires.no_all));
+      way = λ _. ap (λ b. spot_now (cond b way.turns.items []) (cond b way.kids.items [])) c.start.ensures ∙ ap (λ ts. spot_now ts k.kids) (sym took.turns)
+          ∙ sym (spot_matched k (subst IsNoAll (sym (c.begin.ensures.plan ∙ c.requires.content.plan)) c.requires.content.no_all));
       limit = refl;
       reached = λ z stands.
-          none-reached c.args.content.now.set.now c.args.content.now.mixed (seen c.args.content.now.model.now) c.args.parent.now.kids k z c.args.values.now (c.begin.ensures.plan ∙ c.requires.plan) took stands;
+          none-reached c.args.content.now.set.now c.args.content.now.mixed (seen c.args.content.now.model.now) c.args.parent.now.kids k z c.args.values.now (c.begin.ensures.plan ∙ c.requires.content.plan) took stands;
       most = omega arith;
       least = omega arith;
     }
@@ -286,33 +272,10 @@ walk_kids-walk_kid-requires g t c κs within =
     let read = cursor.kid_read kids before c.loop-kid.kid-iterator all kid c.next.new.self next in
     let k = kid_count kids i kid below read in
     let long = at_least_length kids in
-    let few = c.requires.few in
+    let few = c.requires.items.few in
     let count = w.took.count in
-    let taken = w.few in (
-      omega (arith, d, k),
-      (
-        within,
-        (
-          c.requires.linked,
-          (
-            c.loop-kid.invariant.plans,
-            (
-              c.requires.model,
-              (
-                c.requires.no_all,
-                (
-                  (λ some. c.loop-kid.invariant.way (subst (λ m. 1 ≤ m) c.loop-kid.invariant.limit some)),
-                  (
-                    omega (arith, below, long, few, count, taken),
-                    ((kids, i, c.requires.stands.0, w), (kid_sound (roses_of kids) i kid c.requires.sound (kid_here kids i kid below read), omega (arith, k, few))),
-                  ),
-                ),
-              ),
-            ),
-          ),
-        ),
-      ),
-    )
+    let taken = w.few in
+    (omega (arith, d, k), (within, (c.requires.content, ((λ some. c.loop-kid.invariant.way (subst (λ m. 1 ≤ m) c.loop-kid.invariant.limit some)), (omega (arith, below, long, few, count, taken), ((kids, i, c.requires.stands.0, w), kid-item kids c.requires.items i kid below read))))))
 
 pub walk_kids-loop-kid-preserved : goal.walk_kids-loop-kid-preserved
 walk_kids-loop-kid-preserved g t c =
@@ -335,7 +298,6 @@ walk_kids-loop-kid-preserved g t c =
     record {
       all = cursor.all_after kids before left all kid later next;
       same_reference = c.in_ok-walk_kid.ensures.same_reference ∙ c.loop-kid.invariant.same_reference;
-      plans = c.in_ok-walk_kid.ensures.same;
       way = λ some. c.in_ok-walk_kid.ensures.way (subst (λ m. 1 ≤ m) (sym c.loop-kid.invariant.limit) some);
       limit = c.in_ok-walk_kid.ensures.limit ∙ c.loop-kid.invariant.limit;
       reached = λ z stands.
@@ -388,26 +350,26 @@ walk_kids-returns-in_err-finish-clause-judged g t c = λ z stands.
 pub walk_kids-returns-in_err-finish-clause-most : goal.walk_kids-returns-in_err-finish-clause-most
 walk_kids-returns-in_err-finish-clause-most g t c =
     let r = c.loop-kid.invariant.reached c.requires.stands.0 c.requires.stands.1 in
-    let l : levels c.loop-kid.going.matcher.particle ≤ 17 = subst (λ q. levels q ≤ 17) (sym r.particle) (model_levels c.args.content.now.set.now c.args.content.now.model.now c.requires.model) in
+    let l : levels c.loop-kid.going.matcher.particle ≤ 17 = subst (λ q. levels q ≤ 17) (sym r.particle) (model_levels c.args.content.now.set.now c.args.content.now.model.now c.requires.content.model) in
     let so_far = c.loop-kid.invariant.most in
     let all = fewer (roses_of c.args.parent.now.kids) (length c.loop-kid.yielded) in
     let s = c.in_err-finish.ensures.ticks.1 in
     omega (arith, l, so_far, all, s)
 
 pub walk_kids-put_end-requires-clause-fillable : goal.walk_kids-put_end-requires-clause-fillable
-walk_kids-put_end-requires-clause-fillable g t c = (c.requires.model.occurring, clear-rule1 (seen c.args.content.now.model.now) [] c.requires.model.clear c.requires.no_all)
+walk_kids-put_end-requires-clause-fillable g t c = (c.requires.content.model.occurring, clear-rule1 (seen c.args.content.now.model.now) [] c.requires.content.model.clear c.requires.content.no_all)
 
 pub walk_kids-put_end-requires-clause-ends : goal.walk_kids-put_end-requires-clause-ends
 walk_kids-put_end-requires-clause-ends g t c =
     let r = c.loop-kid.invariant.reached c.requires.stands.0 c.requires.stands.1 in
     whole.ends-at (seen c.args.content.now.model.now) c.loop-kid.going.matcher.particle (spot_now c.turns.result.now c.kids.result.now) (spot_of c.loop-kid.going.matcher) r.particle
     (ap (λ ts. spot_now ts c.kids.result.now) c.turns.ensures ∙ ap (λ ks. spot_now c.loop-kid.going.matcher.turns ks) c.kids.ensures
-    ∙ sym (spot_matched c.loop-kid.going.matcher (subst IsNoAll (sym r.particle) c.requires.no_all))) c.in_ok-finish.ensures.ends
+    ∙ sym (spot_matched c.loop-kid.going.matcher (subst IsNoAll (sym r.particle) c.requires.content.no_all))) c.in_ok-finish.ensures.ends
 
 pub walk_kids-returns-in_err-put_end-clause-most : goal.walk_kids-returns-in_err-put_end-clause-most
 walk_kids-returns-in_err-put_end-clause-most g t c =
     let r = c.loop-kid.invariant.reached c.requires.stands.0 c.requires.stands.1 in
-    let l : levels c.loop-kid.going.matcher.particle ≤ 17 = subst (λ q. levels q ≤ 17) (sym r.particle) (model_levels c.args.content.now.set.now c.args.content.now.model.now c.requires.model) in
+    let l : levels c.loop-kid.going.matcher.particle ≤ 17 = subst (λ q. levels q ≤ 17) (sym r.particle) (model_levels c.args.content.now.set.now c.args.content.now.model.now c.requires.content.model) in
     let so_far = c.loop-kid.invariant.most in
     let all = fewer (roses_of c.args.parent.now.kids) (length c.loop-kid.yielded) in
     let s = c.in_ok-finish.ensures.ticks.1 in
@@ -421,14 +383,14 @@ walk_kids-returns-clause-judged g t c = λ z stands.
     let past = whole.all-before kids before c.loop-kid.kid-iterator c.loop-kid.invariant.all c.in-None.ensures.steps.0 in
     let way : spot_now c.turns.result.now c.kids.result.now ≡ spot_of c.loop-kid.going.matcher =
     ap (λ ts. spot_now ts c.kids.result.now) c.turns.ensures ∙ ap (λ ks. spot_now c.loop-kid.going.matcher.turns ks) c.kids.ensures
-    ∙ sym (spot_matched c.loop-kid.going.matcher (subst IsNoAll (sym r.particle) c.requires.no_all)) in
+    ∙ sym (spot_matched c.loop-kid.going.matcher (subst IsNoAll (sym r.particle) c.requires.content.no_all)) in
     let (flags, values, made, now) = c.in_ok-put_end.ensures.made r.gs z r.all (subst (λ o. Put (seen c.args.content.now.model.now) o r.gs z r.all) (sym way) r.put) r.stands in
     end-put c.args.content.now.set.now c.args.content.now.mixed (seen c.args.content.now.model.now) kids c.args.parent.now.at (length before) c.loop-kid.going.matcher z c.loop-kid.values r past (c.in_ok-finish.ensures.finished r.us r.took) flags values made c.put_end.new.values now
 
 pub walk_kids-returns-clause-most : goal.walk_kids-returns-clause-most
 walk_kids-returns-clause-most g t c =
     let r = c.loop-kid.invariant.reached c.requires.stands.0 c.requires.stands.1 in
-    let l : levels c.loop-kid.going.matcher.particle ≤ 17 = subst (λ q. levels q ≤ 17) (sym r.particle) (model_levels c.args.content.now.set.now c.args.content.now.model.now c.requires.model) in
+    let l : levels c.loop-kid.going.matcher.particle ≤ 17 = subst (λ q. levels q ≤ 17) (sym r.particle) (model_levels c.args.content.now.set.now c.args.content.now.model.now c.requires.content.model) in
     let so_far = c.loop-kid.invariant.most in
     let all = fewer (roses_of c.args.parent.now.kids) (length c.loop-kid.yielded) in
     let s = c.in_ok-finish.ensures.ticks.1 in
@@ -461,7 +423,7 @@ walk_plain-returns-clause-judged g t c = λ z stands.
     let begins = begins-alone (seen model) c.requires.no_all (strings_put false ts) old mid (subst (λ l. Puts (opened l) old mid) c.no_components.ensures c.in_ok-open.ensures) in
     let before = begun_at a [] (strings_put false ts) [] old mid begins z in
     complex-put set a [] ts z old mid now c.close.new.self begins
-    (children-inside set false false model ts before now c.requires.sound c.requires.model.named c.requires.no_all (c.in_ok-walk_kids.ensures.judged before (begins.puts.stands z stands))) c.close.ensures
+    (children-inside set false false model ts before now c.requires.items.sound c.requires.model.named c.requires.no_all (c.in_ok-walk_kids.ensures.judged before (begins.puts.stands z stands))) c.close.ensures
 
 -- ---- what stands in an element
 
@@ -494,9 +456,9 @@ walk_inside-returns-then-not-nillable-clause-judged g t c = λ z stands.
     let ts = roses_of c.args.element.now.parent.kids in
     let model = c.in-Children.model.now in
     let fits = subst (λ x. IsFittingInside s x) c.in-Children.is c.requires.opened.inside in
-    let F = Tells (InsideFault (asked_at (parts_of s)) (inside_told (Children c.in-Children.mixed c.in-Children.complex c.in-Children.model)) ts c.args.element.now.parent.at) in
+    let F = Tells (InsideFault (asked_at (parts_of s)) (inside_told (Children c.in-Children.mixed c.in-Children.model c.in-Children.plan)) ts c.args.element.now.parent.at) in
     rw (c.in-Children.is, c.if-not-nillable.true)
-    (children-judged s false c.in-Children.mixed model ts z c.walk_kids.new.values F c.requires.opened.sound fits.1.named (subst (λ x. HasNoAll (inside_told x)) c.in-Children.is c.requires.no_all)
+    (children-judged s false c.in-Children.mixed model ts z c.walk_kids.new.values F c.requires.opened.items.sound fits.0.named (subst (λ x. HasNoAll (inside_told x)) c.in-Children.is c.requires.no_all)
     c.walk_kids.result (c.walk_kids.ensures.judged z stands))
 
 -- where it can be nil
@@ -514,41 +476,28 @@ walk_inside-returns-in_ok-walk_kids-in-Children-clause-judged g t c = λ z stand
     let inner = opened (value.Sequence []) (flagged true z) in
     let fits = subst (λ x. IsFittingInside s x) c.in-Children.is c.requires.opened.inside in
     rw (c.in-Children.is, c.if-not-nillable.false)
-    (children-inside s true c.in-Children.mixed model ts z c.close.new.self c.requires.opened.sound fits.1.named (subst (λ x. HasNoAll (inside_told x)) c.in-Children.is c.requires.no_all)
+    (children-inside s true c.in-Children.mixed model ts z c.close.new.self c.requires.opened.items.sound fits.0.named (subst (λ x. HasNoAll (inside_told x)) c.in-Children.is c.requires.no_all)
     (inner-children s c.in-Children.mixed (seen model) ts z c.args.values.now c.begin_part.new.values c.walk_kids-in-Children.new.values c.close.new.self c.in_ok-begin_part-in-Children.ensures stands
     (c.in_ok-walk_kids-in-Children.ensures.judged inner (c.in_ok-begin_part-in-Children.ensures.stands z stands)) c.close.ensures))
 
 -- ---- child elements that come in any order
 
 pub gather_kid-take_name-requires-clause-took : goal.gather_kid-take_name-requires-clause-took
-gather_kid-take_name-requires-clause-took g t c = let r = c.requires.gathers.4 in (r.us, r.took)
+gather_kid-take_name-requires-clause-took g t c = let (same, ps, kids, i, all_is, r) = c.requires.gathers in (r.us, r.took)
 
 pub gather_kid-walk_element-requires : goal.gather_kid-walk_element-requires
 gather_kid-walk_element-requires g t c κs within =
     let d = c.decreases in
-    let (ps, kids, i, all_is, r) = c.requires.gathers in
-    let (model, keeps, same) = c.requires.model in
-    let e = c.in_ok-leaf-in-Element.ensures in (
-      omega (arith, d),
-      (
-        within,
-        (
-          c.requires.linked,
-          (
-            c.requires.plans,
-            (
-              leaf_declared c.args.content.now.set.now c.args.gathering.now.matcher c.take_name.new.matcher r.us c.in-Element.name.now c.in_ok-leaf-in-Element.leaf e.particle (e.took r.us r.took)
-                  (names_declared c.args.content.now.set.now c.args.gathering.now.matcher.particle (subst (λ q. All (IsNamed c.args.content.now.set.now) (leaves q)) (sym same) keeps.named)),
-              (ap is_text (sym c.label.ensures ∙ ap item_seen c.in-Element.is), (c.requires.sound, (c.requires.few, ((nothing_of 0).kept, starts c.left-left.result c.new-value.result c.new-value.ensures)))),
-            ),
-          ),
-        ),
-      ),
-    )
+    let (same, ps, kids, i, all_is, r) = c.requires.gathers in
+    let e = c.in_ok-leaf-in-Element.ensures in
+    let declared =
+    leaf_declared c.args.content.now.set.now c.args.gathering.now.matcher c.take_name.new.matcher r.us c.in-Element.name.now c.in_ok-leaf-in-Element.leaf e.particle (e.took r.us r.took)
+    (names_declared c.args.content.now.set.now c.args.gathering.now.matcher.particle (subst (λ q. All (IsNamed c.args.content.now.set.now) (leaves q)) (sym same) c.requires.content.model.named)) in
+    (omega (arith, d), (within, (c.requires.content.linked, (declared, (ap is_text (sym c.label.ensures ∙ ap item_seen c.in-Element.is), (c.requires.kid, ((nothing_of 0).kept, starts c.left-left.result c.new-value.result c.new-value.ensures)))))))
 
 pub gather_kid-last_number-number-requires : goal.gather_kid-last_number-number-requires
 gather_kid-last_number-number-requires g t c =
-    let (ps, kids, i, all_is, r) = c.requires.gathers in
+    let (same, ps, kids, i, all_is, r) = c.requires.gathers in
     let e = c.in_ok-leaf-in-Element.ensures in
     let further = e.took r.us r.took in
     let found = collecting.picks-on ps c.args.gathering.now.matcher c.take_name.new.matcher r.us c.in-Element.name.now further.last all_is e.particle e.goes further.took.leads.ends in
@@ -556,7 +505,7 @@ gather_kid-last_number-number-requires g t c =
 
 pub gather_kid-keep-requires-clause-empty : goal.gather_kid-keep-requires-clause-empty
 gather_kid-keep-requires-clause-empty g t c = λ some.
-    let (ps, kids, i, all_is, r) = c.requires.gathers in
+    let (same, ps, kids, i, all_is, r) = c.requires.gathers in
     let e = c.in_ok-leaf-in-Element.ensures in
     let further = e.took r.us r.took in
     let found = collecting.picks-on ps c.args.gathering.now.matcher c.take_name.new.matcher r.us c.in-Element.name.now further.last all_is e.particle e.goes further.took.leads.ends in
@@ -577,38 +526,38 @@ gather_kid-returns-in_err-leaf-in-Element-clause-judged g t c = λ ps kids place
 
 pub gather_kid-returns-in_err-leaf-in-Element-clause-most : goal.gather_kid-returns-in_err-leaf-in-Element-clause-most
 gather_kid-returns-in_err-leaf-in-Element-clause-most g t c =
-    let (model, keeps, same) = c.requires.model in
+    let same = c.requires.gathers.0 in
     let n = element_counts c.args.kid.now c.in-Element.name.now c.in-Element.attributes.now c.in-Element.declares.now c.in-Element.at (sym c.label.ensures ∙ ap item_seen c.in-Element.is) in
     let s = c.in_err-leaf-in-Element.ensures.ticks in
-    let l : levels c.args.gathering.now.matcher.particle ≤ 17 = subst (λ q. levels q ≤ 17) (sym same) (model_levels c.args.content.now.set.now model keeps) in
+    let l : levels c.args.gathering.now.matcher.particle ≤ 17 = subst (λ q. levels q ≤ 17) (sym same) (model_levels c.args.content.now.set.now c.args.content.now.model.now c.requires.content.model) in
     omega (arith, n, s, l)
 
 pub gather_kid-returns-in_err-walk_element-in-Element-clause-judged : goal.gather_kid-returns-in_err-walk_element-in-Element-clause-judged
 gather_kid-returns-in_err-walk_element-in-Element-clause-judged g t c = λ ps kids place i all_is below here r.
-    let (model, keeps, same) = c.requires.model in
+    let same = c.requires.gathers.0 in
     let e = c.in_ok-leaf-in-Element.ensures in
     let p = err_from_is_err_and c.from_residual-in_err-walk_element-in-Element.result c.from_residual-in_err-walk_element-in-Element.ensures.1 in
     rw (p.1, p.2)
     (collecting.kid-refused c.args.content.now.set.now c.args.content.now.mixed ps kids place i c.args.gathering.now.matcher c.args.gathering.now.gathered all_is r c.args.kid.now below here
     c.in-Element.name.now c.in-Element.attributes.now c.in-Element.declares.now c.in-Element.at (sym c.label.ensures ∙ ap item_seen c.in-Element.is) c.take_name.new.matcher c.in_ok-leaf-in-Element.leaf e.particle (e.took r.us r.took)
-    (subst (λ q. All (IsNamed c.args.content.now.set.now) (leaves q)) (sym same) keeps.named) e.goes
+    (subst (λ q. All (IsNamed c.args.content.now.set.now) (leaves q)) (sym same) c.requires.content.model.named) e.goes
     c.in_err-walk_element-in-Element.field-0.0 (c.in_err-walk_element-in-Element.ensures.judged (nothing_of 0).kept (starts c.left-left.result c.new-value.result c.new-value.ensures)))
 
 pub gather_kid-returns-in_err-walk_element-in-Element-clause-most : goal.gather_kid-returns-in_err-walk_element-in-Element-clause-most
 gather_kid-returns-in_err-walk_element-in-Element-clause-most g t c =
-    let (model, keeps, same) = c.requires.model in
+    let same = c.requires.gathers.0 in
     let s = c.in_ok-leaf-in-Element.ensures.ticks in
     let m = c.walk_element.ensures.most in
-    let l : levels c.args.gathering.now.matcher.particle ≤ 17 = subst (λ q. levels q ≤ 17) (sym same) (model_levels c.args.content.now.set.now model keeps) in
+    let l : levels c.args.gathering.now.matcher.particle ≤ 17 = subst (λ q. levels q ≤ 17) (sym same) (model_levels c.args.content.now.set.now c.args.content.now.model.now c.requires.content.model) in
     omega (arith, s, m, l)
 
 pub gather_kid-returns-in_ok-keep-in-Element-clause-judged : goal.gather_kid-returns-in_ok-keep-in-Element-clause-judged
 gather_kid-returns-in_ok-keep-in-Element-clause-judged g t c = λ ps kids place i all_is below here r.
-    let (model, keeps, same) = c.requires.model in
+    let same = c.requires.gathers.0 in
     let e = c.in_ok-leaf-in-Element.ensures in
     let put = c.in_ok-walk_element-in-Element.ensures.judged (nothing_of 0).kept (starts c.left-left.result c.new-value.result c.new-value.ensures) in
     let further = e.took r.us r.took in
-    let named = subst (λ q. All (IsNamed c.args.content.now.set.now) (leaves q)) (sym same) keeps.named in
+    let named = subst (λ q. All (IsNamed c.args.content.now.set.now) (leaves q)) (sym same) c.requires.content.model.named in
     let found = collecting.picks c.args.content.now.set.now c.args.content.now.mixed ps kids place i c.args.gathering.now.matcher c.args.gathering.now.gathered all_is r c.args.kid.now below here
     c.in-Element.name.now c.in-Element.attributes.now c.in-Element.declares.now c.in-Element.at (sym c.label.ensures ∙ ap item_seen c.in-Element.is) c.take_name.new.matcher c.in_ok-leaf-in-Element.leaf e.particle further
     named e.goes in
@@ -622,18 +571,18 @@ gather_kid-returns-in_ok-keep-in-Element-clause-judged g t c = λ ps kids place 
 
 pub gather_kid-returns-in_ok-keep-in-Element-clause-most : goal.gather_kid-returns-in_ok-keep-in-Element-clause-most
 gather_kid-returns-in_ok-keep-in-Element-clause-most g t c =
-    let (model, keeps, same) = c.requires.model in
+    let same = c.requires.gathers.0 in
     let s = c.in_ok-leaf-in-Element.ensures.ticks in
     let m = c.walk_element.ensures.most in
-    let l : levels c.args.gathering.now.matcher.particle ≤ 17 = subst (λ q. levels q ≤ 17) (sym same) (model_levels c.args.content.now.set.now model keeps) in
+    let l : levels c.args.gathering.now.matcher.particle ≤ 17 = subst (λ q. levels q ≤ 17) (sym same) (model_levels c.args.content.now.set.now c.args.content.now.model.now c.requires.content.model) in
     omega (arith, s, m, l)
 
 pub gather_kid-returns-in_err-keep-in-Element-clause-most : goal.gather_kid-returns-in_err-keep-in-Element-clause-most
 gather_kid-returns-in_err-keep-in-Element-clause-most g t c =
-    let (model, keeps, same) = c.requires.model in
+    let same = c.requires.gathers.0 in
     let s = c.in_ok-leaf-in-Element.ensures.ticks in
     let m = c.walk_element.ensures.most in
-    let l : levels c.args.gathering.now.matcher.particle ≤ 17 = subst (λ q. levels q ≤ 17) (sym same) (model_levels c.args.content.now.set.now model keeps) in
+    let l : levels c.args.gathering.now.matcher.particle ≤ 17 = subst (λ q. levels q ≤ 17) (sym same) (model_levels c.args.content.now.set.now c.args.content.now.model.now c.requires.content.model) in
     omega (arith, s, m, l)
 
 -- ---- all child elements that come in any order
@@ -645,8 +594,7 @@ gather_kids-loop-kid-init g t c =
     record {
       all = cc (c.into_iter-kid-iterator.ensures.into_iter_gives, c.again-kid-items.ensures);
       same_reference = refl;
-      plans = c.lists.ensures ∙ c.requires.plans;
-      particle = c.in_ok-matcher.ensures.plan ∙ c.requires.plan;
+      particle = c.in_ok-matcher.ensures.plan ∙ c.requires.content.plan;
       limit = c.in_ok-gathered.ensures.most;
       outside = c.in_ok-gathered.ensures.outside;
       gathers = λ ps e.
@@ -664,33 +612,16 @@ gather_kids-gather_kid-requires g t c κs within =
     let all = c.loop-kid.invariant.all in
     let kid = c.in-Some.kid in
     let next = c.in-Some.ensures.steps in
-    let (ps, whole_is, single) = collecting.all-whole (seen c.args.content.now.model.now) c.requires.any_order c.requires.model.clear in
+    let (ps, whole_is, single) = collecting.all-whole (seen c.args.content.now.model.now) c.requires.content.all c.requires.content.model.clear in
     let w = c.loop-kid.invariant.gathers ps whole_is in
     let below = cursor.kid_within kids before c.loop-kid.kid-iterator all kid c.next.new.self next in
     let read = cursor.kid_read kids before c.loop-kid.kid-iterator all kid c.next.new.self next in
     let k = kid_count kids i kid below read in
     let long = at_least_length kids in
-    let few = c.requires.few in
+    let few = c.requires.items.few in
     let count = w.took.count in
-    let taken = w.few in (
-      omega (arith, d, k),
-      (
-        within,
-        (
-          c.requires.linked,
-          (
-            c.loop-kid.invariant.plans,
-            (
-              (c.args.content.now.model.now, c.requires.model, c.loop-kid.invariant.particle),
-              (
-                omega (arith, below, long, few, count, taken),
-                ((ps, kids, i, c.loop-kid.invariant.particle ∙ whole_is, w), (kid_sound (roses_of kids) i kid c.requires.sound (kid_here kids i kid below read), omega (arith, k, few))),
-              ),
-            ),
-          ),
-        ),
-      ),
-    )
+    let taken = w.few in
+    (omega (arith, d, k), (within, (c.requires.content, (omega (arith, below, long, few, count, taken), ((c.loop-kid.invariant.particle, ps, kids, i, c.loop-kid.invariant.particle ∙ whole_is, w), kid-item kids c.requires.items i kid below read)))))
 
 pub gather_kids-loop-kid-preserved : goal.gather_kids-loop-kid-preserved
 gather_kids-loop-kid-preserved g t c =
@@ -713,7 +644,6 @@ gather_kids-loop-kid-preserved g t c =
     record {
       all = cursor.all_after kids before left all kid later next;
       same_reference = c.in_ok-gather_kid.ensures.same_reference ∙ c.loop-kid.invariant.same_reference;
-      plans = c.in_ok-gather_kid.ensures.same;
       particle = c.in_ok-gather_kid.ensures.particle ∙ c.loop-kid.invariant.particle;
       limit = c.in_ok-gather_kid.ensures.limit ∙ c.loop-kid.invariant.limit;
       outside = c.in_ok-gather_kid.ensures.outside ∙ c.loop-kid.invariant.outside;
@@ -733,7 +663,7 @@ gather_kids-returns-in_err-gather_kid-clause-judged g t c =
     let kid = c.in-Some.kid in
     let later = c.next.new.self in
     let next = c.in-Some.ensures.steps in
-    let (ps, whole_is, single) = collecting.all-whole (seen c.args.content.now.model.now) c.requires.any_order c.requires.model.clear in
+    let (ps, whole_is, single) = collecting.all-whole (seen c.args.content.now.model.now) c.requires.content.all c.requires.content.model.clear in
     let p = err_from_is_err_and c.from_residual-in_err-gather_kid.result c.from_residual-in_err-gather_kid.ensures.1 in
     rw (p.1, p.2)
     (collecting.told-as c.args.content.now.set.now c.args.content.now.mixed (roses_of kids) c.args.parent.now.at c.loop-kid.gathering.matcher.particle (seen c.args.content.now.model.now) c.loop-kid.invariant.particle _
@@ -760,7 +690,7 @@ pub gather_kids-returns-in_err-finish-clause-judged : goal.gather_kids-returns-i
 gather_kids-returns-in_err-finish-clause-judged g t c =
     let kids = c.args.parent.now.kids in
     let before = c.loop-kid.yielded in
-    let (ps, whole_is, single) = collecting.all-whole (seen c.args.content.now.model.now) c.requires.any_order c.requires.model.clear in
+    let (ps, whole_is, single) = collecting.all-whole (seen c.args.content.now.model.now) c.requires.content.all c.requires.content.model.clear in
     let r = c.loop-kid.invariant.gathers ps whole_is in
     let past = whole.all-before kids before c.loop-kid.kid-iterator c.loop-kid.invariant.all c.in-None.ensures.steps.0 in
     let p = err_from_is_err_and c.from_residual-in_err-finish.result c.from_residual-in_err-finish.ensures.1 in
@@ -771,7 +701,7 @@ gather_kids-returns-in_err-finish-clause-judged g t c =
 
 pub gather_kids-returns-in_err-finish-clause-most : goal.gather_kids-returns-in_err-finish-clause-most
 gather_kids-returns-in_err-finish-clause-most g t c =
-    let l : levels c.loop-kid.gathering.matcher.particle ≤ 17 = subst (λ q. levels q ≤ 17) (sym c.loop-kid.invariant.particle) (model_levels c.args.content.now.set.now c.args.content.now.model.now c.requires.model) in
+    let l : levels c.loop-kid.gathering.matcher.particle ≤ 17 = subst (λ q. levels q ≤ 17) (sym c.loop-kid.invariant.particle) (model_levels c.args.content.now.set.now c.args.content.now.model.now c.requires.content.model) in
     let so_far = c.loop-kid.invariant.most in
     let all = fewer (roses_of c.args.parent.now.kids) (length c.loop-kid.yielded) in
     let s = c.in_err-finish.ensures.ticks.1 in
@@ -781,16 +711,16 @@ pub gather_kids-returns-clause-judged : goal.gather_kids-returns-clause-judged
 gather_kids-returns-clause-judged g t c =
     let kids = c.args.parent.now.kids in
     let before = c.loop-kid.yielded in
-    let (ps, whole_is, single) = collecting.all-whole (seen c.args.content.now.model.now) c.requires.any_order c.requires.model.clear in
+    let (ps, whole_is, single) = collecting.all-whole (seen c.args.content.now.model.now) c.requires.content.all c.requires.content.model.clear in
     let r = c.loop-kid.invariant.gathers ps whole_is in
     let past = whole.all-before kids before c.loop-kid.kid-iterator c.loop-kid.invariant.all c.in-None.ensures.steps.0 in
     subst (λ p. KidsGathered c.args.content.now.set.now c.args.content.now.mixed p (roses_of kids) c.loop-kid.gathering.gathered) c.loop-kid.invariant.particle
     (collecting.end-gathered c.args.content.now.set.now c.args.content.now.mixed ps kids c.args.parent.now.at (length before) c.loop-kid.gathering.matcher c.loop-kid.gathering.gathered (c.loop-kid.invariant.particle ∙ whole_is) r past
-    (c.in_ok-finish.ensures.finished r.us r.took) c.in_ok-finish.ensures.ends single (subst MayOccur whole_is c.requires.model.occurring).1)
+    (c.in_ok-finish.ensures.finished r.us r.took) c.in_ok-finish.ensures.ends single (subst MayOccur whole_is c.requires.content.model.occurring).1)
 
 pub gather_kids-returns-clause-most : goal.gather_kids-returns-clause-most
 gather_kids-returns-clause-most g t c =
-    let l : levels c.loop-kid.gathering.matcher.particle ≤ 17 = subst (λ q. levels q ≤ 17) (sym c.loop-kid.invariant.particle) (model_levels c.args.content.now.set.now c.args.content.now.model.now c.requires.model) in
+    let l : levels c.loop-kid.gathering.matcher.particle ≤ 17 = subst (λ q. levels q ≤ 17) (sym c.loop-kid.invariant.particle) (model_levels c.args.content.now.set.now c.args.content.now.model.now c.requires.content.model) in
     let so_far = c.loop-kid.invariant.most in
     let all = fewer (roses_of c.args.parent.now.kids) (length c.loop-kid.yielded) in
     let s = c.in_ok-finish.ensures.ticks.1 in
@@ -808,7 +738,7 @@ gather_kids-returns-clause-least g t c =
 
 pub walk_any_order-returns-in_err-gathered-clause-judged : goal.walk_any_order-returns-in_err-gathered-clause-judged
 walk_any_order-returns-in_err-gathered-clause-judged g t c = λ z stands.
-    let p = err_from_is_err_and c.from_residual-in_err-gathered.result c.from_residual-in_err-gathered.ensures.1 in
+    let p = err_from_is_err_and c.from_residual.result c.from_residual.ensures.1 in
     rw (p.1, p.2)
     (subst (λ i. Tells (InsideFault (asked_at (parts_of c.args.element.now.set.now)) (inside_told i) (roses_of c.args.element.now.parent.kids) c.args.element.now.parent.at) c.in_err-gathered.field-0.0) (sym c.requires.inside)
     c.in_err-gathered.ensures.judged)
@@ -816,7 +746,7 @@ walk_any_order-returns-in_err-gathered-clause-judged g t c = λ z stands.
 pub walk_any_order-put_any_order-requires-clause-gathered : goal.walk_any_order-put_any_order-requires-clause-gathered
 walk_any_order-put_any_order-requires-clause-gathered g t c =
     let fits = subst (λ x. IsFittingInside c.args.element.now.set.now x) c.requires.inside c.requires.opened.inside in
-    subst (λ i. IsGathered c.args.element.now.set.now (inside_told i) (roses_of c.args.element.now.parent.kids) c.in_ok-gathered.gathered) (sym c.requires.inside) (c.requires.any_order, fits.1.named, c.in_ok-gathered.ensures.judged)
+    subst (λ i. IsGathered c.args.element.now.set.now (inside_told i) (roses_of c.args.element.now.parent.kids) c.in_ok-gathered.gathered) (sym c.requires.inside) (c.requires.any_order, fits.0.named, c.in_ok-gathered.ensures.judged)
 
 -- ---- an element that isn't nil
 
@@ -867,17 +797,13 @@ walk_element-walk_nil-requires g t c =
     let s = c.args.set.now in
     let declared = c.declared_of-declared.result in
     let xs = c.in-Element.attributes.now in
-    let k = count-kids c.args.item.now in
-    let same = ap (λ ks. count_all (roses_of ks)) c.kids.ensures in
-    let few = c.requires.few in
     record {
       opened = record {
         linked = c.requires.linked;
         inside = c.declared_of-declared.ensures.fits.1;
         uses = c.declared_of-declared.ensures.fits.0;
         taken = all-taken s c.requires.linked c.args.decl (told (parts_of s) declared) c.declared_of-declared.ensures.asked declared.uses.list.now refl xs c.in_ok-nil-in-Element.ensures.right;
-        sound = subst (λ ks. are_sound (roses_of ks) ≡ true) (sym c.kids.ensures) (kids_sound c.args.item.now c.requires.sound);
-        few = omega (arith, k, same, few);
+        items = kids-items c.args.item.now c.requires.item c.kids.result c.kids.ensures;
       };
     }
 
@@ -888,8 +814,7 @@ walk_element-walk_filled-requires g t c κs within =
     let xs = c.in-Element.attributes.now in
     let d = c.decreases in
     let k = count-kids c.args.item.now in
-    let same = ap (λ ks. count_all (roses_of ks)) c.kids.ensures in
-    let few = c.requires.few in (
+    let same = ap (λ ks. count_all (roses_of ks)) c.kids.ensures in (
       omega (arith, d, k, same),
       (
         within,
@@ -899,10 +824,9 @@ walk_element-walk_filled-requires g t c κs within =
             inside = c.declared_of-declared.ensures.fits.1;
             uses = c.declared_of-declared.ensures.fits.0;
             taken = all-taken s c.requires.linked c.args.decl (told (parts_of s) declared) c.declared_of-declared.ensures.asked declared.uses.list.now refl xs c.in_ok-nil-in-Element.ensures.right;
-            sound = subst (λ ks. are_sound (roses_of ks) ≡ true) (sym c.kids.ensures) (kids_sound c.args.item.now c.requires.sound);
-            few = omega (arith, k, same, few);
+            items = kids-items c.args.item.now c.requires.item c.kids.result c.kids.ensures;
           },
-          (c.requires.plans, (c.requires.decl, c.requires.stands)),
+          (c.requires.decl, c.requires.stands),
         ),
       ),
     )
@@ -916,7 +840,7 @@ walk_element-returns-in_err-nil-in-Element-clause-judged g t c = λ z stands.
 
 pub walk_element-returns-then-nil-clause-judged : goal.walk_element-returns-then-nil-clause-judged
 walk_element-returns-then-nil-clause-judged g t c = λ z stands.
-    nil-read c.args.set.now c.requires.linked c.args.decl c.in-Element.name.now c.in-Element.attributes.now c.in-Element.declares.now c.in-Element.at c.args.item.now (sym c.label.ensures ∙ ap item_seen c.in-Element.is) c.requires.sound
+    nil-read c.args.set.now c.requires.linked c.args.decl c.in-Element.name.now c.in-Element.attributes.now c.in-Element.declares.now c.in-Element.at c.args.item.now (sym c.label.ensures ∙ ap item_seen c.in-Element.is) c.requires.item.sound
     (told (parts_of c.args.set.now) c.declared_of-declared.result) c.in-Element.attributes.now c.declared_of-declared.ensures.asked refl c.kids.result c.kids.ensures
     c.args.values.now c.walk_nil.new.values (rw c.if-nil.true at c.in_ok-nil-in-Element.ensures) c.walk_nil.result c.walk_nil.ensures z stands
 
@@ -932,7 +856,7 @@ walk_element-returns-then-nil-clause-least g t c =
 
 pub walk_element-returns-else-nil-clause-judged : goal.walk_element-returns-else-nil-clause-judged
 walk_element-returns-else-nil-clause-judged g t c = λ z stands.
-    filled-read c.args.set.now c.requires.linked c.args.decl c.in-Element.name.now c.in-Element.attributes.now c.in-Element.declares.now c.in-Element.at c.args.item.now (sym c.label.ensures ∙ ap item_seen c.in-Element.is) c.requires.sound
+    filled-read c.args.set.now c.requires.linked c.args.decl c.in-Element.name.now c.in-Element.attributes.now c.in-Element.declares.now c.in-Element.at c.args.item.now (sym c.label.ensures ∙ ap item_seen c.in-Element.is) c.requires.item.sound
     (told (parts_of c.args.set.now) c.declared_of-declared.result) c.in-Element.attributes.now c.declared_of-declared.ensures.asked refl c.kids.result c.kids.ensures
     c.walk_filled.new.values z (rw c.if-nil.false at c.in_ok-nil-in-Element.ensures) c.walk_filled.result (c.walk_filled.ensures.judged z stands)
 

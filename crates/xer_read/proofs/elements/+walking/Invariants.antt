@@ -43,7 +43,6 @@ abbrev pub invariant-walk_kids-loop-kid : goal.invariant-walk_kids-loop-kid
 invariant-walk_kids-loop-kid g l = record {
   all : l.yielded ++ l.kid-iterator ≡ l.parent.kids;
   same_reference : l.walk.steps.ghost_name ≡ l.initial.walk.steps.ghost_name;
-  plans : l.walk.plans ≡ l.content.set.now;
   way : IsWay l.going.way l.going.matcher l.initial.values.most;
   limit : l.values.most ≡ l.initial.values.most;
   reached : (z : Zip ValueLabel) → Stands l.initial.values z → Reached l.content.set.now l.content.mixed (seen l.content.model.now) l.parent.kids (length l.yielded) l.going.matcher z l.values;
@@ -55,7 +54,6 @@ abbrev pub invariant-gather_kids-loop-kid : goal.invariant-gather_kids-loop-kid
 invariant-gather_kids-loop-kid g l = record {
   all : l.yielded ++ l.kid-iterator ≡ l.parent.kids;
   same_reference : l.walk.steps.ghost_name ≡ l.initial.walk.steps.ghost_name;
-  plans : l.walk.plans ≡ l.content.set.now;
   particle : l.gathering.matcher.particle ≡ seen l.content.model.now;
   limit : l.gathering.gathered.most ≡ l.values.most;
   outside : l.gathering.gathered.outside ≡ l.values.nodes;

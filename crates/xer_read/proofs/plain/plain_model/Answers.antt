@@ -14,7 +14,7 @@ returns-else-mixed c =
     let a = attribute_in (parts_of s) in
     let d = c.declared_of-declared.result in
     let e = c.declared_of-declared.ensures in
-    let inside = c.in-Children.is ∙ ap (λ b. Children b c.in-Children.complex c.in-Children.model) c.if-mixed.false in
+    let inside = c.in-Children.is ∙ ap (λ b. Children b c.in-Children.model c.in-Children.plan) c.if-mixed.false in
     let none : length d.uses.list.now ≡ 0 = grind (arith, nat_tests, c.is_empty.ensures, c.if-not-is_empty.false) in
     let bare : length c.args.attributes.now ≡ 0 = grind (arith, nat_tests, c.is_empty-bare.ensures, c.if-not-bare.false) in
     let fits = subst (IsFittingInside s) inside e.fits.1 in (
@@ -22,8 +22,8 @@ returns-else-mixed c =
       record {
         asked_is = sym e.asked ∙ ap (λ b. asked b (map a d.uses.list.now) (inside_told d.inside)) c.if-declared.false ∙ ap (λ us. asked false (map a us) (inside_told d.inside)) (nil_from_length d.uses.list.now none)
             ∙ ap (λ i. asked false [] (inside_told i)) inside;
-        there = fits.0;
-        is_model = fits.1;
+        plan_is = fits.1;
+        is_model = fits.0;
         no_all = subst (λ x. HasNoAll (inside_told x)) c.in-Children.is c.in-None.ensures;
       },
     )

@@ -27,7 +27,7 @@ returns-clause-read g c = λ M is_map.
 pub returns-clause-alone : goal.returns-clause-alone
 returns-clause-alone g c = λ M is_map.
     let h = c.in-Ok.ensures.judged (nothing_of 0).kept (starts 1048576 c.room_for-values.result c.room_for-values.ensures) in
-    only-counted c.args.set.now c.in-Ok.ensures.linked c.args.root c.requires.root c.args.items.now h.value h.holds c.see_simples.ensures M is_map c.finished.result (c.finished.ensures h.value h.stands)
+    only-counted c.args.set.now c.in-Ok.ensures.linked c.args.root c.requires.root c.args.items.now h.value h.holds c.in-Ok.ensures.small M is_map c.finished.result (c.finished.ensures h.value h.stands)
 
 pub returns-in-Err-Invalid-clause-read : goal.returns-in-Err-Invalid-clause-read
 returns-in-Err-Invalid-clause-read g c = λ M is_map.

@@ -1,9 +1,9 @@
-use Rattle.std.proofs.Common.{◌≡◌, ◌<◌, ◌≤◌, ◌^◌, true, false, sym, subst}
+use Rattle.std.proofs.Common.{◌≡◌, ◌≤◌, false, sym, subst}
 use Rattle.std.specs.Prelude.{Some, MatchResult}
 use Rattle.std.proofs.lemmas.Result.{err_from_is_err_and}
-use Rattle.base_trees.specs.Rose.{label_of, node_count}
+use Rattle.base_trees.specs.Rose.{label_of}
 use Rattle.xml_items.specs.Labels.{item_place}
-use Rattle.xml_read.specs.Sound.{is_text, is_sound, levels}
+use Rattle.xml_read.specs.Sound.{is_text, levels}
 use Rattle.schema_components.specs.SetParts.{parts_of}
 use Rattle.validity_rules.specs.Valid.{HasName}
 use Rattle.validity_rules.specs.Faults.{At, FirstFault}
@@ -12,6 +12,7 @@ use Rattle.validity_check.specs.Answers.{Tells}
 use Rattle.validity_check.proofs.Shape.{element_label}
 use Rattle.validity_check.proofs.Rooting.{root_refused}
 use Rattle.xer_read.specs.Private.Given.{IsRootRead}
+use Rattle.xer_read.specs.Private.Opened.{IsItem}
 use Rattle.xer_read.specs.Private.Putting.{ValuePut}
 use Rattle.xer_read.proofs.Finishing.{root-read}
 use Rattle.xer_read.proofs.root.walk_root.Goals as goal
@@ -19,11 +20,8 @@ use Rattle.xer_read.proofs.root.walk_root.Goals as goal
 pub walk_element-requires-clause-element : goal.walk_element-requires-clause-element
 walk_element-requires-clause-element g c = subst (λ x. is_text (label_of x) ≡ false) (sym c.root-item.ensures.root) (element_label c.args.items.now c.root-item.ensures.items.element)
 
-pub walk_element-requires-clause-sound : goal.walk_element-requires-clause-sound
-walk_element-requires-clause-sound g c = subst (λ x. is_sound x ≡ true) (sym c.root-item.ensures.root) c.root-item.ensures.items.sound
-
-pub walk_element-requires-clause-few : goal.walk_element-requires-clause-few
-walk_element-requires-clause-few g c = subst (λ x. node_count x < 2 ^ 31) (sym c.root-item.ensures.root) c.root-item.ensures.items.few
+pub walk_element-requires-clause-item : goal.walk_element-requires-clause-item
+walk_element-requires-clause-item g c = subst IsItem (sym c.root-item.ensures.root) (record { sound = c.root-item.ensures.items.sound; few = c.root-item.ensures.items.few })
 
 pub returns-in_err-check_name-clause-judged : goal.returns-in_err-check_name-clause-judged
 returns-in_err-check_name-clause-judged g c = λ z stands.

@@ -16,16 +16,16 @@ put_step-requires-clause-step g c =
     let k = c.args.going.now.matcher in
     let new = c.step.new.self in
     let e = c.in-Ok.ensures in
-    let took = c.requires.took in
-    let here = stop (seen c.args.model.now) k new took.0 c.args.name.now c.in-Ok.leaf e.particle c.requires.particle (e.took took.0 took.1) in
+    let going = c.requires.going in
+    let here = stop (seen c.args.model.now) k new going.us c.args.name.now c.in-Ok.leaf e.particle c.requires.going.particle (e.took going.us going.took) in
     let way : spot_now c.path.result.turns.now c.path.result.kids.now ≡ spot_of k =
-    ap (λ ts. spot_now ts c.path.result.kids.now) c.path.ensures.turns ∙ ap (λ ks. spot_now (way_turns c.args.going.now.way) ks) c.path.ensures.kids ∙ c.requires.way (kept-some c.keeps_nothing.result c.args.values.now.most c.keeps_nothing.ensures c.if-keeps_nothing.false)
+    ap (λ ts. spot_now ts c.path.result.kids.now) c.path.ensures.turns ∙ ap (λ ks. spot_now (way_turns c.args.going.now.way) ks) c.path.ensures.kids ∙ c.requires.going.way (kept-some c.keeps_nothing.result c.args.values.now.most c.keeps_nothing.ensures c.if-keeps_nothing.false)
     in
-    let plain : IsNoAll new.particle = subst IsNoAll (sym (c.in-Ok.ensures.particle ∙ c.requires.particle)) (fillable-no-all (seen c.args.model.now) c.requires.fillable) in
+    let plain : IsNoAll new.particle = subst IsNoAll (sym (c.in-Ok.ensures.particle ∙ c.requires.going.particle)) (fillable-no-all (seen c.args.model.now) c.requires.fillable) in
     let stands = spot_matched new plain in (
       c.args.name.now,
       here.spot,
-      step-goes (seen c.args.model.now) k.particle c.args.name.now (spot_now c.path.result.turns.now c.path.result.kids.now) (spot_of k) (spot_of new) here.spot c.requires.particle way e.goes.0 here.is,
+      step-goes (seen c.args.model.now) k.particle c.args.name.now (spot_now c.path.result.turns.now c.path.result.kids.now) (spot_of k) (spot_of new) here.spot c.requires.going.particle way e.goes.0 here.is,
       (ap (λ ts. spot_now ts c.kids.result.now) c.turns.ensures ∙ ap (λ ks. spot_now new.turns ks) c.kids.ensures ∙ sym stands) ∙ here.is,
     )
 
@@ -35,13 +35,13 @@ returns-in_ok-follow-in-Ok-clause-opens g c = λ gs before now put stood.
     let new = c.step.new.self in
     let p = seen c.args.model.now in
     let e = c.in-Ok.ensures in
-    let took = c.requires.took in
+    let going = c.requires.going in
     let way : spot_now c.path.result.turns.now c.path.result.kids.now ≡ spot_of k =
-    ap (λ ts. spot_now ts c.path.result.kids.now) c.path.ensures.turns ∙ ap (λ ks. spot_now (way_turns c.args.going.now.way) ks) c.path.ensures.kids ∙ c.requires.way (kept-some c.keeps_nothing.result c.args.values.now.most c.keeps_nothing.ensures c.if-keeps_nothing.false)
+    ap (λ ts. spot_now ts c.path.result.kids.now) c.path.ensures.turns ∙ ap (λ ks. spot_now (way_turns c.args.going.now.way) ks) c.path.ensures.kids ∙ c.requires.going.way (kept-some c.keeps_nothing.result c.args.values.now.most c.keeps_nothing.ensures c.if-keeps_nothing.false)
     in
-    let plain : IsNoAll new.particle = subst IsNoAll (sym (c.in-Ok.ensures.particle ∙ c.requires.particle)) (fillable-no-all (seen c.args.model.now) c.requires.fillable) in
+    let plain : IsNoAll new.particle = subst IsNoAll (sym (c.in-Ok.ensures.particle ∙ c.requires.going.particle)) (fillable-no-all (seen c.args.model.now) c.requires.fillable) in
     let stands = spot_matched new plain in
-    opened-at p k new took.0 c.args.name.now c.in-Ok.leaf e.particle c.requires.particle (e.took took.0 took.1) gs before c.put_step.new.values
+    opened-at p k new going.us c.args.name.now c.in-Ok.leaf e.particle c.requires.going.particle (e.took going.us going.took) gs before c.put_step.new.values
     (λ s is.
     c.in_ok-put_step-in-Ok.ensures.reached gs before now s (subst (λ o. Put p o gs before now) (sym way) put) stood
     ((ap (λ ts. spot_now ts c.kids.result.now) c.turns.ensures ∙ ap (λ ks. spot_now new.turns ks) c.kids.ensures ∙ sym stands) ∙ is))
@@ -55,14 +55,14 @@ returns-then-keeps_nothing-clause-opens g c = λ gs before now put stands.
     let new = c.step.new.self in
     let p = seen c.args.model.now in
     let e = c.in-Ok.ensures in
-    let took = c.requires.took in
+    let going = c.requires.going in
     let name = c.args.name.now in
-    let further = e.took took.0 took.1 in
-    let here = stop p k new took.0 name c.in-Ok.leaf e.particle c.requires.particle further in
-    opened-at p k new took.0 name c.in-Ok.leaf e.particle c.requires.particle further gs before c.args.values.now
+    let further = e.took going.us going.took in
+    let here = stop p k new going.us name c.in-Ok.leaf e.particle c.requires.going.particle further in
+    opened-at p k new going.us name c.in-Ok.leaf e.particle c.requires.going.particle further gs before c.args.values.now
     (λ s is.
     unkept-step p (spot_of k) (spot_of new) here.spot name c.args.values.now (c.keeps_nothing.ensures.0 c.if-keeps_nothing.true) c.requires.fillable here.is
-    (step-goes p k.particle name (spot_of k) (spot_of k) (spot_of new) here.spot c.requires.particle refl e.goes.0 here.is) gs before now s put stands is)
+    (step-goes p k.particle name (spot_of k) (spot_of k) (spot_of new) here.spot c.requires.going.particle refl e.goes.0 here.is) gs before now s put stands is)
 
 pub follow-requires : goal.follow-requires
-follow-requires g c = subst IsNoAll (sym (c.in-Ok.ensures.particle ∙ c.requires.particle)) (fillable-no-all (seen c.args.model.now) c.requires.fillable)
+follow-requires g c = subst IsNoAll (sym (c.in-Ok.ensures.particle ∙ c.requires.going.particle)) (fillable-no-all (seen c.args.model.now) c.requires.fillable)

@@ -6,7 +6,7 @@ use Rattle.std.proofs.lemmas.Int.{to_z-of_z}
 use Rattle.std.proofs.lemmas.List.{take_all, take_more}
 use Rattle.std.proofs.lemmas.List.Elements.{All-push}
 use Rattle.simple_types.specs.Lexical.{is_128_bits}
-use Rattle.xer_read.proofs.small.see_numbers.Goals as goal
+use Rattle.validity_check.proofs.small.see_numbers.Goals as goal
 
 pub numbers-preserved : goal.numbers-preserved
 numbers-preserved c =

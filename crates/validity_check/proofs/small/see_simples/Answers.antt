@@ -5,7 +5,7 @@ use Rattle.std.proofs.lemmas.Option.{slice_get_within, get_or_from_slice_get}
 use Rattle.simple_types.specs.Seen.{space_of}
 use Rattle.schema_components.specs.declared.components.SimpleDef.{SimpleDef}
 use Rattle.simple_types.specs.Small.{IsSmall}
-use Rattle.xer_read.proofs.small.see_simples.Goals as goal
+use Rattle.validity_check.proofs.small.see_simples.Goals as goal
 
 pub simples-preserved : goal.simples-preserved
 simples-preserved c =
